@@ -1,0 +1,6 @@
+-- What the proofs of this crate share, and the laws for the layers above.
+pub mod Tests
+pub mod Chains
+pub mod Walks
+pub mod Building
+pub mod Used

@@ -1,0 +1,16 @@
+use borrow.Author.Tests.{le-leb, lt-leb}
+use Rattle.automaton.proofs.covers.Statement.{statement}
+use Rattle.automaton.proofs.covers.Tie as tie
+use Rattle.automaton.proofs.covers.Reads as reads
+use Rattle.automaton.proofs.covers.Lts as lts
+
+-- src/lib.rt:35:1
+returns : tie.Need-returns
+returns c = simp (le-leb _ _ (c .if1 .taken))
+
+-- src/lib.rt:35:1
+returns-2 : tie.Need-returns-2
+returns-2 c = simp (lt-leb _ _ (c .if1 .left))
+
+pub covers-spec : {M : Type 1} → statement M
+covers-spec = tie.close (tie.spec returns returns-2)
