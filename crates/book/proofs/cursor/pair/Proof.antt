@@ -1,0 +1,54 @@
+use borrow.Author.Tests.{eq-eqb, ne-eqb, le-leb, lt-leb, not-true, not-false}
+use mathlib.Core.Path.{_≡_, refl, sym, _∙_, ap}
+use Prim.Native.Nat.{_+_}
+use native.Mathlib.Omega.{arith}
+use borrow.Author.Needs.{needs}
+use Rattle.book.proofs.cursor.pair.Statement.{statement}
+use Rattle.book.proofs.cursor.pair.Tie as tie
+use Rattle.book.proofs.cursor.pair.Reads as reads
+use Rattle.book.proofs.cursor.pair.Lts as lts
+
+-- src/cursor.rt:114:6
+shared-slice-read-result : tie.Need-shared-slice-read-result
+shared-slice-read-result c = search needs
+
+-- src/cursor.rt:114:6
+cast-result : tie.Need-cast-result
+cast-result c = omega (arith, c .shared-slice-known .given (c .before .args .at))
+
+-- src/cursor.rt:114:5
+mul-result : tie.Need-mul-result
+mul-result c = omega (arith, c .shared-slice-known .given (c .before .args .at))
+
+-- src/cursor.rt:114:37
+add-result : tie.Need-add-result
+add-result c = search needs
+
+-- src/cursor.rt:114:32
+shared-slice-read-result-2 : tie.Need-shared-slice-read-result-2
+shared-slice-read-result-2 c = search needs
+
+-- src/cursor.rt:114:32
+cast-result-2 : tie.Need-cast-result-2
+cast-result-2 c = omega (arith, c .shared-slice-known2 .given (c .before .before .args .at + 1))
+
+-- src/cursor.rt:114:5
+add-result-2 : tie.Need-add-result-2
+add-result-2 c = omega (arith, c .shared-slice-known2 .given (c .before .before .args .at + 1), c .before .shared-slice-known .given (c .before .before .args .at))
+
+-- src/cursor.rt:110:1
+returns : tie.Need-returns
+returns c = search needs
+
+pub pair-spec : {M : Type 1} → statement M
+pair-spec =
+    tie.close
+    (tie.spec
+    shared-slice-read-result
+    cast-result
+    mul-result
+    add-result
+    shared-slice-read-result-2
+    cast-result-2
+    add-result-2
+    returns)

@@ -1,0 +1,12 @@
+-- The limits of document 01, named once; the code has them as constants of `Book`.
+use Prim.Native.Nat.{ℕ}
+
+abbrev pub maxBytes : ℕ
+maxBytes = 32768
+
+abbrev pub maxRules : ℕ
+maxRules = 32
+
+-- transitions of one rule
+abbrev pub maxTransitions : ℕ
+maxTransitions = 512
