@@ -46,6 +46,11 @@ impl Book {
     // transitions of one rule
     pub const TRANSITIONS: usize = 512;
 
+    // Bytes of a text, tokens of a list, bytes that a printer writes.
+    pub const TEXT: usize = 65536;
+
+    pub const TOKENS: usize = 65536;
+
     // What a book that is accepted may need of the tables.
     pub const CELLS: usize = 8192;
 

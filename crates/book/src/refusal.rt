@@ -31,4 +31,30 @@ impl Refusal {
     pub const START_FINAL: u8 = 12;
 
     pub const NO_RULE: u8 = 13;
+    // Lexing.
+    pub const TEXT_TOO_LONG: u8 = 14;
+
+    pub const TOO_FEW_RECORDS: u8 = 15;
+    // Printing.
+    pub const TOO_MANY_TOKENS: u8 = 16;
+
+    pub const PAST_THE_POOL: u8 = 17;
+
+    pub const UNKNOWN_TAG: u8 = 18;
+
+    pub const NOT_ALONE: u8 = 19;
+
+    pub const OUTPUT_TOO_LONG: u8 = 20;
+
+    pub const READ_ON: u8 = 21;
+
+    pub const OUTPUT_TOO_SHORT: u8 = 22;
+    // Printing with separators.
+    pub const SHARED_BYTE: u8 = 23;
+
+    pub const UNKNOWN_MODE: u8 = 24;
+
+    pub const NO_SEPARATOR: u8 = 25;
+
+    pub const SEPARATOR_IN_LIST: u8 = 26;
 }

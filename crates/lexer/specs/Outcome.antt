@@ -1,0 +1,52 @@
+-- The paper's cutting, as a whole: from the book's bytes, the text and the lent records to the answer and what the records hold afterwards.
+use Prim.Native.Nat.{ℕ, _-_, _*_, _/_}
+use mathlib.Core.List.{List, _++_}
+use lib.Dec.{ltb}
+use lib.ListN.{length, drop}
+use Rattle.automaton.specs.Choice.{if}
+use Rattle.automaton.specs.Rule.{Rule}
+use Rattle.book.specs.Reading.{Reading, accepted, refused, readBook}
+use Rattle.lexer.specs.declared.LexAnswer.{LexAnswer}
+use Rattle.lexer.specs.declared.LexAnswer.the-variants as answer
+use Rattle.lexer.specs.Lexer.{Lexed, lex}
+use Rattle.lexer.specs.Records.{recordsAt}
+
+-- "A text has at most 65,536 bytes"
+abbrev pub maxText : ℕ
+maxText = 65536
+
+-- a byte buffer counts as so many records; leftover bytes play no part
+abbrev pub recordCount : List ℕ → ℕ
+recordCount records = length records / 10
+
+pub record LexOutcome : Type 0 where
+  pub answer : LexAnswer
+  pub records : List ℕ
+
+-- a refusal by this number at this place leaves the records as they are
+abbrev pub lexRefused : ℕ → ℕ → List ℕ → LexOutcome
+lexRefused number place records =
+    record { answer = answer.Refused (record { number = number; place = place }); records = records }
+
+-- the records of the tokens, and every byte past them as it was
+abbrev pub lexAccepted : Lexed → List ℕ → List ℕ → LexOutcome
+lexAccepted cut text records =
+    record {
+      answer = answer.Lexed (length (cut .tokens)) (length text - length (cut .rest));
+      records = recordsAt 0 (cut .tokens) ++ drop (10 * length (cut .tokens)) records;
+    }
+
+-- 14, then 15, then the cut
+unfoldable pub lexRules : List Rule → List ℕ → List ℕ → LexOutcome
+lexRules rules text records =
+    if (ltb maxText (length text)) (lexRefused 14 0 records)
+    (if (ltb (recordCount records) (length ((lex rules text) .tokens))) (lexRefused 15 (length ((lex rules text) .tokens)) records)
+    (lexAccepted (lex rules text) text records))
+
+-- the book's refusals first
+abbrev pub lexReading : Reading → List ℕ → List ℕ → LexOutcome
+lexReading (refused number place) text records = lexRefused number place records
+lexReading (accepted rules) text records = lexRules rules text records
+
+unfoldable pub lexOutcome : List ℕ → List ℕ → List ℕ → LexOutcome
+lexOutcome book text records = lexReading (readBook book) text records
