@@ -7,3 +7,4 @@ pub mod Records
 pub mod Held
 pub mod Picking
 pub mod Turns
+pub mod Outcomes

@@ -1,5 +1,6 @@
 -- The paper's cutting, as a whole: from the book's bytes, the text and the lent records to the answer and what the records hold afterwards.
-use Prim.Native.Nat.{ℕ, _-_, _*_, _/_}
+use mathlib.Core.Path.{_≡_}
+use Prim.Native.Nat.{ℕ, _-_, _*_, _/_, _≤_}
 use mathlib.Core.List.{List, _++_}
 use lib.Dec.{ltb}
 use lib.ListN.{length, drop}
@@ -50,3 +51,27 @@ lexReading (accepted rules) text records = lexRules rules text records
 
 unfoldable pub lexOutcome : List ℕ → List ℕ → List ℕ → LexOutcome
 lexOutcome book text records = lexReading (readBook book) text records
+
+-- an answer, and what the records hold afterwards, are those of the outcome
+pub record Answered (o : LexOutcome) (r : LexAnswer) (exit : List ℕ) : Type 0 where
+  pub answer : r ≡ o.answer
+  pub records : exit ≡ o.records
+
+-- ---- the rest
+
+-- "where the book is refused or 14 applies it is the whole text"
+abbrev pub restRules : List Rule → List ℕ → List ℕ
+restRules rules text = if (ltb maxText (length text)) text ((lex rules text) .rest)
+
+abbrev pub restReading : Reading → List ℕ → List ℕ
+restReading (refused number place) text = text
+restReading (accepted rules) text = restRules rules text
+
+-- "A second call hands back the rest"
+unfoldable pub restOf : List ℕ → List ℕ → List ℕ
+restOf book text = restReading (readBook book) text
+
+-- a place of the text, and that what is the rest lies from there on
+pub record RestAt (text : List ℕ) (place : ℕ) (rest : List ℕ) : Type 0 where
+  pub within : place ≤ length text
+  pub tail : drop place text ≡ rest

@@ -1,5 +1,7 @@
 // Lexing a text by the rules that the tables hold: at each place the longest match, by the earliest rule.
 // A token costs one walk for each rule.
+pub mod operation;
+
 ghost use mathlib.Core.Path.{_≡_};
 ghost use mathlib.Core.List.{List, _++_};
 ghost use Prim.Native.Nat.{_+_, _≤_};

@@ -1,0 +1,115 @@
+-- How the answers of the code come to the outcome of document 01. Assumes nothing.
+use mathlib.Core.Path.{_≡_, refl, sym, _∙_, ap, subst}
+use Prim.Native.Nat.{ℕ, _-_, _*_, _/_, _<_, _≤_}
+use mathlib.Core.List.{List, _++_}
+use native.Mathlib.Omega.{arith}
+use lib.Dec.{ltb}
+use lib.ListN.{length, take, drop, length-drop}
+use lib.Seq.{take-all}
+use borrow.Author.Tests.{lt-ltb, le-ltb}
+use Rattle.automaton.specs.Choice.{if}
+use Rattle.automaton.specs.Rule.{Rule}
+use Rattle.automaton.specs.Tables.{Tables}
+use Rattle.book.specs.declared.refusal.Refusal.{Refusal}
+use Rattle.book.specs.declared.BookAnswer.{BookAnswer}
+use Rattle.book.specs.declared.BookAnswer.the-variants as book
+use Rattle.book.specs.Reading.{Reading, accepted, refused, readBook, answer}
+use Rattle.book.specs.State.{Loaded}
+use Rattle.lexer.specs.declared.LexAnswer.{LexAnswer}
+use Rattle.lexer.specs.declared.LexAnswer.the-variants as lexed
+use Rattle.lexer.specs.Lexer.{lex}
+use Rattle.lexer.specs.Answers.{Holds, Held, Cuts, Room, Fills}
+use Rattle.lexer.specs.Outcome.{maxText, recordCount, lexRules, lexReading, lexOutcome, Answered, restRules, restReading, restOf, RestAt}
+use Rattle.lexer.proofs.Lexing.{lex-few, lex-lengths, rest-drop}
+
+-- ---- by rules
+
+module _ (rules : List Rule) (text records : List ℕ) where
+  pub answered-long : maxText < length text → Answered (lexRules rules text records) (lexed.Refused (record { number = 14; place = 0 })) records
+  unfolding lexRules
+  answered-long l = rw (lt-ltb _ _ l) (record { answer = refl; records = refl })
+
+  pub answered-few : {tokens rest : ℕ} → length text ≤ maxText → Cuts rules text tokens rest → recordCount records < tokens
+      → Answered (lexRules rules text records) (lexed.Refused (record { number = 15; place = tokens })) records
+  unfolding lexRules
+  answered-few l c f =
+      let e = c .tokens-are in
+      rw (le-ltb _ _ l, ← e, lt-ltb _ _ f) (record { answer = refl; records = refl })
+
+  pub answered-lexed : {tokens rest : ℕ} {exit : List ℕ} → length text ≤ maxText → length ((lex rules text) .tokens) ≤ recordCount records
+      → Cuts rules text tokens rest → Fills rules text records exit → Answered (lexRules rules text records) (lexed.Lexed tokens rest) exit
+  unfolding lexRules
+  answered-lexed l m c w =
+      rw (le-ltb _ _ l, le-ltb _ _ m) (record { answer = cc (c .tokens-are, c .rest-is); records = w .written })
+
+-- records that are as many as the text's bytes are enough
+pub enough : (rules : List Rule) (text records : List ℕ) → length text ≤ recordCount records → length ((lex rules text) .tokens) ≤ recordCount records
+enough rules text records l = omega (arith, lex-few rules text)
+
+pub room-of : {hs ss es : List ℕ} {n : ℕ} {text records : List ℕ} → Held hs ss es n
+    → ((rules : List Rule) → Holds hs ss es n rules → length ((lex rules text) .tokens) ≤ recordCount records) → Room hs ss es n text records
+room-of {hs} {ss} {es} {n} {text} {records} held f = record { held = held; room = λ rules h. omega (arith, f rules h) }
+
+-- ---- by a book
+
+module _ {bytes hs ss es : List ℕ} {b : BookAnswer} {n : ℕ} (l : Loaded bytes b hs ss es) (a : b ≡ book.Accepted n) where
+  -- the rules of an accepted book are in the tables
+  pub loaded-rules : (rules : List Rule) × ((readBook bytes ≡ accepted rules) × Holds hs ss es n rules)
+  loaded-rules = go (readBook bytes) refl
+    where
+      go : (o : Reading) → readBook bytes ≡ o → (rules : List Rule) × ((readBook bytes ≡ accepted rules) × Holds hs ss es n rules)
+      go (accepted rules) e =
+          let q : book.Accepted n ≡ book.Accepted (length rules) = sym a ∙ l .answered ∙ ap answer e in
+          (rules, (e, record { tables = l .tables rules e; count = cc }))
+      go (refused number place) e =
+          let q : book.Accepted n ≡ book.Refused (record { number = number; place = place }) = sym a ∙ l .answered ∙ ap answer e in
+          let z : _≡_ {A = ℕ} 0 1 = cc in absurd (omega arith)
+
+  pub loaded-held : Held hs ss es n
+  loaded-held = record { rules = loaded-rules .0; holds = loaded-rules .1 .1 }
+
+  pub answered-book : (text records exit : List ℕ) (r : LexAnswer) → ((rules : List Rule) → Holds hs ss es n rules → Answered (lexRules rules text records) r exit)
+      → Answered (lexOutcome bytes text records) r exit
+  unfolding lexOutcome
+  answered-book text records exit r h = rw (loaded-rules .1 .0) (h (loaded-rules .0) (loaded-rules .1 .1))
+
+  pub rest-book : (text : List ℕ) (place : ℕ) → ((rules : List Rule) → Holds hs ss es n rules → RestAt text place (restRules rules text))
+      → RestAt text place (restOf bytes text)
+  unfolding restOf
+  rest-book text place h = rw (loaded-rules .1 .0) (h (loaded-rules .0) (loaded-rules .1 .1))
+
+module _ {bytes hs ss es : List ℕ} {b : BookAnswer} {f : Refusal} (l : Loaded bytes b hs ss es) (a : b ≡ book.Refused f) where
+  loaded-refused : readBook bytes ≡ refused (f .number) (f .place)
+  loaded-refused = go (readBook bytes) refl
+    where
+      go : (o : Reading) → readBook bytes ≡ o → readBook bytes ≡ refused (f .number) (f .place)
+      go (accepted rules) e =
+          let q : book.Refused f ≡ book.Accepted (length rules) = sym a ∙ l .answered ∙ ap answer e in
+          let z : _≡_ {A = ℕ} 0 1 = cc in absurd (omega arith)
+      go (refused number place) e =
+          let q : book.Refused f ≡ book.Refused (record { number = number; place = place }) = sym a ∙ l .answered ∙ ap answer e in
+          let y : f ≡ record { number = number; place = place } = cc in
+          rw y e
+
+  pub answered-refused : (text records : List ℕ) → Answered (lexOutcome bytes text records) (lexed.Refused f) records
+  unfolding lexOutcome
+  answered-refused text records = rw loaded-refused (record { answer = refl; records = refl })
+
+  pub rest-refused : (text : List ℕ) → RestAt text 0 (restOf bytes text)
+  unfolding restOf
+  rest-refused text = rw loaded-refused (record { within = omega arith; tail = refl })
+
+-- ---- the rest, by rules
+
+module _ (rules : List Rule) (text : List ℕ) where
+  pub rest-long : maxText < length text → RestAt text 0 (restRules rules text)
+  rest-long l = rw (lt-ltb _ _ l) (record { within = omega arith; tail = refl })
+
+  pub rest-cut : {tokens rest : ℕ} → length text ≤ maxText → Cuts rules text tokens rest → RestAt text rest (restRules rules text)
+  rest-cut l c =
+      let e = c .rest-is in
+      rw (le-ltb _ _ l) (record { within = omega (arith, lex-lengths rules text); tail = rw e (sym (rest-drop rules text)) })
+
+-- the part of the text from there on is the rest
+pub rest-part : {text rest : List ℕ} {at : ℕ} → RestAt text at rest → take (length text - at) (drop at text) ≡ rest
+rest-part {text} {rest} {at} r = take-all (length text - at) (drop at text) (omega (arith, length-drop at text)) ∙ r .tail

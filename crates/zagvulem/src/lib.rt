@@ -1,0 +1,59 @@
+// The library as C calls it: numbers and byte slices, answers in 64 bits. include/zagvulem.h declares these functions.
+use book::BookAnswer;
+use book::refusal::Refusal;
+use lexer::LexAnswer;
+ghost use mathlib.Core.Path.{_≡_};
+ghost use Prim.Native.Nat.{min};
+ghost use Rattle.book.specs.Reading.{readBook, answer};
+ghost use Rattle.lexer.specs.Outcome.{lexOutcome};
+ghost use Rattle.zagvulem.specs.Words.{refusalWord, acceptedWord, bookWord, lexWord};
+
+// Reads a book: the number of its rules and 0, or the refusal.
+#[no_mangle]
+pub extern "C" fn zgv_read_book(book: &[u8]) -> u64
+    ensures { λ r. ⌜ r ≡ bookWord (answer (readBook (now (book .entry)))) ⌝ }
+{
+    match book::read(book) {
+        BookAnswer::Accepted(rules) => accepted(rules, 0),
+        BookAnswer::Refused(refusal) => refused(refusal),
+    }
+}
+
+// Lexes a text by a book: the number of tokens and the place of the rest, or the refusal.
+#[no_mangle]
+pub extern "C" fn zgv_lex(book: &[u8], text: &[u8], records: &mut [u8]) -> u64
+    ensures { λ r. ⌜ r ≡ lexWord ((lexOutcome (now (book .entry)) (now (text .entry)) (now (records .entry))) .answer) ⌝ }
+    ensures { λ r. ⌜ now (records .exit) ≡ (lexOutcome (now (book .entry)) (now (text .entry)) (now (records .entry))) .records ⌝ }
+{
+    lexed(lexer::operation::lex(book, text, records))
+}
+
+fn lexed(answer: LexAnswer) -> u64
+    ensures { λ r. ⌜ r ≡ lexWord answer ⌝ }
+{
+    match answer {
+        LexAnswer::Lexed { tokens, rest } => accepted(tokens, rest),
+        LexAnswer::Refused(refusal) => refused(refusal),
+    }
+}
+
+fn refused(refusal: Refusal) -> u64
+    ensures { λ r. ⌜ r ≡ refusalWord refusal ⌝ }
+{
+    let number = refusal.number;
+    let place = refusal.place;
+    (number as u64) * 72057594037927936 + least(place, 72057594037927935)
+}
+
+fn accepted(first: usize, second: usize) -> u64
+    ensures { λ r. ⌜ r ≡ acceptedWord first second ⌝ }
+{
+    least(first, 268435455) * 268435456 + least(second, 268435455)
+}
+
+fn least(a: usize, b: u64) -> u64
+    ensures { λ r. ⌜ r ≡ min a b ⌝ }
+{
+    let n = a as u64;
+    if n < b { n } else { b }
+}
