@@ -7,6 +7,8 @@ use Rattle.book.specs.declared.BookAnswer.{BookAnswer}
 use Rattle.book.specs.declared.BookAnswer.the-variants as book
 use Rattle.lexer.specs.declared.LexAnswer.{LexAnswer}
 use Rattle.lexer.specs.declared.LexAnswer.the-variants as lexer
+use Rattle.printer.specs.declared.PrintAnswer.{PrintAnswer}
+use Rattle.printer.specs.declared.PrintAnswer.the-variants as printer
 
 abbrev pub largestPlace : ℕ
 largestPlace = 72057594037927935
@@ -29,3 +31,8 @@ bookWord (book.Refused f) = refusalWord f
 abbrev pub lexWord : LexAnswer → ℕ
 lexWord (lexer.Lexed tokens rest) = acceptedWord tokens rest
 lexWord (lexer.Refused f) = refusalWord f
+
+-- byte count, 0
+abbrev pub printWord : PrintAnswer → ℕ
+printWord (printer.Printed bytes) = acceptedWord bytes 0
+printWord (printer.Refused f) = refusalWord f

@@ -2,11 +2,14 @@
 use book::BookAnswer;
 use book::refusal::Refusal;
 use lexer::LexAnswer;
+use printer::PrintAnswer;
 ghost use mathlib.Core.Path.{_≡_};
 ghost use Prim.Native.Nat.{min};
 ghost use Rattle.book.specs.Reading.{readBook, answer};
 ghost use Rattle.lexer.specs.Outcome.{lexOutcome};
-ghost use Rattle.zagvulem.specs.Words.{refusalWord, acceptedWord, bookWord, lexWord};
+ghost use Rattle.builtin.specs.Book.{builtinBytes};
+ghost use Rattle.printer.specs.Outcome.{printOutcome};
+ghost use Rattle.zagvulem.specs.Words.{refusalWord, acceptedWord, bookWord, lexWord, printWord};
 
 // Reads a book: the number of its rules and 0, or the refusal.
 #[no_mangle]
@@ -26,6 +29,33 @@ pub extern "C" fn zgv_lex(book: &[u8], text: &[u8], records: &mut [u8]) -> u64
     ensures { λ r. ⌜ now (records .exit) ≡ (lexOutcome (now (book .entry)) (now (text .entry)) (now (records .entry))) .records ⌝ }
 {
     lexed(lexer::operation::lex(book, text, records))
+}
+
+// Lexes a text by the built-in book, through its byte classes: as `zgv_lex` with the book's command bytes.
+#[no_mangle]
+pub extern "C" fn zgv_lex_builtin(text: &[u8], records: &mut [u8]) -> u64
+    ensures { λ r. ⌜ r ≡ lexWord ((lexOutcome builtinBytes (now (text .entry)) (now (records .entry))) .answer) ⌝ }
+    ensures { λ r. ⌜ now (records .exit) ≡ (lexOutcome builtinBytes (now (text .entry)) (now (records .entry))) .records ⌝ }
+{
+    lexed(builtin::lex_builtin(text, records))
+}
+
+// Prints the tokens that the records say with a pool: the number of bytes and 0, or the refusal.
+#[no_mangle]
+pub extern "C" fn zgv_print(book: &[u8], records: &[u8], pool: &[u8], out: &mut [u8]) -> u64
+    ensures { λ r. ⌜ r ≡ printWord ((printOutcome (now (book .entry)) (now (records .entry)) (now (pool .entry)) (now (out .entry))) .answer) ⌝ }
+    ensures { λ r. ⌜ now (out .exit) ≡ (printOutcome (now (book .entry)) (now (records .entry)) (now (pool .entry)) (now (out .entry))) .out ⌝ }
+{
+    printed(printer::print(book, records, pool, out))
+}
+
+fn printed(answer: PrintAnswer) -> u64
+    ensures { λ r. ⌜ r ≡ printWord answer ⌝ }
+{
+    match answer {
+        PrintAnswer::Printed(bytes) => accepted(bytes, 0),
+        PrintAnswer::Refused(refusal) => refused(refusal),
+    }
 }
 
 fn lexed(answer: LexAnswer) -> u64

@@ -1,0 +1,128 @@
+-- The tables join the five rules: one test, computed over all states and classes, and the law of the classes make it hold of every
+-- byte. Assumes nothing.
+use mathlib.Core.Path.{_≡_, refl, sym, _∙_, ap}
+use Prim.Native.Nat.{ℕ, zero, suc, _+_, _*_, _<_, _≤_}
+use mathlib.Core.Bool.{Bool, true, false, _&&_}
+use mathlib.Core.Option.{Option, none, some}
+use mathlib.Core.List.{List, [], _∷_}
+use native.Mathlib.Omega.{arith}
+use lib.Dec.{leb, ltb, eqb}
+use lib.ListN.{length, getD}
+use borrow.Author.Tests.{eqb-true, ltb-true, le-leb, lt-leb}
+use Rattle.automaton.specs.Choice.{if, All}
+use Rattle.automaton.specs.Rule.{Rule, step, target, walk}
+use Rattle.automaton.proofs.Tests.{and-true, clash}
+use Rattle.builtin.specs.Book.{builtinRules, timestamp, word, blanks, newline, bracket}
+use Rattle.builtin.specs.Classes.{classAt}
+use Rattle.builtin.specs.Joined.{stateCount, dead, start, accepting, stateTable, statesOf, nextTable, nextState, tagTable, tagAt}
+use Rattle.builtin.proofs.Tests.{entries, entry}
+use Rattle.builtin.proofs.Classes.{classBytes, byteOf, class-below, by-class}
+use Rattle.builtin.proofs.Product.{walks, steps, firstFinal, tagged, Joins}
+
+-- ---- equal lists and options, as tests
+
+abbrev sameList : List ℕ → List ℕ → Bool
+sameList [] [] = true
+sameList [] (y ∷ ys) = false
+sameList (x ∷ xs) [] = false
+sameList (x ∷ xs) (y ∷ ys) = eqb x y && sameList xs ys
+
+same-list : (xs ys : List ℕ) → sameList xs ys ≡ true → xs ≡ ys
+same-list [] [] e = refl
+same-list [] (y ∷ ys) e = clash e refl
+same-list (x ∷ xs) [] e = clash e refl
+same-list (x ∷ xs) (y ∷ ys) e =
+    let p = and-true (eqb x y) (sameList xs ys) e in
+    rw (eqb-true x y (p .0), same-list xs ys (p .1))
+
+abbrev sameOption : Option ℕ → Option ℕ → Bool
+sameOption none none = true
+sameOption none (some y) = false
+sameOption (some x) none = false
+sameOption (some x) (some y) = eqb x y
+
+same-option : (x y : Option ℕ) → sameOption x y ≡ true → x ≡ y
+same-option none none e = refl
+same-option none (some y) e = clash e refl
+same-option (some x) none e = clash e refl
+same-option (some x) (some y) e = ap some (eqb-true x y e)
+
+-- ---- the test
+
+-- at state s, which stands for qs, and class c, whose byte is b: the next state is one, and stands for where the rules go
+abbrev leads : ℕ → List ℕ → ℕ → ℕ → Bool
+leads s qs c b = ltb (getD nextTable (s * 16 + c) 0) stateCount && sameList (statesOf (getD nextTable (s * 16 + c) 0)) (steps builtinRules qs b)
+
+-- the tag is that of the earliest rule that matches here, and there is one just from `accepting` on
+abbrev tells : ℕ → List ℕ → Bool
+tells s qs = sameOption (firstFinal builtinRules qs) (tagged (tagAt s)) && if (leb accepting s) (ltb 0 (tagAt s)) (eqb (tagAt s) 0)
+
+abbrev right : ℕ → List ℕ → Bool
+right s qs = tells s qs && entries (leads s qs) 0 classBytes
+
+test : entries right 0 stateTable ≡ true
+unfolding stateTable nextTable tagTable classBytes target builtinRules timestamp word blanks newline bracket
+test = refl
+
+count : length stateTable ≡ stateCount
+unfolding stateTable
+count = refl
+
+module _ (s : ℕ) (l : s < stateCount) where
+  holds : right s (statesOf s) ≡ true
+  holds = entry right [] stateTable test s (rw count l)
+
+  told : (sameOption (firstFinal builtinRules (statesOf s)) (tagged (tagAt s)) ≡ true) × (if (leb accepting s) (ltb 0 (tagAt s)) (eqb (tagAt s) 0) ≡ true)
+  told = and-true _ _ ((and-true (tells s (statesOf s)) _ holds) .0)
+
+  pub accepts : accepting ≤ s → 0 < tagAt s
+  accepts h = ltb-true _ _ (rw (le-leb accepting s h) at (told .1))
+
+  pub passes : s < accepting → tagAt s ≡ 0
+  passes h = eqb-true _ _ (rw (lt-leb accepting s h) at (told .1))
+
+  led : (b : ℕ) → b < 256 → (ltb (nextState s b) stateCount ≡ true) × (sameList (statesOf (nextState s b)) (steps builtinRules (statesOf s) (byteOf (classAt b))) ≡ true)
+  led b m = and-true _ _ (entry (leads s (statesOf s)) 0 classBytes ((and-true (tells s (statesOf s)) _ holds) .1) (classAt b) (class-below b m))
+
+-- a tag fits a byte
+small : entries (λ s t. ltb t 256) 0 tagTable ≡ true
+unfolding tagTable
+small = refl
+
+count-tags : length tagTable ≡ stateCount
+unfolding tagTable
+count-tags = refl
+
+pub tag-below : (s : ℕ) → s < stateCount → tagAt s < 256
+tag-below s l = ltb-true _ _ (entry (λ k t. ltb t 256) 0 tagTable small s (rw count-tags l))
+
+-- ---- every byte
+
+steps-same : (rules : List Rule) (a b : ℕ) → All (λ (r : Rule). (s : ℕ) → step r s a ≡ step r s b) rules → (qs : List ℕ) → steps rules qs a ≡ steps rules qs b
+steps-same [] a b h qs = refl
+steps-same (r ∷ rs) a b h [] = refl
+steps-same (r ∷ rs) a b (e, h) (q ∷ qs) = rw (e q, steps-same rs a b h qs)
+
+dies : (b : ℕ) → steps builtinRules (statesOf dead) b ≡ statesOf dead
+unfolding stateTable target builtinRules timestamp word blanks newline bracket
+dies b = refl
+
+begins : statesOf start ≡ walks builtinRules []
+unfolding stateTable walk builtinRules timestamp word blanks newline bracket
+begins = refl
+
+untagged : tagAt dead ≡ 0
+unfolding tagTable
+untagged = refl
+
+pub joined : Joins builtinRules statesOf nextState tagAt stateCount start dead
+joined = record {
+  start-below = omega arith;
+  starts = begins;
+  next-below = λ s b l m. ltb-true _ _ ((led s l b m) .0);
+  moves = λ s b l m. same-list _ _ ((led s l b m) .1) ∙ sym (steps-same builtinRules b (byteOf (classAt b)) (by-class b m) (statesOf s));
+  tags = λ s l. same-option _ _ ((told s l) .0);
+  dead-below = omega arith;
+  untagged = untagged;
+  stays = dies;
+}

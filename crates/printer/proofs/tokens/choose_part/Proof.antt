@@ -1,0 +1,45 @@
+use mathlib.Core.Path.{_≡_, refl, sym, _∙_, ap, subst}
+use Prim.Native.Nat.{ℕ, _+_, _-_, _*_, _<_, _≤_}
+use native.Mathlib.Omega.{arith}
+use mathlib.Core.List.{List}
+use lib.ListN.{take, drop}
+use denote.Ref.{now}
+use Rattle.lexer.specs.Answers.{Chooses}
+use borrow.Author.Needs.{needs}
+use Rattle.printer.proofs.tokens.choose_part.Statement.{statement}
+use Rattle.printer.proofs.tokens.choose_part.Tie as tie
+use Rattle.printer.proofs.tokens.choose_part.Reads as reads
+use Rattle.printer.proofs.tokens.choose_part.Lts as lts
+use Rattle.lexer.proofs.choose.Reads as choose-reads
+
+-- src/tokens.rt:81:15
+add-end : tie.Need-add-end
+add-end c = search needs
+
+-- src/tokens.rt:82:50
+sub-choose : tie.Need-sub-choose
+sub-choose c = search needs
+
+-- src/tokens.rt:82:50
+part-choose-start : tie.Need-part-choose-start
+part-choose-start c = search needs
+
+-- src/tokens.rt:82:50
+part-choose-end : tie.Need-part-choose-end
+part-choose-end c = search needs
+
+-- src/tokens.rt:82:5
+choose-requires : tie.Need-choose-requires
+choose-requires c κs = search needs
+
+-- src/tokens.rt:68:1
+returns : tie.Need-returns
+returns c = λ rs h.
+    let a = c .before .before .before .before .before .before .args in
+    let l : a .place + a .len - a .place ≡ a .len = omega arith in
+    subst (λ (n : ℕ). Chooses rs (take n (drop (a .place) (now (a .pool)))) (c .choose .result .rule) (c .choose .result .len)) l (c .choose .ensures rs h)
+
+pub choose-part-spec : {M : Type 1} → statement M
+choose-part-spec =
+    tie.close
+    (tie.spec add-end sub-choose part-choose-start part-choose-end choose-requires returns)

@@ -1,0 +1,189 @@
+// Printing a list of tokens, the paper's plain writing: their bytes one behind the other, if lexing them again gives the list back.
+// The bytes are joined in a scratch of the call's own, so that the output stands as it was where the list is refused.
+pub mod lists;
+pub mod tokens;
+
+use book::BookAnswer;
+use book::reading::Book;
+use book::refusal::Refusal;
+use lists::Measured;
+ghost use mathlib.Core.Path.{_≡_};
+ghost use mathlib.Core.Option.{none};
+ghost use mathlib.Core.List.{List};
+ghost use Prim.Native.Nat.{ℕ, _≤_};
+ghost use lib.ListN.{length, take};
+ghost use Rattle.automaton.specs.Rule.{Rule};
+ghost use Rattle.book.specs.State.{Fresh};
+ghost use Rattle.lexer.specs.Lexer.{join};
+ghost use Rattle.lexer.specs.Outcome.{recordCount, maxText};
+ghost use Rattle.lexer.specs.Answers.{Holds, Held};
+ghost use Rattle.printer.specs.Tokens.{tokensOf};
+ghost use Rattle.printer.specs.Checks.{firstExtended};
+ghost use Rattle.printer.specs.Outcome.{printChecked, printRules, printOutcome, Answered};
+ghost use Rattle.printer.specs.Answers.{Laid, Readable, Checked, extendedAt};
+
+// What printing answers: the number of bytes written, or a refusal.
+pub enum PrintAnswer {
+    Printed(usize),
+    Refused(Refusal),
+}
+
+// Prints the tokens that `records` say with `pool`, by the rules of a book: the number of bytes, which stand at the start of `out`,
+// or the refusal of document 01. Every other byte of `out` stays as it was.
+pub fn print(book: &[u8], records: &[u8], pool: &[u8], out: &mut [u8]) -> PrintAnswer
+    ensures { λ r. ⌜ r ≡ (printOutcome (now (book .entry)) (now (records .entry)) (now (pool .entry)) (now (out .entry))) .answer ⌝ }
+    ensures { λ r. ⌜ now (out .exit) ≡ (printOutcome (now (book .entry)) (now (records .entry)) (now (pool .entry)) (now (out .entry))) .out ⌝ }
+{
+    let mut headers = [0u64; Book::RULES];
+    let mut states = [0u16; Book::CELLS];
+    let mut edges = [0u64; Book::EDGES];
+    let mut scratch = [0u8; Book::TEXT];
+    print_arrays(
+        book,
+        &mut headers,
+        &mut states,
+        &mut edges,
+        records,
+        pool,
+        &mut scratch,
+        out,
+    )
+}
+
+fn print_arrays(
+    book: &[u8],
+    headers: &mut [u64; Book::RULES],
+    states: &mut [u16; Book::CELLS],
+    edges: &mut [u64; Book::EDGES],
+    records: &[u8],
+    pool: &[u8],
+    scratch: &mut [u8; Book::TEXT],
+    out: &mut [u8],
+) -> PrintAnswer
+    requires { ⌜ Fresh (now headers) (now states) (now edges) ⌝ }
+    requires { ⌜ length (now scratch) ≡ maxText ⌝ }
+    ensures { λ r. ⌜ Answered (printOutcome (now (book .entry)) (now (records .entry)) (now (pool .entry)) (now (out .entry))) r (now (out .exit)) ⌝ }
+{
+    print_book(book, headers, states, edges, records, pool, scratch, out)
+}
+
+fn print_book(
+    book: &[u8],
+    headers: &mut [u64],
+    states: &mut [u16],
+    edges: &mut [u64],
+    records: &[u8],
+    pool: &[u8],
+    scratch: &mut [u8],
+    out: &mut [u8],
+) -> PrintAnswer
+    requires { ⌜ Fresh (now headers) (now states) (now edges) ⌝ }
+    requires { ⌜ length (now scratch) ≡ maxText ⌝ }
+    ensures { λ r. ⌜ Answered (printOutcome (now (book .entry)) (now (records .entry)) (now (pool .entry)) (now (out .entry))) r (now (out .exit)) ⌝ }
+{
+    match book::load(book, headers, states, edges) {
+        BookAnswer::Accepted(rules) => print_rules(
+            headers,
+            states,
+            edges,
+            rules,
+            records,
+            pool,
+            scratch,
+            out,
+        ),
+        BookAnswer::Refused(refusal) => PrintAnswer::Refused(refusal),
+    }
+}
+
+// The same by rules that the tables hold.
+pub fn print_rules(
+    headers: &[u64],
+    states: &[u16],
+    edges: &[u64],
+    rules: usize,
+    records: &[u8],
+    pool: &[u8],
+    scratch: &mut [u8],
+    out: &mut [u8],
+) -> PrintAnswer
+    requires { ⌜ Held (now headers) (now states) (now edges) rules ⌝ }
+    requires { ⌜ length (now scratch) ≡ maxText ⌝ }
+    ensures { λ r. ⌜ ((rs : List Rule) → Holds (now (headers .entry)) (now (states .entry)) (now (edges .entry)) rules rs
+        → Answered (printRules rs (now (records .entry)) (now (pool .entry)) (now (out .entry))) r (now (out .exit))) ⌝ }
+{
+    if Book::TOKENS < records.len() / 10 {
+        return refused(Refusal::TOO_MANY_TOKENS, 0);
+    }
+    match lists::measure(headers, states, edges, rules, records, pool) {
+        Measured::Bytes(total) => print_checked(
+            headers,
+            states,
+            edges,
+            rules,
+            records,
+            pool,
+            total,
+            scratch,
+            out,
+        ),
+        Measured::Refused(refusal) => PrintAnswer::Refused(refusal),
+    }
+}
+
+// The same of tokens that have no fault and `total` bytes.
+fn print_checked(
+    headers: &[u64],
+    states: &[u16],
+    edges: &[u64],
+    rules: usize,
+    records: &[u8],
+    pool: &[u8],
+    total: usize,
+    scratch: &mut [u8],
+    out: &mut [u8],
+) -> PrintAnswer
+    requires { ⌜ Checked (now headers) (now states) (now edges) rules (now records) (now pool) total ⌝ }
+    requires { ⌜ length (now scratch) ≡ maxText ⌝ }
+    ensures { λ r. ⌜ ((rs : List Rule) → Holds (now (headers .entry)) (now (states .entry)) (now (edges .entry)) rules rs
+        → Answered (printChecked rs (tokensOf (now (records .entry)) (now (pool .entry))) (now (out .entry))) r (now (out .exit))) ⌝ }
+{
+    if Book::TEXT < total {
+        return refused(Refusal::OUTPUT_TOO_LONG, 0);
+    }
+    lists::join_tokens(records, pool, scratch);
+    let k = extended_within(headers, states, edges, rules, records, scratch, total);
+    if k < records.len() / 10 {
+        return refused(Refusal::READ_ON, k);
+    }
+    if out.len() < total {
+        return refused(Refusal::OUTPUT_TOO_SHORT, total);
+    }
+    lists::copy(scratch, 0, total, out, 0);
+    PrintAnswer::Printed(total)
+}
+
+// `first_extended` in the first `total` bytes of the scratch.
+fn extended_within(
+    headers: &[u64],
+    states: &[u16],
+    edges: &[u64],
+    rules: usize,
+    records: &[u8],
+    scratch: &[u8],
+    total: usize,
+) -> usize
+    requires { ⌜ total ≤ length (now scratch) ⌝ }
+    requires { ⌜ Readable (now headers) (now states) (now edges) rules (now records) (take total (now scratch)) ⌝ }
+    ensures { λ r. ⌜ ((rs : List Rule) (pool : List ℕ) → Holds (now (headers .entry)) (now (states .entry)) (now (edges .entry)) rules rs
+        → Laid rs (now (records .entry)) pool (take total (now (scratch .entry)))
+        → firstExtended rs (tokensOf (now (records .entry)) pool) 0 ≡ extendedAt r (recordCount (now (records .entry)))) ⌝ }
+{
+    lists::first_extended(headers, states, edges, rules, records, &scratch[..total])
+}
+
+fn refused(number: u8, place: usize) -> PrintAnswer
+    ensures { λ r. ⌜ r ≡ PrintAnswer.Refused (record { number = number; place = place }) ⌝ }
+{
+    PrintAnswer::Refused(Refusal { number, place })
+}

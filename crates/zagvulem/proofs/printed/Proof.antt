@@ -1,0 +1,44 @@
+use mathlib.Core.Path.{_≡_, sym, _∙_, ap}
+use Rattle.zagvulem.specs.Words.{printWord}
+use borrow.Author.Needs.{needs}
+use Rattle.zagvulem.proofs.printed.Statement.{statement}
+use Rattle.zagvulem.proofs.printed.Tie as tie
+use Rattle.zagvulem.proofs.printed.Reads as reads
+use Rattle.zagvulem.proofs.printed.Lts as lts
+use Rattle.zagvulem.proofs.accepted.Reads as accepted-reads
+use Rattle.zagvulem.proofs.refused.Reads as refused-reads
+
+-- src/lib.rt:56:30
+enum-known-answer : tie.Need-enum-known-answer
+enum-known-answer c = search needs
+
+-- src/lib.rt:56:40
+accepted-requires : tie.Need-accepted-requires
+accepted-requires c κs = search needs
+
+-- src/lib.rt:57:30
+enum-known-answer-2 : tie.Need-enum-known-answer-2
+enum-known-answer-2 c = search needs
+
+-- src/lib.rt:57:42
+refused-requires : tie.Need-refused-requires
+refused-requires c κs = search needs
+
+-- src/lib.rt:52:1
+returns : tie.Need-returns
+returns c = c .accepted .ensures ∙ ap printWord (sym (c .before .before .answer .given .1))
+
+-- src/lib.rt:52:1
+returns-2 : tie.Need-returns-2
+returns-2 c = c .refused .ensures ∙ ap printWord (sym (c .before .before .answer2 .given .1))
+
+pub printed-spec : {M : Type 1} → statement M
+printed-spec =
+    tie.close
+    (tie.spec
+    enum-known-answer
+    accepted-requires
+    enum-known-answer-2
+    refused-requires
+    returns
+    returns-2)
