@@ -1,10 +1,18 @@
 -- The built-in book is read, and it is accepted with its five rules. Assumes nothing.
 use mathlib.Core.Path.{_≡_, refl}
+use Prim.Native.Nat.{ℕ}
+use mathlib.Core.List.{List}
 use Rattle.book.specs.Reading.{readBook, readFrom, accepted, apply, move, check}
 use Rattle.book.specs.Commands.{commandAt, decode, operandsOf, placed}
 use Rattle.automaton.specs.Rule.{overlaps}
+use Rattle.lexer.specs.Outcome.{lexRules, lexOutcome}
 use Rattle.builtin.specs.Book.{builtinBytes, builtinRules, timestamp, word, blanks, newline, bracket}
 
 pub read-builtin : readBook builtinBytes ≡ accepted builtinRules
 unfolding readBook readFrom commandAt decode operandsOf placed apply move check overlaps builtinBytes builtinRules timestamp word blanks newline bracket
 read-builtin = refl
+
+-- so lexing by its bytes is lexing by its rules
+pub builtin-outcome : (text records : List ℕ) → lexOutcome builtinBytes text records ≡ lexRules builtinRules text records
+unfolding lexOutcome
+builtin-outcome text records = rw read-builtin

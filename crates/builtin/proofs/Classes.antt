@@ -1,7 +1,9 @@
 -- Two bytes of one class are moved alike by every built-in rule: one test, computed over the class table. Assumes nothing.
 use mathlib.Core.Path.{_≡_, refl, sym, _∙_, ap}
-use Prim.Native.Nat.{ℕ, zero, suc, _<_}
-use mathlib.Core.Bool.{Bool, true, false, _&&_, _||_}
+use Prim.Native.Nat.{ℕ, zero, suc, _+_, _<_}
+use native.Mathlib.Nat.{add-zero, zero-add, add-suc, suc-add}
+use native.Mathlib.Omega.{arith}
+use mathlib.Core.Bool.{Bool, true, false, _||_}
 use mathlib.Core.List.{List, [], _∷_}
 use mathlib.Core.Logic.{_⊎_, inl, inr}
 use lib.Dec.{eqb, ltb}
@@ -61,6 +63,17 @@ test = refl
 pub length-classes : length classTable ≡ 256
 unfolding tabulate classTable
 length-classes = refl
+
+-- an entry is the class of document 01
+tabulated : (f : ℕ → ℕ) (i n k : ℕ) → k < n → getD (tabulate f i n) k 0 ≡ f (i + k)
+unfolding tabulate
+tabulated f i zero k l = absurd (omega arith)
+tabulated f i (suc n) zero l = ap f (sym (add-zero i))
+tabulated f i (suc n) (suc k) l = tabulated f (suc i) n k (omega arith) ∙ ap f (suc-add i k ∙ sym (add-suc i k))
+
+pub class-is : (b : ℕ) → b < 256 → classAt b ≡ classOf b
+unfolding classTable
+class-is b l = tabulated classOf 0 256 b l ∙ ap classOf (zero-add b)
 
 -- there are as many classes as bytes for them
 few : entries (λ b c. ltb c (length classBytes)) 0 classTable ≡ true

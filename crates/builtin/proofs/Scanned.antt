@@ -1,9 +1,9 @@
 -- From what the walk finds to what is chosen, and by which rule. Assumes nothing.
-use mathlib.Core.Path.{_≡_, refl, sym, _∙_, ap, subst}
+use mathlib.Core.Path.{_≡_, refl, sym, _∙_, ap}
 use Prim.Native.Nat.{ℕ, zero, suc, _+_, _<_, _≤_}
-use mathlib.Core.Bool.{true, false}
-use mathlib.Core.Option.{none, some}
-use mathlib.Core.List.{List, [], _∷_, _++_}
+use mathlib.Core.Bool.{false}
+use mathlib.Core.Option.{some}
+use mathlib.Core.List.{List, [], _∷_}
 use native.Mathlib.Omega.{arith}
 use lib.ListN.{length, getD, take, drop, length-append, List·getD-append}
 use lib.Seq.{getD-append-seam}
@@ -15,28 +15,28 @@ use Rattle.lexer.specs.Answers.{front, Chooses}
 use Rattle.lexer.proofs.First.{Earliest}
 use Rattle.lexer.proofs.Choosing.{choose-some}
 use Rattle.builtin.specs.Book.{builtinRules}
-use Rattle.builtin.specs.Joined.{Scanned, statesOf, stateCount, nextState, tagAt, dead, start, accepting}
+use Rattle.builtin.specs.Joined.{Scanned, State, statesOf, nextState, tagAt, dead, start, accepting}
 use Rattle.builtin.proofs.Product.{Scan, tagged, found-front, scan-start, scan-accept, scan-pass, scan-dead, scan-end}
 use Rattle.builtin.proofs.Joined.{joined, accepts, passes}
 
 -- ---- the walk over the built-in tables
 
 abbrev pub Walked : List ℕ → ℕ → ℕ → ℕ → ℕ → Type 0
-Walked text s last len i = Scan builtinRules statesOf tagAt stateCount text s last len i
+Walked text s last len i = Scan builtinRules State statesOf tagAt text s last len i
 
 pub walked-start : (text : List ℕ) → Walked text start dead 0 0
 walked-start text = scan-start joined text
 
 module _ {text : List ℕ} {s last len i s₁ : ℕ} (w : Walked text s last len i) (more : i < length text) (byte : getD text i 0 < 256)
     (e : s₁ ≡ nextState s (getD text i 0)) where
-  below : s₁ < stateCount
-  below = rw e (joined .next-below s (getD text i 0) (w .inside) byte)
+  reaches : State s₁
+  reaches = rw e (joined .next-state s (getD text i 0) (w .inside) byte)
 
   pub walked-accept : accepting ≤ s₁ → Walked text s₁ s₁ (i + 1) (i + 1)
-  walked-accept h = scan-accept joined w more byte e (accepts s₁ below h)
+  walked-accept h = scan-accept joined w more byte e (accepts s₁ reaches h)
 
   pub walked-pass : s₁ < accepting → Walked text s₁ last len (i + 1)
-  walked-pass h = scan-pass joined w more byte e (passes s₁ below h)
+  walked-pass h = scan-pass joined w more byte e (passes s₁ reaches h)
 
 settled : {text : List ℕ} {s last len i : ℕ} → Walked text s last len i
     → choose builtinRules text ≡ found (tagged (tagAt last)) (take len text) (drop len text) → Scanned text (tagAt last) len

@@ -3,6 +3,7 @@ ghost use mathlib.Core.Path.{_≡_};
 ghost use Rattle.builtin.specs.Book.{builtinBytes};
 
 pub const BOOK: [u8; 168] = [
+    // Tag 1: a timestamp.
     0x01,
     0x00,
     0x01,
@@ -60,6 +61,7 @@ pub const BOOK: [u8; 168] = [
     0x5D,
     0x0A,
     0x07,
+    // Tag 2: a word.
     0x01,
     0x00,
     0x02,
@@ -109,6 +111,7 @@ pub const BOOK: [u8; 168] = [
     0xFF,
     0x01,
     0x07,
+    // Tag 3: blanks.
     0x01,
     0x00,
     0x03,
@@ -136,6 +139,7 @@ pub const BOOK: [u8; 168] = [
     0x09,
     0x01,
     0x07,
+    // Tag 4: a newline.
     0x01,
     0x00,
     0x04,
@@ -151,6 +155,7 @@ pub const BOOK: [u8; 168] = [
     0x0A,
     0x01,
     0x07,
+    // Tag 5: a bracket.
     0x01,
     0x00,
     0x05,
@@ -170,10 +175,11 @@ pub const BOOK: [u8; 168] = [
     0x5D,
     0x01,
     0x07,
+    // END.
     0x08,
 ];
 
-// The whole book, as a caller has it to lend it.
+// The whole book, to be lent where a book is asked for.
 pub fn book() -> [u8; 168]
     ensures { λ r. ⌜ r ≡ builtinBytes ⌝ }
 {

@@ -1,6 +1,6 @@
 // Lexing by the built-in book of document 01, through its byte classes: one automaton for all five rules, one table step a byte.
 pub mod commands;
-pub mod tables;
+mod tables;
 
 use book::reading::Book;
 use book::refusal::Refusal;
@@ -14,35 +14,38 @@ ghost use Rattle.lexer.specs.Answers.{Cuts, Fills};
 ghost use Rattle.lexer.specs.Outcome.{lexRules, lexOutcome};
 ghost use Rattle.builtin.specs.Book.{builtinBytes, builtinRules};
 ghost use Rattle.builtin.specs.Classes.{classTable};
-ghost use Rattle.builtin.specs.Joined.{stateCount, nextTable, tagTable, nextState, tagAt, Lent, Scanned};
+ghost use Rattle.builtin.specs.Joined.{State, nextTable, tagTable, nextState, tagAt, Lent, Scanned};
 
-// The automaton's states: from the first no byte leads to a match, in the second nothing is read, and from the third on
-// some rule matches what is read.
+// States of the automaton: from the first no byte leads to a match, in the second nothing is read, and from the third on
+// some rule matches what is read. A state is the place of its row in the table of next states.
 const DEAD: usize = 0;
-const START: usize = 1;
-const ACCEPTING: usize = 10;
+
+const START: usize = 16;
+
+const ACCEPTING: usize = 160;
 
 // What stands at the front of a text: a token's tag and how many bytes it takes, 0 for none.
-pub struct Match {
-    pub tag: u64,
-    pub len: usize,
+struct Match {
+    tag: u64,
+    len: usize,
 }
 
 // Where a byte leads from state `s`.
 fn step(classes: &[u8; 256], next: &[u8; 256], s: usize, byte: u8) -> usize
-    requires { ⌜ (now classes ≡ classTable) × (now next ≡ nextTable) × (s < stateCount) ⌝ }
+    requires { ⌜ (now classes ≡ classTable) × (now next ≡ nextTable) × State s ⌝ }
     ensures { λ r. ⌜ r ≡ nextState s byte ⌝ }
 {
     let class = classes[byte as usize];
-    next[s * 16 + (class as usize)] as usize
+    next[s + (class as usize)] as usize
 }
 
 fn found(tags: &[u8; 16], s: usize, len: usize) -> Match
-    requires { ⌜ (now tags ≡ tagTable) × (s < stateCount) ⌝ }
+    requires { ⌜ (now tags ≡ tagTable) × State s ⌝ }
     ensures { λ r. ⌜ (r .tag ≡ tagAt s) × (r .len ≡ len) ⌝ }
 {
+    let tag = tags[s / 16];
     Match {
-        tag: tags[s] as u64,
+        tag: tag as u64,
         len,
     }
 }
@@ -71,13 +74,7 @@ fn scan(classes: &[u8; 256], next: &[u8; 256], tags: &[u8; 16], text: &[u8]) -> 
 }
 
 // The same from a place of a text.
-fn scan_at(
-    classes: &[u8; 256],
-    next: &[u8; 256],
-    tags: &[u8; 16],
-    text: &[u8],
-    at: usize,
-) -> Match
+fn scan_at(classes: &[u8; 256], next: &[u8; 256], tags: &[u8; 16], text: &[u8], at: usize) -> Match
     requires { ⌜ Lent (now classes) (now next) (now tags) ⌝ }
     requires { ⌜ at ≤ length (now text) ⌝ }
     ensures { λ r. ⌜ Scanned (drop at (now (text .entry))) (r .tag) (r .len) ⌝ }
@@ -121,14 +118,20 @@ fn fill(
     while place < text.len() {
         let m = scan_at(classes, next, tags, text, place);
         if m.len == 0 {
-            return Cut { tokens, rest: place };
+            return Cut {
+                tokens,
+                rest: place,
+            };
         }
         let len = m.len;
         lexer::put_record(records, 10 * tokens, m.tag, place, len);
         tokens += 1;
         place += len;
     }
-    Cut { tokens, rest: place }
+    Cut {
+        tokens,
+        rest: place,
+    }
 }
 
 fn refused(number: u8, place: usize) -> LexAnswer

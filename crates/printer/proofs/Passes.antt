@@ -216,8 +216,11 @@ module _ {rules : List Rule} {records pool text : List ℕ} {at k : ℕ} (w : Ex
     pub extending-found : (len ≡ r .len → ⊥) → firstExtended rules (tokensOf records pool) 0 ≡ extendedAt k (recordCount records)
     unfolding firstExtended tokensIn refuse
     extending-found ne =
-        w .first ∙ rw (front-is, lt-ltb k (recordCount records) more,
-        read-on rules (bytesIn pool r) (join (tokensIn pool (left records (k + 1)))) (r .tag) empty (alone-first rules (r .tag) (bytesIn pool r) (token-fine .alone)) chosen-here (λ q. ne (q ∙ long)))
+        w .first ∙ rw (
+          front-is,
+          lt-ltb k (recordCount records) more,
+          read-on rules (bytesIn pool r) (join (tokensIn pool (left records (k + 1)))) (r .tag) empty (alone-first rules (r .tag) (bytesIn pool r) (token-fine .alone)) chosen-here (λ q. ne (q ∙ long)),
+        )
 
     pub extending-within : at + r .len ≤ length text
     extending-within =
@@ -232,8 +235,10 @@ module _ {rules : List Rule} {records pool text : List ℕ} {at k : ℕ} (w : Ex
           few = omega arith;
           behind = sym (drop-drop (r .len) at text) ∙ rw split (drop-at (bytesIn pool r) (join (tokensIn pool (left records (k + 1)))) (r .len) long);
           faultless = ap (firstFault (faultOf rules pool) (left records (k + 1))) (add-one k) ∙ fine .1;
-          first = w .first ∙ rw (front-is,
-              read-no-more rules (bytesIn pool r) (join (tokensIn pool (left records (k + 1)))) (r .tag) empty (alone-first rules (r .tag) (bytesIn pool r) (token-fine .alone)) chosen-here (q ∙ sym long))
+          first = w .first ∙ rw (
+            front-is,
+            read-no-more rules (bytesIn pool r) (join (tokensIn pool (left records (k + 1)))) (r .tag) empty (alone-first rules (r .tag) (bytesIn pool r) (token-fine .alone)) chosen-here (q ∙ sym long),
+          )
               (ap (firstExtended rules (tokensIn pool (left records (k + 1)))) (sym (add-one k)));
         }
 

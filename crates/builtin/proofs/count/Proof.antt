@@ -1,4 +1,5 @@
-use Prim.Native.Nat.{_+_, _-_, _*_, _≤_}
+-- `count`: the invariant is `Cutting` by the built-in rules. Assumes nothing.
+use Prim.Native.Nat.{_+_, _-_, _≤_}
 use native.Mathlib.Omega.{arith}
 use lib.ListN.{length, drop}
 use denote.Ref.{now}
@@ -7,9 +8,6 @@ use Rattle.builtin.proofs.Scanned.{Picked, picked}
 use Rattle.lexer.proofs.Turns.{Cutting, cutting-start, cutting-within, cutting-next, cutting-stop, lex-stop, lex-end}
 use Rattle.builtin.proofs.count.Statement.{statement}
 use Rattle.builtin.proofs.count.Tie as tie
-use Rattle.builtin.proofs.count.Reads as reads
-use Rattle.builtin.proofs.count.Lts as lts
-use Rattle.builtin.proofs.scan_at.Reads as scan-at-reads
 
 abbrev Inv-loop : tie.InvT-loop
 Inv-loop classes next tags text tokens₀ at₀ tokens at = Cutting builtinRules text at tokens
@@ -27,35 +25,27 @@ more c = cutting-within (c .before .before .before .before .before .loop .inv) (
 ended : (c : tie.After-loop Inv-loop μ-loop) → length (now (c .before .before .before .args .text)) ≤ c .before .loop .at
 ended c = omega arith
 
--- src/lib.rt:94:5
 loop-holds : tie.Need-loop-holds Inv-loop μ-loop
 loop-holds c = cutting-start builtinRules _
 
--- src/lib.rt:95:13
 scan-at-requires : tie.Need-scan-at-requires Inv-loop μ-loop
 scan-at-requires c κs = (c .before .before .before .pre, c .before .loop .inv .within)
 
--- src/lib.rt:97:13
 returns : tie.Need-returns Inv-loop μ-loop
 returns c = cutting-stop (c .before .before .before .before .loop .inv) (lex-stop builtinRules _ (c .before .before .scan-at .ensures .nothing (c .if1 .taken)))
 
--- src/lib.rt:99:9
 add-tokens : tie.Need-add-tokens Inv-loop μ-loop
 add-tokens c = omega (arith, c .before .before .before .before .loop .inv .few, c .before .before .before .before .loop .inv .within)
 
--- src/lib.rt:100:9
 add-at : tie.Need-add-at Inv-loop μ-loop
 add-at c = omega (arith, more c)
 
--- src/lib.rt:94:5
 loop-less : tie.Need-loop-less Inv-loop μ-loop
 loop-less c = omega (arith, more c)
 
--- src/lib.rt:94:5
 loop-again : tie.Need-loop-again Inv-loop μ-loop
 loop-again c = cutting-next (c .before .before .before .before .before .loop .inv) (token c .chooses) (omega arith)
 
--- src/lib.rt:88:1
 returns-2 : tie.Need-returns-2 Inv-loop μ-loop
 returns-2 c = cutting-stop (c .before .loop .inv) (lex-end builtinRules _ _ (ended c))
 

@@ -1,3 +1,4 @@
+-- `fill`: the invariant is `Filling` by the built-in rules. Assumes nothing.
 use Prim.Native.Nat.{_+_, _-_, _*_, _≤_}
 use native.Mathlib.Omega.{arith}
 use lib.ListN.{length, drop}
@@ -7,10 +8,6 @@ use Rattle.builtin.proofs.Scanned.{Picked, picked}
 use Rattle.lexer.proofs.Turns.{cutting-within, cutting-stop, Filling, filling-start, filling-room, filling-next, filling-stop, lex-stop, lex-end}
 use Rattle.builtin.proofs.fill.Statement.{statement}
 use Rattle.builtin.proofs.fill.Tie as tie
-use Rattle.builtin.proofs.fill.Reads as reads
-use Rattle.builtin.proofs.fill.Lts as lts
-use Rattle.builtin.proofs.scan_at.Reads as scan-at-reads
-use Rattle.lexer.proofs.put_record.Reads as put-record-reads
 
 abbrev Inv-loop : tie.InvT-loop
 Inv-loop classes next tags text records₀ tokens₀ place₀ records tokens place = Filling builtinRules text records₀ records place tokens
@@ -31,52 +28,40 @@ room c = filling-room (c .before .before .before .before .loop .inv) (c .before 
 ended : (c : tie.After-loop Inv-loop μ-loop) → length (now (c .before .before .before .before .args .text)) ≤ c .before .loop .place
 ended c = omega arith
 
--- src/lib.rt:120:5
 loop-holds : tie.Need-loop-holds Inv-loop μ-loop
 loop-holds c = filling-start builtinRules _ _
 
--- src/lib.rt:121:13
 scan-at-requires : tie.Need-scan-at-requires Inv-loop μ-loop
 scan-at-requires c κs = (c .before .before .before .before .pre .0, c .before .loop .inv .cut .within)
 
--- src/lib.rt:123:13
 same-length : tie.Need-same-length Inv-loop μ-loop
 same-length c = c .before .before .before .before .loop .inv .same
 
--- src/lib.rt:123:13
 returns : tie.Need-returns Inv-loop μ-loop
 returns c = let e = lex-stop builtinRules _ (c .before .before .scan-at .ensures .nothing (c .if1 .taken)) in
     (cutting-stop (c .before .before .before .before .loop .inv .cut) e, filling-stop (c .before .before .before .before .loop .inv) e)
 
--- src/lib.rt:126:36
 mul-put-record : tie.Need-mul-put-record Inv-loop μ-loop
 mul-put-record c = let l = c .before .before .before .before .before .loop .inv .same in omega (arith, room (c .before), c .before .before .before .before .before .before .before .before .good)
 
--- src/lib.rt:126:9
 put-record-requires : tie.Need-put-record-requires Inv-loop μ-loop
 put-record-requires c κs = omega (arith, room (c .before))
 
--- src/lib.rt:127:9
 add-tokens : tie.Need-add-tokens Inv-loop μ-loop
 add-tokens c = let w = c .before .before .before .before .before .before .before .before .loop .inv .cut in omega (arith, more (c .before .before .before .before), w .few, w .within)
 
--- src/lib.rt:128:9
 add-place : tie.Need-add-place Inv-loop μ-loop
 add-place c = omega (arith, more (c .before .before .before .before))
 
--- src/lib.rt:120:5
 loop-less : tie.Need-loop-less Inv-loop μ-loop
 loop-less c = omega (arith, more (c .before .before .before .before))
 
--- src/lib.rt:120:5
 loop-again : tie.Need-loop-again Inv-loop μ-loop
 loop-again c = filling-next (c .before .before .before .before .before .before .before .before .loop .inv) (c .before .before .before .before .before .before .before .before .before .before .before .pre .1) (token (c .before .before .before .before) .chooses) (omega arith) (token (c .before .before .before .before) .names (omega arith)) (c .before .before .put-record .ensures)
 
--- src/lib.rt:106:1
 same-length-2 : tie.Need-same-length-2 Inv-loop μ-loop
 same-length-2 c = c .before .loop .inv .same
 
--- src/lib.rt:106:1
 returns-2 : tie.Need-returns-2 Inv-loop μ-loop
 returns-2 c = let e = lex-end builtinRules _ _ (ended c) in
     (cutting-stop (c .before .loop .inv .cut) e, filling-stop (c .before .loop .inv) e)

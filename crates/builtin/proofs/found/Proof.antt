@@ -1,28 +1,24 @@
-use mathlib.Core.Path.{_≡_, refl, sym, _∙_, ap}
-use Prim.Native.Nat.{ℕ, _+_, _*_, _<_, _≤_, _-_}
+-- `found`: the entry of the tag table, which fits a byte. Assumes nothing.
+use mathlib.Core.Path.{refl}
+use Prim.Native.Nat.{_/_, _<_}
 use native.Mathlib.Omega.{arith}
-use lib.ListN.{length, getD}
-use denote.Ref.{now}
-use Rattle.builtin.specs.Joined.{stateCount, tagTable, tagAt}
-use Rattle.builtin.proofs.Joined.{tag-below}
 use borrow.Author.Needs.{needs}
+use lib.ListN.{getD}
+use denote.Ref.{now}
+use Rattle.builtin.proofs.Joined.{tag-below}
 use Rattle.builtin.proofs.found.Statement.{statement}
 use Rattle.builtin.proofs.found.Tie as tie
-use Rattle.builtin.proofs.found.Reads as reads
-use Rattle.builtin.proofs.found.Lts as lts
 
--- src/lib.rt:41:14
-element-copy-out-t6 : tie.Need-element-copy-out-t6
-element-copy-out-t6 c = search needs
+element-copy-out-tag : tie.Need-element-copy-out-tag
+element-copy-out-tag c = search needs
 
--- src/lib.rt:41:14
-cast-t7 : tie.Need-cast-t7
-cast-t7 c = let h : getD (now (c .before .args .tags)) (c .before .args .s) 0 < 256 = rw (c .before .pre .0) (tag-below _ (c .before .pre .1)) in
+cast-t9 : tie.Need-cast-t9
+cast-t9 c =
+    let h : getD (now (c .before .args .tags)) (c .before .args .s / 16) 0 < 256 = rw (c .before .pre .0) (tag-below (c .before .args .s) (c .before .pre .1)) in
     omega arith
 
--- src/lib.rt:36:1
 returns : tie.Need-returns
 returns c = (rw (c .before .pre .0), refl)
 
 pub found-spec : {M : Type 1} → statement M
-found-spec = tie.close (tie.spec element-copy-out-t6 cast-t7 returns)
+found-spec = tie.close (tie.spec element-copy-out-tag cast-t9 returns)

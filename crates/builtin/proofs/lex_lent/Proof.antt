@@ -1,22 +1,17 @@
-use mathlib.Core.Path.{_≡_, sym, _∙_, ap}
+-- `lex_lent`: each answer is a case of the outcome. Assumes nothing.
 use mathlib.Core.Logic.{⊎-elim}
-use Prim.Native.Nat.{_*_, _/_, _≤_}
+use Prim.Native.Nat.{_≤_}
 use native.Mathlib.Omega.{arith}
 use lib.ListN.{length}
 use denote.Ref.{now}
 use Rattle.lexer.specs.Lexer.{lex}
-use Rattle.lexer.specs.Outcome.{maxText, recordCount, lexRules}
+use Rattle.lexer.specs.Outcome.{recordCount}
 use Rattle.lexer.proofs.Lexing.{lex-few}
 use Rattle.builtin.specs.Book.{builtinRules}
 use Rattle.builtin.proofs.Outcome.{too-long, too-few, enough}
 use borrow.Author.Needs.{needs}
 use Rattle.builtin.proofs.lex_lent.Statement.{statement}
 use Rattle.builtin.proofs.lex_lent.Tie as tie
-use Rattle.builtin.proofs.lex_lent.Reads as reads
-use Rattle.builtin.proofs.lex_lent.Lts as lts
-use Rattle.builtin.proofs.count.Reads as count-reads
-use Rattle.builtin.proofs.fill.Reads as fill-reads
-use Rattle.builtin.proofs.refused.Reads as refused-reads
 
 -- the records are enough, whichever way led here
 fits : (c : tie.Joined2) → length ((lex builtinRules (now (c .before .before .before .before .args .text))) .tokens) ≤ recordCount (now (c .before .before .before .before .args .records))
@@ -26,38 +21,30 @@ fits c =
     (λ w. omega (arith, w .left, lex-few builtinRules (now (c .before .before .before .before .args .text))))
     (c .if2 .came)
 
--- src/lib.rt:153:9
 refused-requires : tie.Need-refused-requires
 refused-requires c κs = search needs
 
--- src/lib.rt:153:9
 returns : tie.Need-returns
 returns c = let e = too-long builtinRules (now (c .before .before .before .before .args .text)) (now (c .before .before .before .before .args .records)) (c .before .if1 .taken) in
     (rw e (c .refused .ensures), rw e)
 
--- src/lib.rt:157:22
 count-requires : tie.Need-count-requires
 count-requires c κs = search needs
 
--- src/lib.rt:159:13
 refused-requires-2 : tie.Need-refused-requires-2
 refused-requires-2 c κs = search needs
 
--- src/lib.rt:159:13
 returns-2 : tie.Need-returns-2
 returns-2 c = let n = c .before .before .count .ensures .tokens-are in
     let e = too-few builtinRules (now (c .before .before .before .before .before .before .before .args .text)) (now (c .before .before .before .before .before .before .before .args .records)) (c .before .before .before .before .if1 .left) (rw n at (c .before .if3 .taken)) in
     (rw (e, ← n) (c .refused2 .ensures), rw e)
 
--- src/lib.rt:162:9
 fill-requires : tie.Need-fill-requires
 fill-requires c κs = (c .before .before .before .before .before .pre, omega (arith, fits (c .before)))
 
--- src/lib.rt:141:1
 same-length : tie.Need-same-length
 same-length c = search needs
 
--- src/lib.rt:141:1
 returns-3 : tie.Need-returns-3
 returns-3 c = let e = enough builtinRules (now (c .before .before .before .before .before .before .before .before .args .text)) (now (c .before .before .before .before .before .before .before .before .args .records)) (c .before .before .before .before .before .if1 .left) (fits (c .before .before .before .before)) in
     let f = c .before .before .fill .ensures in

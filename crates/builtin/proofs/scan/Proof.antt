@@ -1,16 +1,11 @@
-use mathlib.Core.Path.{_≡_, refl, sym, _∙_, ap}
-use Prim.Native.Nat.{ℕ, _+_, _*_, _<_, _≤_, _-_}
+-- `scan`: the invariant is `Walked`. Assumes nothing.
+use Prim.Native.Nat.{_<_, _-_}
 use native.Mathlib.Omega.{arith}
 use lib.ListN.{length, getD}
 use denote.Ref.{now}
-use Rattle.builtin.specs.Joined.{Scanned, tagAt}
 use Rattle.builtin.proofs.Scanned.{Walked, walked-start, walked-accept, walked-pass, scanned-end, scanned-dead}
 use Rattle.builtin.proofs.scan.Statement.{statement}
 use Rattle.builtin.proofs.scan.Tie as tie
-use Rattle.builtin.proofs.scan.Reads as reads
-use Rattle.builtin.proofs.scan.Lts as lts
-use Rattle.builtin.proofs.found.Reads as found-reads
-use Rattle.builtin.proofs.step.Reads as step-reads
 
 abbrev Inv-loop : tie.InvT-loop
 Inv-loop classes next tags text s₀ last₀ len₀ i₀ s last len i = Walked text s last len i
@@ -21,52 +16,40 @@ abbrev μ-loop : tie.MeasureT-loop
 byte : (c : tie.After-shared-slice-known2 Inv-loop μ-loop) → getD (now (c .before .before .before .before .args .text)) (c .before .before .loop .i) 0 < 256
 byte c = omega (arith, c .shared-slice-known2 .given (c .before .before .loop .i))
 
--- src/lib.rt:55:5
 loop-holds : tie.Need-loop-holds Inv-loop μ-loop
 loop-holds c = walked-start _
 
--- src/lib.rt:56:36
 shared-slice-read-step : tie.Need-shared-slice-read-step Inv-loop μ-loop
 shared-slice-read-step c = c .before .loop-test .taken
 
--- src/lib.rt:56:9
 step-requires : tie.Need-step-requires Inv-loop μ-loop
 step-requires c κs = (c .before .before .before .before .pre .classes-are, c .before .before .before .before .pre .next-are, c .before .before .loop .inv .inside)
 
--- src/lib.rt:58:13
 found-requires : tie.Need-found-requires Inv-loop μ-loop
 found-requires c κs = (c .before .before .before .before .before .before .pre .tags-are, c .before .before .before .before .loop .inv .known)
 
--- src/lib.rt:58:13
 returns : tie.Need-returns Inv-loop μ-loop
 returns c = let a = c .found .ensures in
     rw (a .0, a .1) (scanned-dead (c .before .before .before .before .before .loop .inv) (c .before .before .before .before .loop-test .taken) (byte (c .before .before .before)) (c .before .before .step .ensures) (c .before .if1 .taken))
 
--- src/lib.rt:60:9
 add-i : tie.Need-add-i Inv-loop μ-loop
 add-i c = omega (arith, c .before .before .before .loop-test .taken)
 
--- src/lib.rt:55:5
 loop-less : tie.Need-loop-less Inv-loop μ-loop
 loop-less c = omega (arith, c .before .before .before .before .loop-test .taken)
 
--- src/lib.rt:55:5
 loop-again : tie.Need-loop-again Inv-loop μ-loop
 loop-again c = walked-accept (c .before .before .before .before .before .loop .inv) (c .before .before .before .before .loop-test .taken) (byte (c .before .before .before)) (c .before .before .step .ensures) (c .if2 .taken)
 
--- src/lib.rt:55:5
 loop-less-2 : tie.Need-loop-less-2 Inv-loop μ-loop
 loop-less-2 c = omega (arith, c .before .before .before .before .loop-test .taken)
 
--- src/lib.rt:55:5
 loop-again-2 : tie.Need-loop-again-2 Inv-loop μ-loop
 loop-again-2 c = walked-pass (c .before .before .before .before .before .loop .inv) (c .before .before .before .before .loop-test .taken) (byte (c .before .before .before)) (c .before .before .step .ensures) (c .if2 .left)
 
--- src/lib.rt:66:5
 found-requires-2 : tie.Need-found-requires-2 Inv-loop μ-loop
 found-requires-2 c κs = (c .before .before .before .pre .tags-are, c .before .loop .inv .known)
 
--- src/lib.rt:47:1
 returns-2 : tie.Need-returns-2 Inv-loop μ-loop
 returns-2 c = let a = c .found2 .ensures in
     rw (a .0, a .1) (scanned-end (c .before .before .loop .inv) (c .before .loop-test .left))

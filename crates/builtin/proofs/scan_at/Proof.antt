@@ -1,3 +1,4 @@
+-- `scan_at`: `scan` of the part from `at` on. Assumes nothing.
 use mathlib.Core.Path.{subst}
 use mathlib.Core.List.{List}
 use Prim.Native.Nat.{ℕ, _-_, _≤_}
@@ -9,27 +10,19 @@ use Rattle.builtin.specs.Joined.{Scanned}
 use borrow.Author.Needs.{needs}
 use Rattle.builtin.proofs.scan_at.Statement.{statement}
 use Rattle.builtin.proofs.scan_at.Tie as tie
-use Rattle.builtin.proofs.scan_at.Reads as reads
-use Rattle.builtin.proofs.scan_at.Lts as lts
-use Rattle.builtin.proofs.scan.Reads as scan-reads
 
--- src/lib.rt:84:31
 sub-scan : tie.Need-sub-scan
 sub-scan c = search needs
 
--- src/lib.rt:84:31
 part-scan-start : tie.Need-part-scan-start
 part-scan-start c = search needs
 
--- src/lib.rt:84:31
 part-scan-end : tie.Need-part-scan-end
 part-scan-end c = search needs
 
--- src/lib.rt:84:5
 scan-requires : tie.Need-scan-requires
 scan-requires c κs = search needs
 
--- src/lib.rt:73:1
 returns : tie.Need-returns
 returns c = let a = c .before .before .before .args in
     let t = drop (a .at) (now (a .text)) in
