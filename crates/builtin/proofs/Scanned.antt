@@ -1,6 +1,8 @@
 -- From what the walk finds to what is chosen, and by which rule. Assumes nothing.
 use mathlib.Core.Path.{_≡_, refl, sym, _∙_, ap}
-use Prim.Native.Nat.{ℕ, zero, suc, _+_, _<_, _≤_}
+use Prim.Native.Nat.{ℕ, zero, suc, _+_, _-_, _<_, _≤_}
+use native.Mathlib.Nat.{zero-add}
+use borrow.Author.Count.{below-more}
 use mathlib.Core.Bool.{false}
 use mathlib.Core.Option.{some}
 use mathlib.Core.List.{List, [], _∷_}
@@ -15,7 +17,7 @@ use Rattle.lexer.specs.Answers.{front, Chooses}
 use Rattle.lexer.proofs.First.{Earliest}
 use Rattle.lexer.proofs.Choosing.{choose-some}
 use Rattle.builtin.specs.Book.{builtinRules}
-use Rattle.builtin.specs.Joined.{Scanned, State, statesOf, nextState, tagAt, dead, start, accepting}
+use Rattle.builtin.specs.Joined.{Scanned, Stays, State, statesOf, nextState, tagAt, dead, start, accepting}
 use Rattle.builtin.proofs.Product.{Scan, tagged, found-front, scan-start, scan-accept, scan-pass, scan-dead, scan-end}
 use Rattle.builtin.proofs.Joined.{joined, accepts, passes}
 
@@ -37,6 +39,34 @@ module _ {text : List ℕ} {s last len i s₁ : ℕ} (w : Walked text s last len
 
   pub walked-pass : s₁ < accepting → Walked text s₁ last len (i + 1)
   walked-pass h = scan-pass joined w more byte e (passes s₁ reaches h)
+
+-- bytes that lead from an accepting state back to it
+run-on : (n : ℕ) {text : List ℕ} {s i : ℕ} → Walked text s s i i → accepting ≤ s → ((k : ℕ) → getD text k 0 < 256) → Stays s text i (n + i)
+    → Walked text s s (n + i) (n + i)
+run-on zero w h byte r = rw zero-add w
+run-on (suc n) {text} {s} {i} w h byte r =
+    let q : suc n + i ≡ n + i + 1 = omega arith in
+    let l : n + i < length text = omega (arith, r .within) in
+    let v = run-on n w h byte (record { further = omega arith; within = omega arith; same = λ k a b. r .same k a (omega arith) }) in
+    rw q (walked-accept v l (byte (n + i)) (sym (r .same (n + i) (omega arith) (omega arith))) h)
+
+pub walked-run : {text : List ℕ} {s i j : ℕ} → Walked text s s i i → accepting ≤ s → ((k : ℕ) → getD text k 0 < 256) → Stays s text i j → Walked text s s j j
+walked-run {text} {s} {i} {j} w h byte r =
+    let l = r .further in
+    let q : j ≡ j - i + i = omega arith in
+    rw q (run-on (j - i) w h byte (rw q at r))
+
+-- the loop of `run`
+pub stays-none : {s : ℕ} {text : List ℕ} (from : ℕ) → from ≤ length text → Stays s text from from
+stays-none from l = record { further = omega arith; within = l; same = λ k a b. absurd (omega arith) }
+
+pub stays-more : {s from i : ℕ} {text : List ℕ} → Stays s text from i → i < length text → nextState s (getD text i 0) ≡ s → Stays s text from (i + 1)
+stays-more {s} {from} {i} {text} w l e =
+    record {
+      further = omega (arith, w .further);
+      within = omega arith;
+      same = λ k a b. below-more (λ (m : ℕ). from ≤ m → nextState s (getD text m 0) ≡ s) i (λ m c d. w .same m d c) (λ d. e) k b a;
+    }
 
 settled : {text : List ℕ} {s last len i : ℕ} → Walked text s last len i
     → choose builtinRules text ≡ found (tagged (tagAt last)) (take len text) (drop len text) → Scanned text (tagAt last) len

@@ -100,6 +100,12 @@ pub record Lent (classes next tags : List ℕ) : Type 0 where
   pub next-are : next ≡ nextTable
   pub tags-are : tags ≡ tagTable
 
+-- each byte of a text from one place up to another leads from s back to s
+pub record Stays (s : ℕ) (text : List ℕ) (from to : ℕ) : Type 0 where
+  pub further : from ≤ to
+  pub within : to ≤ length text
+  pub same : (k : ℕ) → from ≤ k → k < to → nextState s (getD text k 0) ≡ s
+
 -- The longest token at the front of a text has this tag and so many bytes; none where there are 0.
 pub record Scanned (text : List ℕ) (tag len : ℕ) : Type 0 where
   pub within : len ≤ length text

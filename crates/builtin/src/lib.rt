@@ -14,7 +14,7 @@ ghost use Rattle.lexer.specs.Answers.{Cuts, Fills};
 ghost use Rattle.lexer.specs.Outcome.{lexRules, lexOutcome};
 ghost use Rattle.builtin.specs.Book.{builtinBytes, builtinRules};
 ghost use Rattle.builtin.specs.Classes.{classTable};
-ghost use Rattle.builtin.specs.Joined.{State, nextTable, tagTable, nextState, tagAt, Lent, Scanned};
+ghost use Rattle.builtin.specs.Joined.{State, nextTable, tagTable, nextState, tagAt, Lent, Stays, Scanned};
 
 // States of the automaton: from the first no byte leads to a match, in the second nothing is read, and from the third on
 // some rule matches what is read. A state is the place of its row in the table of next states.
@@ -50,6 +50,22 @@ fn found(tags: &[u8; 16], s: usize, len: usize) -> Match
     }
 }
 
+// The first place from `from` on whose byte leads away from state `s`. No turn waits for the table step of the one before, which is
+// what makes long words fast.
+fn run(classes: &[u8; 256], next: &[u8; 256], s: usize, text: &[u8], from: usize) -> usize
+    requires { ⌜ (now classes ≡ classTable) × (now next ≡ nextTable) × State s × (from ≤ length (now text)) ⌝ }
+    ensures { λ r. ⌜ Stays s (now (text .entry)) from r ⌝ }
+{
+    let mut i = from;
+    while i < text.len() {
+        if step(classes, next, s, text[i]) != s {
+            return i;
+        }
+        i += 1;
+    }
+    i
+}
+
 // The longest token at the front of `text`: the walk remembers the last state that accepts, and stops where no match can follow.
 fn scan(classes: &[u8; 256], next: &[u8; 256], tags: &[u8; 16], text: &[u8]) -> Match
     requires { ⌜ Lent (now classes) (now next) (now tags) ⌝ }
@@ -66,6 +82,7 @@ fn scan(classes: &[u8; 256], next: &[u8; 256], tags: &[u8; 16], text: &[u8]) -> 
         }
         i += 1;
         if ACCEPTING <= s {
+            i = run(classes, next, s, text, i);
             last = s;
             len = i;
         }
