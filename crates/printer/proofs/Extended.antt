@@ -1,17 +1,17 @@
 -- Whether a token is read on into the bytes behind it, by what is chosen at its place. Assumes nothing.
 use mathlib.Core.Path.{_≡_, refl, sym, ap, _∙_}
-use mathlib.Core.Logic.{_⊎_, inl, inr}
+use mathlib.Core.Logic.{inl, inr}
 use Prim.Native.Nat.{ℕ, _<_}
 use mathlib.Core.Bool.{Bool, true, false}
-use mathlib.Core.Option.{Option, none, some}
+use mathlib.Core.Option.{none, some}
 use mathlib.Core.List.{List, [], _∷_, _++_}
 use native.Mathlib.Omega.{arith}
 use native.Mathlib.Nat.{eq-zero-or-pos}
-use lib.ListN.{length, take, drop}
+use lib.ListN.{length}
 use lib.Seq.{length-take-le}
 use Rattle.automaton.specs.Rule.{Rule}
 use Rattle.automaton.specs.Tables.{ruleAt}
-use Rattle.lexer.specs.Lexer.{Found, firstMatch, choose, extends}
+use Rattle.lexer.specs.Lexer.{Found, firstMatch, extends}
 use Rattle.lexer.specs.Answers.{front, Chooses}
 use Rattle.lexer.proofs.First.{nothing}
 use Rattle.lexer.proofs.Choosing.{choose-at, extends-no}

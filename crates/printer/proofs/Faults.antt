@@ -2,8 +2,8 @@
 use mathlib.Core.Path.{_≡_, refl, sym, ap, _∙_}
 use Prim.Native.Nat.{ℕ, zero, suc, _+_, _<_, _≤_}
 use mathlib.Core.Bool.{Bool, true, false, not}
-use mathlib.Core.Option.{Option, none, some}
-use mathlib.Core.List.{List, [], _∷_, _++_, append-nil}
+use mathlib.Core.Option.{none, some}
+use mathlib.Core.List.{List, [], _∷_, append-nil}
 use native.Mathlib.Nat.{eq-zero-or-pos}
 use mathlib.Core.Logic.{_⊎_, inl, inr}
 use native.Mathlib.Omega.{arith}
@@ -11,10 +11,10 @@ use lib.Dec.{ltb, eqb}
 use lib.ListN.{length, getD, take, drop, length-drop}
 use lib.Seq.{take-length, length-take-le}
 use borrow.Author.Count.{below-more}
-use borrow.Author.Tests.{lt-ltb, le-ltb, ltb-true, ltb-false, eqb-true, eqb-false, eq-eqb, ne-eqb, not-false}
-use Rattle.automaton.specs.Choice.{if, any}
+use borrow.Author.Tests.{lt-ltb, le-ltb, ltb-true, ltb-false, eq-eqb, ne-eqb}
+use Rattle.automaton.specs.Choice.{if}
 use Rattle.automaton.specs.Rule.{Rule, matches}
-use Rattle.automaton.specs.Tables.{blank, ruleAt, tagOf}
+use Rattle.automaton.specs.Tables.{ruleAt, tagOf}
 use Rattle.automaton.proofs.Tests.{clash}
 use Rattle.automaton.proofs.Walks.{header-tag}
 use Rattle.book.specs.Reading.{tagged}

@@ -4,3 +4,6 @@ pub mod Faults
 pub mod Extended
 pub mod Passes
 pub mod Outcomes
+pub mod Accepting
+pub mod ReadBack
+pub mod RoundTrip

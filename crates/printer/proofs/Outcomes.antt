@@ -1,12 +1,10 @@
 -- How the answers of the code come to the outcome of document 01. Assumes nothing.
-use mathlib.Core.Path.{_≡_, refl, sym, ap, _∙_, subst}
+use mathlib.Core.Path.{_≡_, refl, sym, ap, _∙_}
 use Prim.Native.Nat.{ℕ, suc, _<_, _≤_}
-use mathlib.Core.Bool.{Bool, true, false}
 use mathlib.Core.Option.{Option, none, some}
-use mathlib.Core.List.{List, [], _∷_, _++_}
+use mathlib.Core.List.{List, [], _∷_}
 use native.Mathlib.Omega.{arith}
 use native.Mathlib.Nat.{zero-add}
-use lib.Dec.{ltb}
 use lib.ListN.{length, take, drop}
 use lib.Seq.{paste, take-append-seam}
 use borrow.Author.Tests.{lt-ltb, le-ltb}
@@ -20,13 +18,14 @@ use Rattle.book.specs.State.{Loaded}
 use Rattle.lexer.specs.Lexer.{Token, join}
 use Rattle.lexer.specs.Outcome.{maxText, recordCount}
 use Rattle.lexer.specs.Answers.{Holds, Held}
+use Rattle.lexer.proofs.Outcomes.{loaded-rules}
 use Rattle.printer.specs.declared.PrintAnswer.{PrintAnswer}
 use Rattle.printer.specs.declared.PrintAnswer.the-variants as print
 use Rattle.printer.specs.declared.lists.Measured.the-variants as measure
 use Rattle.printer.specs.declared.tokens.TokenRecord.{TokenRecord}
 use Rattle.printer.specs.Tokens.{recordsOf, tokensOf}
 use Rattle.printer.specs.Checks.{faultOf, refuse, firstFault, firstExtended}
-use Rattle.printer.specs.Outcome.{maxTokens, check, unless, printChecked, printRules, printReading, printOutcome, Answered}
+use Rattle.printer.specs.Outcome.{maxTokens, check, unless, printChecked, printRules, printOutcome, Answered}
 use Rattle.printer.specs.Answers.{measured, InPool, Fitting, Joined, Laid, Readable, Checked, extendedAt}
 use Rattle.printer.proofs.Faults.{faultless}
 use Rattle.printer.proofs.Passes.{faultless-front}
@@ -129,29 +128,14 @@ checked-bytes records pool held m =
 -- ---- by a book
 
 module _ {bytes hs ss es : List ℕ} {b : BookAnswer} {n : ℕ} (l : Loaded bytes b hs ss es) (a : b ≡ book.Accepted n) where
-  -- the rules of an accepted book are in the tables
-  loaded-rules : (rules : List Rule) × ((readBook bytes ≡ accepted rules) × Holds hs ss es n rules)
-  loaded-rules = go (readBook bytes) refl
-    where
-      go : (o : Reading) → readBook bytes ≡ o → (rules : List Rule) × ((readBook bytes ≡ accepted rules) × Holds hs ss es n rules)
-      go (accepted rules) e =
-          let q : book.Accepted n ≡ book.Accepted (length rules) = sym a ∙ l .answered ∙ ap answer e in
-          (rules, (e, record { tables = l .tables rules e; count = cc }))
-      go (refused number place) e =
-          let q : book.Accepted n ≡ book.Refused (record { number = number; place = place }) = sym a ∙ l .answered ∙ ap answer e in
-          let z : _≡_ {A = ℕ} 0 1 = cc in absurd (omega arith)
-
-  pub loaded-held : Held hs ss es n
-  loaded-held = record { rules = loaded-rules .0; holds = loaded-rules .1 .1 }
-
   pub answered-book : (records pool out exit : List ℕ) (r : PrintAnswer)
       → ((rules : List Rule) → Holds hs ss es n rules → Answered (printRules rules records pool out) r exit)
       → Answered (printOutcome bytes records pool out) r exit
   unfolding printOutcome
-  answered-book records pool out exit r h = rw (loaded-rules .1 .0) (h (loaded-rules .0) (loaded-rules .1 .1))
+  answered-book records pool out exit r h = let k = loaded-rules l a in rw (k .1 .0) (h (k .0) (k .1 .1))
 
 module _ {bytes hs ss es : List ℕ} {b : BookAnswer} {f : Refusal} (l : Loaded bytes b hs ss es) (a : b ≡ book.Refused f) where
-  loaded-refused : readBook bytes ≡ refused (f .number) (f .place)
+  pub loaded-refused : readBook bytes ≡ refused (f .number) (f .place)
   loaded-refused = go (readBook bytes) refl
     where
       go : (o : Reading) → readBook bytes ≡ o → readBook bytes ≡ refused (f .number) (f .place)

@@ -1,30 +1,26 @@
 -- The passes over a list of tokens: what holds at the head of each loop, and how a turn keeps it. Assumes nothing.
 use mathlib.Core.Path.{_≡_, refl, sym, ap, _∙_, subst}
-use Prim.Native.Nat.{ℕ, zero, suc, _+_, _-_, _*_, _/_, _<_, _≤_}
+use Prim.Native.Nat.{ℕ, suc, _+_, _-_, _*_, _<_, _≤_}
 use mathlib.Core.Bool.{Bool, true, false, not}
-use mathlib.Core.Option.{Option, none, some}
+use mathlib.Core.Option.{none}
 use mathlib.Core.List.{List, [], _∷_, _++_, append-assoc, append-nil}
 use native.Mathlib.Omega.{arith}
 use native.Mathlib.Nat.{add-zero}
 use native.Mathlib.Numerals.{add-one}
-use lib.Dec.{ltb, eqb}
-use lib.ListN.{length, getD, take, drop, set, length-append, length-drop, length-set, take-append-drop}
+use lib.Dec.{eqb}
+use lib.ListN.{length, getD, take, drop, set, length-append, length-drop, take-append-drop}
 use lib.Seq.{paste, paste-zero, paste-suc, length-paste, take-paste, drop-paste, getD-drop, drop-drop, drop-at, length-take-le}
-use borrow.Author.Tests.{lt-ltb, le-ltb, eqb-true, eqb-false, eq-eqb, ne-eqb}
-use Rattle.automaton.specs.Choice.{if, All}
+use borrow.Author.Tests.{lt-ltb, le-ltb, eqb-true, ne-eqb}
+use Rattle.automaton.specs.Choice.{All}
 use Rattle.automaton.specs.Rule.{Rule}
-use Rattle.automaton.specs.Tables.{ruleAt}
-use Rattle.automaton.proofs.Tests.{clash}
-use Rattle.book.specs.declared.refusal.Refusal.{Refusal}
-use Rattle.lexer.specs.Lexer.{Token, Found, firstMatch, choose, extends, join}
+use Rattle.lexer.specs.Lexer.{firstMatch, join}
 use Rattle.lexer.specs.Outcome.{recordCount}
-use Rattle.lexer.specs.Answers.{front, Chooses}
+use Rattle.lexer.specs.Answers.{Chooses}
 use Rattle.lexer.proofs.First.{nothing}
-use Rattle.lexer.proofs.Choosing.{choose-at, extends-no}
 use Rattle.printer.specs.declared.tokens.TokenRecord.{TokenRecord}
 use Rattle.printer.specs.declared.lists.Measured.the-variants as measure
-use Rattle.printer.specs.Tokens.{recordAt, recordsFrom, recordsOf, bytesIn, tokenIn, tokensIn, tokensOf}
-use Rattle.printer.specs.Checks.{aloneIn, faultOf, refuse, firstFault, firstExtended}
+use Rattle.printer.specs.Tokens.{recordAt, recordsFrom, recordsOf, bytesIn, tokensIn, tokensOf}
+use Rattle.printer.specs.Checks.{faultOf, refuse, firstFault, firstExtended}
 use Rattle.printer.specs.Answers.{measured, InPool, Fitting, Joined, Laid, extendedAt}
 use Rattle.printer.proofs.Alone.{alone-first}
 use Rattle.printer.proofs.Faults.{Faultless, faultless, bytes-length}

@@ -1,9 +1,5 @@
-use mathlib.Core.Path.{_≡_, refl, sym, _∙_, ap, subst}
-use Prim.Native.Nat.{ℕ, _+_, _-_, _*_, _/_, _<_, _≤_}
-use native.Mathlib.Omega.{arith}
-use mathlib.Core.List.{List}
-use lib.ListN.{length, drop}
-use denote.Ref.{now}
+-- `print`: fresh tables and a scratch. Assumes nothing.
+use Prim.Native.Nat.{ℕ}
 use Rattle.book.proofs.Filling.{fresh-zeros}
 use lib.ListN.{length-replicate}
 use borrow.Author.Needs.{needs}
@@ -13,15 +9,12 @@ use Rattle.printer.proofs.print.Reads as reads
 use Rattle.printer.proofs.print.Lts as lts
 use Rattle.printer.proofs.print_arrays.Reads as print-arrays-reads
 
--- src/lib.rt:41:5
 print-arrays-requires : tie.Need-print-arrays-requires
 print-arrays-requires c κs = (fresh-zeros, length-replicate {A = ℕ} 65536 0)
 
--- src/lib.rt:33:1
 same-length : tie.Need-same-length
 same-length c = search needs
 
--- src/lib.rt:33:1
 returns : tie.Need-returns
 returns c = search needs
 

@@ -1,10 +1,6 @@
-use mathlib.Core.Path.{_≡_, refl, sym, _∙_, ap, subst}
-use Prim.Native.Nat.{ℕ, _+_, _-_, _*_, _/_, _<_, _≤_}
-use native.Mathlib.Omega.{arith}
-use mathlib.Core.List.{List}
-use lib.ListN.{length, drop}
-use denote.Ref.{now}
-use Rattle.printer.proofs.Outcomes.{loaded-held, answered-book, answered-refused}
+-- `print_book`: the tables hold the rules of an accepted book. Assumes nothing.
+use Rattle.lexer.proofs.Outcomes.{loaded-held}
+use Rattle.printer.proofs.Outcomes.{answered-book, answered-refused}
 use borrow.Author.Needs.{needs}
 use Rattle.printer.proofs.print_book.Statement.{statement}
 use Rattle.printer.proofs.print_book.Tie as tie
@@ -13,59 +9,45 @@ use Rattle.printer.proofs.print_book.Lts as lts
 use Rattle.book.proofs.load.Reads as load-reads
 use Rattle.printer.proofs.print_rules.Reads as print-rules-reads
 
--- src/lib.rt:84:11
 load-requires : tie.Need-load-requires
 load-requires c κs = search needs
 
--- src/lib.rt:85:30
 enum-known-rules : tie.Need-enum-known-rules
 enum-known-rules c = search needs
 
--- src/lib.rt:85:40
 print-rules-requires : tie.Need-print-rules-requires
 print-rules-requires c κs = (loaded-held (c .before .before .before .before .before .before .before .before .before .before .before .before .before .before .load .ensures) (c .before .before .before .before .before .before .rules .given .1), c .before .before .before .before .before .before .before .before .before .before .before .before .before .before .before .before .before .before .before .before .before .before .before .before .before .before .pre .1)
 
--- src/lib.rt:95:29
 enum-known-refusal : tie.Need-enum-known-refusal
 enum-known-refusal c = search needs
 
--- src/lib.rt:70:1
 same-length : tie.Need-same-length
 same-length c = search needs
 
--- src/lib.rt:70:1
 same-length-2 : tie.Need-same-length-2
 same-length-2 c = search needs
 
--- src/lib.rt:70:1
 same-length-3 : tie.Need-same-length-3
 same-length-3 c = search needs
 
--- src/lib.rt:70:1
 same-length-4 : tie.Need-same-length-4
 same-length-4 c = search needs
 
--- src/lib.rt:70:1
 same-length-5 : tie.Need-same-length-5
 same-length-5 c = search needs
 
--- src/lib.rt:70:1
 returns : tie.Need-returns
 returns c = answered-book (c .before .before .before .before .before .before .before .before .before .before .before .before .before .before .before .before .before .before .before .load .ensures) (c .before .before .before .before .before .before .before .before .before .before .before .rules .given .1) _ _ _ _ _ (c .before .before .before .before .print-rules .ensures)
 
--- src/lib.rt:70:1
 same-length-6 : tie.Need-same-length-6
 same-length-6 c = search needs
 
--- src/lib.rt:70:1
 same-length-7 : tie.Need-same-length-7
 same-length-7 c = search needs
 
--- src/lib.rt:70:1
 same-length-8 : tie.Need-same-length-8
 same-length-8 c = search needs
 
--- src/lib.rt:70:1
 returns-2 : tie.Need-returns-2
 returns-2 c = answered-refused (c .before .before .before .before .before .before .before .before .before .load .ensures) (c .before .refusal .given .1) _ _ _
 

@@ -1,9 +1,5 @@
-use mathlib.Core.Path.{_≡_, refl, sym, _∙_, ap, subst}
-use Prim.Native.Nat.{ℕ, _+_, _-_, _*_, _/_, _<_, _≤_}
-use native.Mathlib.Omega.{arith}
-use mathlib.Core.List.{List}
-use lib.ListN.{length, drop}
-use denote.Ref.{now}
+-- `print_rules`: 16, the first fault, or what `print_checked` answers. Assumes nothing.
+use mathlib.Core.Path.{sym, _∙_}
 use Rattle.printer.proofs.Outcomes.{answered-many, answered-fault, answered-checked, measured-bytes, checked-bytes}
 use borrow.Author.Needs.{needs}
 use Rattle.printer.proofs.print_rules.Statement.{statement}
@@ -14,43 +10,33 @@ use Rattle.printer.proofs.lists.measure.Reads as measure-reads
 use Rattle.printer.proofs.print_checked.Reads as print-checked-reads
 use Rattle.printer.proofs.refused.Reads as refused-reads
 
--- src/lib.rt:116:9
 refused-requires : tie.Need-refused-requires
 refused-requires c κs = search needs
 
--- src/lib.rt:116:9
 returns : tie.Need-returns
 returns c = λ rs h. answered-many rs _ _ _ (c .before .if1 .taken) (c .refused .ensures)
 
--- src/lib.rt:118:11
 measure-requires : tie.Need-measure-requires
 measure-requires c κs = search needs
 
--- src/lib.rt:119:25
 enum-known-total : tie.Need-enum-known-total
 enum-known-total c = search needs
 
--- src/lib.rt:119:35
 print-checked-requires : tie.Need-print-checked-requires
 print-checked-requires c κs = (checked-bytes _ _ (c .before .before .before .before .before .before .before .before .before .before .before .before .before .before .pre .0) (λ rs h. sym (c .before .before .before .total .given .1) ∙ c .before .before .before .before .before .measure .ensures rs h), c .before .before .before .before .before .before .before .before .before .before .before .before .before .before .pre .1)
 
--- src/lib.rt:130:27
 enum-known-refusal : tie.Need-enum-known-refusal
 enum-known-refusal c = search needs
 
--- src/lib.rt:100:1
 same-length : tie.Need-same-length
 same-length c = search needs
 
--- src/lib.rt:100:1
 same-length-2 : tie.Need-same-length-2
 same-length-2 c = search needs
 
--- src/lib.rt:100:1
 returns-2 : tie.Need-returns-2
 returns-2 c = λ rs h. answered-checked rs _ _ _ (c .before .before .before .before .before .before .before .before .before .before .before .if1 .left) (measured-bytes rs _ _ (sym (c .before .before .before .before .before .before .before .before .total .given .1) ∙ c .before .before .before .before .before .before .before .before .before .before .measure .ensures rs h) .0) (c .before .before .before .before .print-checked .ensures rs h)
 
--- src/lib.rt:100:1
 returns-3 : tie.Need-returns-3
 returns-3 c = λ rs h. answered-fault rs _ _ _ (c .before .before .before .before .if1 .left) (sym (c .before .refusal .given .1) ∙ c .before .before .before .measure .ensures rs h)
 

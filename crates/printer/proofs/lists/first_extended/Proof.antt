@@ -1,9 +1,8 @@
-use mathlib.Core.Path.{_≡_, refl, sym, _∙_, ap, subst}
-use Prim.Native.Nat.{ℕ, _+_, _-_, _*_, _/_, _<_, _≤_}
+-- `first_extended`: the invariant is `Extending`, for any rules that the tables hold. Assumes nothing.
+use Prim.Native.Nat.{ℕ, _+_, _-_, _≤_}
 use native.Mathlib.Omega.{arith}
-use borrow.Author.Needs.{needs}
 use mathlib.Core.List.{List}
-use lib.ListN.{length, drop}
+use lib.ListN.{length}
 use denote.Ref.{now}
 use Rattle.automaton.specs.Rule.{Rule}
 use Rattle.lexer.specs.Answers.{Holds}
@@ -31,39 +30,30 @@ some c = c .loop .inv (c .before .before .before .before .before .before .pre .r
 more : (c : tie.Else1 Inv-loop μ-loop) → c .before .before .before .before .before .loop .at + c .before .before .before .read-record .result .len ≤ length (now (c .before .before .before .before .before .before .before .before .before .before .before .args .text))
 more c = extending-within (some (c .before .before .before .before .before)) (held-empty (c .before .before .before .before .before .before .before .before .before .before .before .pre .holds)) (c .before .before .before .before .loop-test .taken) (c .before .before .before .read-record .ensures .0) (c .before .before .choose-at .ensures (c .before .before .before .before .before .before .before .before .before .before .before .pre .rules) (c .before .before .before .before .before .before .before .before .before .before .before .pre .holds))
 
--- src/lists.rt:100:5
 loop-holds : tie.Need-loop-holds Inv-loop μ-loop
 loop-holds c = λ rs pool h l. extending-start l
 
--- src/lists.rt:101:13
 read-record-requires : tie.Need-read-record-requires Inv-loop μ-loop
 read-record-requires c κs = omega (arith, c .loop-test .taken)
 
--- src/lists.rt:103:13
 choose-at-requires : tie.Need-choose-at-requires Inv-loop μ-loop
 choose-at-requires c κs = (record { rules = c .before .before .before .before .before .before .before .before .pre .rules; holds = c .before .before .before .before .before .before .before .before .pre .holds }, some (c .before .before) .within)
 
--- src/lists.rt:105:13
 returns : tie.Need-returns Inv-loop μ-loop
 returns c = λ rs pool h l. extending-found (c .before .before .before .before .before .loop .inv rs pool h l) (held-empty h) (c .before .before .before .before .loop-test .taken) (c .before .before .before .read-record .ensures .0) (c .before .before .choose-at .ensures rs h) (c .if1 .taken)
 
--- src/lists.rt:107:9
 add-at : tie.Need-add-at Inv-loop μ-loop
 add-at c = omega (arith, more c)
 
--- src/lists.rt:108:9
 add-k : tie.Need-add-k Inv-loop μ-loop
 add-k c = omega (arith, c .before .before .before .before .loop-test .taken, c .before .before .before .before .before .before .before .before .before .before .before .good)
 
--- src/lists.rt:100:5
 loop-less : tie.Need-loop-less Inv-loop μ-loop
 loop-less c = omega (arith, c .before .before .before .before .loop-test .taken)
 
--- src/lists.rt:100:5
 loop-again : tie.Need-loop-again Inv-loop μ-loop
 loop-again c = λ rs pool h l. extending-next (c .before .before .before .before .before .loop .inv rs pool h l) (held-empty h) (c .before .before .before .before .loop-test .taken) (c .before .before .before .read-record .ensures .0) (c .before .before .choose-at .ensures rs h) (c .if1 .left)
 
--- src/lists.rt:84:1
 returns-2 : tie.Need-returns-2 Inv-loop μ-loop
 returns-2 c = λ rs pool h l. extending-end (c .before .loop .inv rs pool h l) (c .loop-test .left)
 

@@ -1,10 +1,6 @@
-use mathlib.Core.Path.{_≡_, refl, sym, _∙_, ap, subst}
-use Prim.Native.Nat.{ℕ, _+_, _-_, _*_, _/_, _<_, _≤_}
+-- `join_tokens`: the invariant is `Joining`. Assumes nothing.
+use Prim.Native.Nat.{_-_}
 use native.Mathlib.Omega.{arith}
-use borrow.Author.Needs.{needs}
-use mathlib.Core.List.{List}
-use lib.ListN.{length, drop}
-use denote.Ref.{now}
 use Rattle.lexer.specs.Outcome.{recordCount}
 use Rattle.printer.proofs.Passes.{Joining, joining-start, joining-pool, joining-room, joining-next, joining-end}
 use Rattle.printer.proofs.lists.join_tokens.Statement.{statement}
@@ -20,39 +16,30 @@ Inv-loop records pool out₀ count at₀ k₀ out at k = Joining records pool ou
 abbrev μ-loop : tie.MeasureT-loop
 μ-loop records pool out₀ count at₀ k₀ out at k = recordCount records - k
 
--- src/lists.rt:74:5
 loop-holds : tie.Need-loop-holds Inv-loop μ-loop
 loop-holds c = joining-start _ _ _ (c .before .before .before .pre)
 
--- src/lists.rt:75:13
 read-record-requires : tie.Need-read-record-requires Inv-loop μ-loop
 read-record-requires c κs = omega (arith, c .loop-test .taken)
 
--- src/lists.rt:76:9
 copy-requires : tie.Need-copy-requires Inv-loop μ-loop
 copy-requires c κs = (joining-pool (c .before .before .before .loop .inv) (c .before .before .loop-test .taken) (c .before .read-record .ensures .0), joining-room (c .before .before .before .loop .inv) (c .before .before .loop-test .taken) (c .before .read-record .ensures .0))
 
--- src/lists.rt:77:9
 add-at : tie.Need-add-at Inv-loop μ-loop
 add-at c = omega (arith, joining-room (c .before .before .before .before .before .before .before .loop .inv) (c .before .before .before .before .before .before .loop-test .taken) (c .before .before .before .before .before .read-record .ensures .0), c .before .before .before .before .before .before .before .loop .inv .same, c .before .before .before .before .before .before .before .before .before .before .before .good)
 
--- src/lists.rt:78:9
 add-k : tie.Need-add-k Inv-loop μ-loop
 add-k c = omega (arith, c .before .before .before .before .before .before .loop-test .taken, c .before .before .before .before .before .before .before .before .before .before .before .good)
 
--- src/lists.rt:74:5
 loop-less : tie.Need-loop-less Inv-loop μ-loop
 loop-less c = omega (arith, c .before .before .before .before .before .before .loop-test .taken)
 
--- src/lists.rt:74:5
 loop-again : tie.Need-loop-again Inv-loop μ-loop
 loop-again c = joining-next (c .before .before .before .before .before .before .before .loop .inv) (c .before .before .before .before .before .before .loop-test .taken) (c .before .before .before .before .before .read-record .ensures .0) (c .before .before .before .copy .ensures)
 
--- src/lists.rt:67:1
 same-length : tie.Need-same-length Inv-loop μ-loop
 same-length c = c .before .loop .inv .same
 
--- src/lists.rt:67:1
 returns : tie.Need-returns Inv-loop μ-loop
 returns c = joining-end (c .before .loop .inv) (c .loop-test .left)
 

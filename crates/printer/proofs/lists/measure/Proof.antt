@@ -1,9 +1,7 @@
-use mathlib.Core.Path.{_≡_, refl, sym, _∙_, ap, subst}
-use Prim.Native.Nat.{ℕ, _+_, _-_, _*_, _/_, _<_, _≤_}
+-- `measure`: the invariant is `Measuring`, for any rules that the tables hold. Assumes nothing.
+use Prim.Native.Nat.{_-_}
 use native.Mathlib.Omega.{arith}
-use borrow.Author.Needs.{needs}
 use mathlib.Core.List.{List}
-use lib.ListN.{length, drop}
 use denote.Ref.{now}
 use Rattle.automaton.specs.Rule.{Rule}
 use Rattle.lexer.specs.Answers.{Holds}
@@ -26,39 +24,30 @@ abbrev μ-loop : tie.MeasureT-loop
 some : (c : tie.At-loop Inv-loop μ-loop) → Measuring (c .before .before .before .before .before .before .pre .0 .rules) (now (c .before .before .before .before .before .before .args .records)) (now (c .before .before .before .before .before .before .args .pool)) (c .loop .total) (c .loop .k)
 some c = c .loop .inv (c .before .before .before .before .before .before .pre .0 .rules) (c .before .before .before .before .before .before .pre .0 .holds)
 
--- src/lists.rt:41:5
 loop-holds : tie.Need-loop-holds Inv-loop μ-loop
 loop-holds c = λ rs h. measuring-start rs _ _
 
--- src/lists.rt:42:13
 read-record-requires : tie.Need-read-record-requires Inv-loop μ-loop
 read-record-requires c κs = omega (arith, c .loop-test .taken)
 
--- src/lists.rt:44:13
 token-fault-requires : tie.Need-token-fault-requires Inv-loop μ-loop
 token-fault-requires c κs = (c .before .before .before .before .before .before .before .before .pre .0, c .read-record .ensures .1)
 
--- src/lists.rt:46:13
 returns : tie.Need-returns Inv-loop μ-loop
 returns c = λ rs h. measuring-refused (c .before .before .before .before .loop .inv rs h) (c .before .before .before .loop-test .taken) (c .before .before .read-record .ensures .0) (c .before .token-fault .ensures rs h) (c .if1 .taken)
 
--- src/lists.rt:48:9
 add-total : tie.Need-add-total Inv-loop μ-loop
 add-total c = omega (arith, some (c .before .before .before .before) .few, c .before .before .before .loop-test .taken, c .before .before .before .before .before .before .before .before .before .before .pre .1, c .before .before .read-record .ensures .1 .len-below)
 
--- src/lists.rt:49:9
 add-k : tie.Need-add-k Inv-loop μ-loop
 add-k c = omega (arith, c .before .before .before .loop-test .taken, c .before .before .before .before .before .before .before .before .before .before .pre .1)
 
--- src/lists.rt:41:5
 loop-less : tie.Need-loop-less Inv-loop μ-loop
 loop-less c = omega (arith, c .before .before .before .loop-test .taken)
 
--- src/lists.rt:41:5
 loop-again : tie.Need-loop-again Inv-loop μ-loop
 loop-again c = λ rs h. measuring-next (c .before .before .before .before .loop .inv rs h) (c .before .before .before .loop-test .taken) (c .before .before .read-record .ensures .0) (c .before .token-fault .ensures rs h) (c .if1 .left) (c .before .before .read-record .ensures .1 .len-below)
 
--- src/lists.rt:25:1
 returns-2 : tie.Need-returns-2 Inv-loop μ-loop
 returns-2 c = λ rs h. measuring-end (c .before .loop .inv rs h) (c .loop-test .left)
 

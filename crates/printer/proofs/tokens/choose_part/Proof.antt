@@ -1,7 +1,7 @@
-use mathlib.Core.Path.{_≡_, refl, sym, _∙_, ap, subst}
-use Prim.Native.Nat.{ℕ, _+_, _-_, _*_, _<_, _≤_}
+-- `choose_part`: `choose` of a part of the pool. Assumes nothing.
+use mathlib.Core.Path.{_≡_, subst}
+use Prim.Native.Nat.{ℕ, _+_, _-_}
 use native.Mathlib.Omega.{arith}
-use mathlib.Core.List.{List}
 use lib.ListN.{take, drop}
 use denote.Ref.{now}
 use Rattle.lexer.specs.Answers.{Chooses}
@@ -12,27 +12,21 @@ use Rattle.printer.proofs.tokens.choose_part.Reads as reads
 use Rattle.printer.proofs.tokens.choose_part.Lts as lts
 use Rattle.lexer.proofs.choose.Reads as choose-reads
 
--- src/tokens.rt:81:15
 add-end : tie.Need-add-end
 add-end c = search needs
 
--- src/tokens.rt:82:50
 sub-choose : tie.Need-sub-choose
 sub-choose c = search needs
 
--- src/tokens.rt:82:50
 part-choose-start : tie.Need-part-choose-start
 part-choose-start c = search needs
 
--- src/tokens.rt:82:50
 part-choose-end : tie.Need-part-choose-end
 part-choose-end c = search needs
 
--- src/tokens.rt:82:5
 choose-requires : tie.Need-choose-requires
 choose-requires c κs = search needs
 
--- src/tokens.rt:68:1
 returns : tie.Need-returns
 returns c = λ rs h.
     let a = c .before .before .before .before .before .before .args in

@@ -1,5 +1,5 @@
-use mathlib.Core.Path.{_≡_, refl, sym, _∙_, ap}
-use Prim.Native.Nat.{ℕ, _+_, _-_, _*_, _<_, _≤_}
+-- `four_bytes`: a number below 2^32. Assumes nothing.
+use Prim.Native.Nat.{_+_}
 use native.Mathlib.Omega.{arith}
 use borrow.Author.Needs.{needs}
 use Rattle.printer.proofs.tokens.four_bytes.Statement.{statement}
@@ -8,51 +8,39 @@ use Rattle.printer.proofs.tokens.four_bytes.Reads as reads
 use Rattle.printer.proofs.tokens.four_bytes.Lts as lts
 use Rattle.printer.proofs.tokens.two_bytes.Reads as two-bytes-reads
 
--- src/tokens.rt:32:16
 two-bytes-requires : tie.Need-two-bytes-requires
 two-bytes-requires c κs = search needs
 
--- src/tokens.rt:33:23
 add-third : tie.Need-add-third
 add-third c = search needs
 
--- src/tokens.rt:33:17
 shared-slice-read-third : tie.Need-shared-slice-read-third
 shared-slice-read-third c = search needs
 
--- src/tokens.rt:33:17
 cast-third : tie.Need-cast-third
 cast-third c = omega (arith, c .shared-slice-known2 .given (c .before .before .before .args .at + 2))
 
--- src/tokens.rt:34:22
 add-last : tie.Need-add-last
 add-last c = search needs
 
--- src/tokens.rt:34:16
 shared-slice-read-last : tie.Need-shared-slice-read-last
 shared-slice-read-last c = search needs
 
--- src/tokens.rt:34:16
 cast-last : tie.Need-cast-last
 cast-last c = omega (arith, c .shared-slice-known3 .given (c .before .before .before .before .args .at + 3))
 
--- src/tokens.rt:35:6
 mul-result : tie.Need-mul-result
 mul-result c = search needs
 
--- src/tokens.rt:35:6
 add-result : tie.Need-add-result
 add-result c = omega (arith, c .before .before .two-bytes .ensures .1, c .before .shared-slice-known2 .given (c .before .before .before .before .args .at + 2), c .shared-slice-known3 .given (c .before .before .before .before .args .at + 3))
 
--- src/tokens.rt:35:5
 mul-result-2 : tie.Need-mul-result-2
 mul-result-2 c = omega (arith, c .before .before .two-bytes .ensures .1, c .before .shared-slice-known2 .given (c .before .before .before .before .args .at + 2), c .shared-slice-known3 .given (c .before .before .before .before .args .at + 3))
 
--- src/tokens.rt:35:5
 add-result-2 : tie.Need-add-result-2
 add-result-2 c = omega (arith, c .before .before .two-bytes .ensures .1, c .before .shared-slice-known2 .given (c .before .before .before .before .args .at + 2), c .shared-slice-known3 .given (c .before .before .before .before .args .at + 3))
 
--- src/tokens.rt:28:1
 returns : tie.Need-returns
 returns c = (rw (c .before .before .two-bytes .ensures .0), omega (arith, c .before .before .two-bytes .ensures .1, c .before .shared-slice-known2 .given (c .before .before .before .before .args .at + 2), c .shared-slice-known3 .given (c .before .before .before .before .args .at + 3)))
 

@@ -1,0 +1,79 @@
+-- The words of the demands.
+use mathlib.Core.Path.{_≡_}
+use Prim.Native.Nat.{ℕ, _*_, _<_, _≤_}
+use mathlib.Core.Bool.{true, false}
+use mathlib.Core.List.{List, [], _∷_, _++_}
+use lib.ListN.{length, take, drop}
+use Rattle.automaton.specs.Choice.{All}
+use Rattle.automaton.specs.Rule.{Rule, matches}
+use Rattle.book.specs.Reading.{accepted, readBook}
+use Rattle.lexer.specs.declared.LexAnswer.the-variants as lexed
+use Rattle.lexer.specs.Lexer.{Token, join}
+use Rattle.lexer.specs.Outcome.{maxText, recordCount, lexOutcome}
+use Rattle.printer.specs.declared.PrintAnswer.the-variants as print
+use Rattle.printer.specs.Tokens.{recordsOf, tokensOf}
+use Rattle.printer.specs.Checks.{aloneIn}
+use Rattle.printer.specs.Outcome.{maxTokens, printOutcome}
+use Rattle.printer.specs.Answers.{InPool}
+
+-- ---- the operations
+
+-- a book, as every caller has it, is a run of bytes
+abbrev pub Bytes : List ℕ → Type 0
+Bytes w = All (λ (b : ℕ). b < 256) w
+
+-- "every book that is accepted", and its rules
+pub record Book (book : List ℕ) (rules : List Rule) : Type 0 where
+  pub bytes : Bytes book
+  pub reads : readBook book ≡ accepted rules
+
+-- a cut that is accepted: it reports n tokens and the place of the rest
+abbrev pub Lexes : List ℕ → List ℕ → List ℕ → ℕ → ℕ → Type 0
+Lexes book text room n place = (lexOutcome book text room) .answer ≡ lexed.Lexed n place
+
+-- the records that it stores in the room lent to it
+abbrev pub stored : List ℕ → List ℕ → List ℕ → ℕ → List ℕ
+stored book text room n = take (10 * n) ((lexOutcome book text room) .records)
+
+-- a list that the plain printer accepts: it reports n bytes
+abbrev pub Prints : List ℕ → List ℕ → List ℕ → List ℕ → ℕ → Type 0
+Prints book records pool out n = (printOutcome book records pool out) .answer ≡ print.Printed n
+
+-- "The bytes written are the output's bytes below the reported count."
+abbrev pub written : List ℕ → List ℕ → List ℕ → List ℕ → ℕ → List ℕ
+written book records pool out n = take n ((printOutcome book records pool out) .out)
+
+-- "Space and size limits apart": in none of the cases of 16, 17, 20 and 22
+pub record Unlimited (records pool out : List ℕ) : Type 0 where
+  pub few : recordCount records ≤ maxTokens
+  pub inside : All (InPool pool) (recordsOf records)
+  pub short : length (join (tokensOf records pool)) ≤ maxText
+  pub room : length (join (tokensOf records pool)) ≤ length out
+
+-- ---- matching
+
+-- no rule matches w
+abbrev pub Unmatched : List Rule → List ℕ → Type 0
+Unmatched rules w = All (λ (q : Rule). matches q w ≡ false) rules
+
+-- the first token of a text is the longest stretch that some rule matches, by the earliest such rule
+pub record Longest (rules : List Rule) (text : List ℕ) (t : Token) : Type 0 where
+  pub here : take (length t.bytes) text ≡ t.bytes
+  pub some-byte : 0 < length t.bytes
+  pub earliest : aloneIn rules t.tag t.bytes ≡ true
+  pub longest : (n : ℕ) → length t.bytes < n → n ≤ length text → Unmatched rules (take n text)
+
+-- The longest-match rule: "at each place the longest stretch that some rule matches, the earliest such rule on a tie, until no rule
+-- matches".
+abbrev pub LongestMatch : List Rule → List ℕ → List Token → List ℕ → Type 0
+LongestMatch rules text [] rest = (text ≡ rest) × ((n : ℕ) → 0 < n → n ≤ length text → Unmatched rules (take n text))
+LongestMatch rules text (t ∷ ts) rest = Longest rules text t × LongestMatch rules (drop (length t.bytes) text) ts rest
+
+-- "each token alone is cut as itself and no rule matches a token's bytes plus a non-empty beginning of what is written after it", which
+-- is "the bytes of all later tokens joined"
+abbrev pub Separable : List Rule → List Token → Type 0
+Separable rules [] = Unit {0}
+Separable rules (t ∷ ts) =
+    (aloneIn rules t.tag t.bytes ≡ true)
+    × ((n : ℕ) → 0 < n → n ≤ length (join ts) → Unmatched rules (t.bytes ++ take n (join ts)))
+    × Separable rules ts

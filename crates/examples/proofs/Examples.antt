@@ -1,0 +1,14 @@
+-- Every example of the table is right, by computation. Assumes nothing.
+use mathlib.Core.Path.{refl}
+use Rattle.automaton.specs.Rule.{target, walk, matches, overlaps}
+use Rattle.book.specs.Commands.{placed, operandsOf, decode, commandAt}
+use Rattle.book.specs.Reading.{check, move, apply, readFrom, readBook}
+use Rattle.lexer.specs.Lexer.{firstMatch, chooseWithin, choose, lexFor, lex}
+use Rattle.lexer.specs.Records.{recordsAt}
+use Rattle.lexer.specs.Outcome.{lexRules, lexOutcome}
+use Rattle.listing.specs.Lines.{decimalFor, decimal, lastTwo, tokenLine, restLine, refusedLine, recordLine, recordLines, listing}
+use Rattle.examples.specs.Table.{table, Examples}
+
+pub examples : Examples
+unfolding table target walk matches overlaps placed operandsOf decode commandAt check move apply readFrom readBook firstMatch chooseWithin choose lexFor lex recordsAt lexRules lexOutcome decimalFor decimal lastTwo tokenLine restLine refusedLine recordLine recordLines listing
+examples = (refl, (refl, (refl, (refl, (refl, (refl, (refl, (refl, tt))))))))

@@ -1,0 +1,2 @@
+-- The examples, proved.
+pub mod Examples

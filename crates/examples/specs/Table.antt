@@ -1,0 +1,78 @@
+-- The table of examples: a book's bytes, what is asked, and what document 01 says it gives.
+use mathlib.Core.Path.{_≡_}
+use Prim.Native.Nat.{ℕ, _-_}
+use mathlib.Core.List.{List, [], _∷_}
+use lib.ListN.{length, replicate}
+use Rattle.automaton.specs.Choice.{All}
+use Rattle.book.specs.Reading.{Reading, accepted, refused, readBook}
+use Rattle.lexer.specs.Lexer.{Token, Lexed, lex}
+use Rattle.listing.specs.Lines.{listing, recordBytes}
+use Rattle.examples.specs.Books.{bookA, bookB, bookC}
+
+-- what is asked of a book
+pub data Question : Type 0 where
+  -- the cut of a text
+  cut : List ℕ → Question
+  -- what cutlist prints of a text
+  lines : List ℕ → Question
+
+-- what it gives
+pub data Result : Type 0 where
+  -- the tokens and the place of the rest
+  tokens : List Token → ℕ → Result
+  -- bytes that are written
+  bytes : List ℕ → Result
+  -- a refusal's number and place
+  refusal : ℕ → ℕ → Result
+
+abbrev pub cutResult : Lexed → List ℕ → Result
+cutResult c text = tokens (c .tokens) (length text - length (c .rest))
+
+abbrev pub cutBy : Reading → List ℕ → Result
+cutBy (refused number place) text = refusal number place
+cutBy (accepted rules) text = cutResult (lex rules text) text
+
+abbrev pub result : List ℕ → Question → Result
+result book (cut text) = cutBy (readBook book) text
+result book (lines text) = bytes (listing book text (replicate recordBytes 0))
+
+pub record Example : Type 0 where
+  pub book : List ℕ
+  pub question : Question
+  pub gives : Result
+
+-- the common claim
+abbrev pub Right : Example → Type 0
+Right e = result (e .book) (e .question) ≡ e .gives
+
+abbrev token : ℕ → List ℕ → Token
+token tag w = record { tag = tag; bytes = w }
+
+abbrev row : List ℕ → Question → Result → Example
+row book question gives = record { book = book; question = question; gives = gives }
+
+-- 97 is "a", 98 "b", 99 "c", 100 "d", 102 "f", 105 "i"
+unfoldable pub table : List Example
+table =
+    -- "" gives no token, rest at 0
+    row bookA (cut []) (tokens [] 0)
+    -- "abc" gives 1 "abc"
+    ∷ row bookA (cut (97 ∷ 98 ∷ 99 ∷ [])) (tokens (token 1 (97 ∷ 98 ∷ 99 ∷ []) ∷ []) 3)
+    -- "ab" gives 1 "a", 2 "b"
+    ∷ row bookA (cut (97 ∷ 98 ∷ [])) (tokens (token 1 (97 ∷ []) ∷ token 2 (98 ∷ []) ∷ []) 2)
+    -- "d" gives none, rest at 0
+    ∷ row bookA (cut (100 ∷ [])) (tokens [] 0)
+    -- "abd": 1 "a", 2 "b", rest at 2
+    ∷ row bookA (cut (97 ∷ 98 ∷ 100 ∷ [])) (tokens (token 1 (97 ∷ []) ∷ token 2 (98 ∷ []) ∷ []) 2)
+    -- the lines "0 1 0 1", "1 2 1 1", "rest 2 1"
+    ∷ row bookA (lines (97 ∷ 98 ∷ 100 ∷ []))
+    (bytes (48 ∷ 32 ∷ 49 ∷ 32 ∷ 48 ∷ 32 ∷ 49 ∷ 10 ∷ 49 ∷ 32 ∷ 50 ∷ 32 ∷ 49 ∷ 32 ∷ 49 ∷ 10 ∷ 114 ∷ 101 ∷ 115 ∷ 116 ∷ 32 ∷ 50 ∷ 32 ∷ 49 ∷ 10 ∷ []))
+    -- "abc" gives 1 "ab", rest at 2
+    ∷ row bookB (cut (97 ∷ 98 ∷ 99 ∷ [])) (tokens (token 1 (97 ∷ 98 ∷ []) ∷ []) 2)
+    -- "if" gives 1
+    ∷ row bookC (cut (105 ∷ 102 ∷ [])) (tokens (token 1 (105 ∷ 102 ∷ []) ∷ []) 2)
+    ∷ []
+
+-- every example is right
+abbrev pub Examples : Type 0
+Examples = All Right table

@@ -1,0 +1,2 @@
+-- The lines of the program cutlist.
+pub mod Lines

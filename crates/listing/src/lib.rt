@@ -1,0 +1,169 @@
+// The lines of the program cutlist, written into a lent buffer.
+ghost use mathlib.Core.Path.{_≡_};
+ghost use mathlib.Core.List.{_++_, _∷_, []};
+ghost use Prim.Native.Nat.{_+_, _*_, _≤_, _<_};
+ghost use lib.ListN.{length, drop};
+ghost use Rattle.lexer.specs.Outcome.{lexOutcome};
+ghost use Rattle.listing.specs.Lines.{decimal, field, lastTwo, tokenLine, restLine, refusedLine, twoAt, fourAt, recordLine, recordLines, recordBytes, outputBytes, linesOf, listing, Fit, Room, Puts};
+use lexer::LexAnswer;
+
+// The bytes of the 6,000 records that are lent to `list`, and of the output, which no listing passes.
+pub const RECORD_BYTES: usize = 60000;
+
+pub const OUTPUT_BYTES: usize = 144024;
+
+const BLANK: u8 = b' ';
+
+const LINE_END: u8 = b'\n';
+
+// Each `put` writes from `at` on and answers the place behind what it wrote.
+
+fn put_byte(out: &mut [u8], at: usize, byte: u8) -> usize
+    requires { ⌜ Room at (byte ∷ []) (now out) ⌝ }
+    ensures { λ r. ⌜ Puts (now (out .entry)) at (byte ∷ []) r (now (out .exit)) ⌝ }
+{
+    out[at] = byte;
+    at + 1
+}
+
+// A number in decimal.
+fn put_decimal(out: &mut [u8], at: usize, n: usize) -> usize
+    requires { ⌜ Room at (decimal n) (now out) ⌝ }
+    ensures { λ r. ⌜ Puts (now (out .entry)) at (decimal n) r (now (out .exit)) ⌝ }
+{
+    if n < 10 {
+        return put_byte(out, at, 48 + n as u8);
+    }
+    let last = put_decimal(out, at, n / 10);
+    put_byte(out, last, 48 + (n % 10) as u8)
+}
+
+// A number and the byte behind it.
+fn put_field(out: &mut [u8], at: usize, n: usize, after: u8) -> usize
+    requires { ⌜ Room at (field n after) (now out) ⌝ }
+    ensures { λ r. ⌜ Puts (now (out .entry)) at (field n after) r (now (out .exit)) ⌝ }
+{
+    let end = put_decimal(out, at, n);
+    put_byte(out, end, after)
+}
+
+fn put_word(out: &mut [u8], at: usize, word: &[u8]) -> usize
+    requires { ⌜ Room at (now word) (now out) ⌝ }
+    ensures { λ r. ⌜ Puts (now (out .entry)) at (now (word .entry)) r (now (out .exit)) ⌝ }
+{
+    let mut i = 0;
+    while i < word.len() {
+        out[at + i] = word[i];
+        i += 1;
+    }
+    at + i
+}
+
+// The two numbers that end a line.
+fn put_last_two(out: &mut [u8], at: usize, a: usize, b: usize) -> usize
+    requires { ⌜ Room at (lastTwo a b) (now out) ⌝ }
+    ensures { λ r. ⌜ Puts (now (out .entry)) at (lastTwo a b) r (now (out .exit)) ⌝ }
+{
+    let next = put_field(out, at, a, BLANK);
+    put_field(out, next, b, LINE_END)
+}
+
+fn put_token(
+    out: &mut [u8],
+    at: usize,
+    number: usize,
+    tag: usize,
+    place: usize,
+    len: usize,
+) -> usize
+    requires { ⌜ Room at (tokenLine number tag place len) (now out) ⌝ }
+    ensures { λ r. ⌜ Puts (now (out .entry)) at (tokenLine number tag place len) r (now (out .exit)) ⌝ }
+{
+    let second = put_field(out, at, number, BLANK);
+    let third = put_field(out, second, tag, BLANK);
+    put_last_two(out, third, place, len)
+}
+
+fn put_rest(out: &mut [u8], at: usize, place: usize, len: usize) -> usize
+    requires { ⌜ Room at (restLine place len) (now out) ⌝ }
+    ensures { λ r. ⌜ Puts (now (out .entry)) at (restLine place len) r (now (out .exit)) ⌝ }
+{
+    let next = put_word(out, at, b"rest ");
+    put_last_two(out, next, place, len)
+}
+
+fn put_refused(out: &mut [u8], at: usize, number: usize, place: usize) -> usize
+    requires { ⌜ Room at (refusedLine number place) (now out) ⌝ }
+    ensures { λ r. ⌜ Puts (now (out .entry)) at (refusedLine number place) r (now (out .exit)) ⌝ }
+{
+    let next = put_word(out, at, b"refused ");
+    put_last_two(out, next, number, place)
+}
+
+// The number of two bytes at a place, high byte first.
+fn two(bytes: &[u8], at: usize) -> usize
+    requires { ⌜ at + 2 ≤ length (now bytes) ⌝ }
+    ensures { λ r. ⌜ (r ≡ twoAt (now (bytes .entry)) at) × (r < 65536) ⌝ }
+{
+    (bytes[at] as usize) * 256 + (bytes[at + 1] as usize)
+}
+
+fn four(bytes: &[u8], at: usize) -> usize
+    requires { ⌜ at + 4 ≤ length (now bytes) ⌝ }
+    ensures { λ r. ⌜ r ≡ fourAt (now (bytes .entry)) at ⌝ }
+{
+    two(bytes, at) * 65536 + two(bytes, at + 2)
+}
+
+// The line of record number `k`.
+fn put_record(out: &mut [u8], at: usize, records: &[u8], k: usize) -> usize
+    requires { ⌜ 10 * k + 10 ≤ length (now records) ⌝ }
+    requires { ⌜ Room at (recordLine (now records) k) (now out) ⌝ }
+    ensures { λ r. ⌜ Puts (now (out .entry)) at (recordLine (now (records .entry)) k) r (now (out .exit)) ⌝ }
+{
+    let tag = two(records, 10 * k);
+    let place = four(records, 10 * k + 2);
+    let len = four(records, 10 * k + 6);
+    put_token(out, at, k, tag, place, len)
+}
+
+// The lines of the first `n` records, from the start of `out`.
+fn put_records(out: &mut [u8], records: &[u8], n: usize) -> usize
+    requires { ⌜ 10 * n ≤ length (now records) ⌝ }
+    requires { ⌜ Room 0 (recordLines (now records) n) (now out) ⌝ }
+    ensures { λ r. ⌜ Puts (now (out .entry)) 0 (recordLines (now (records .entry)) n) r (now (out .exit)) ⌝ }
+{
+    let mut at = 0;
+    let mut k = 0;
+    while k < n {
+        at = put_record(out, at, records, k);
+        k += 1;
+    }
+    at
+}
+
+// The lines of an answer and the records beside it, for a text of `len` bytes.
+fn put_lines(out: &mut [u8], answer: LexAnswer, records: &[u8], len: usize) -> usize
+    requires { ⌜ Fit answer (now records) len (now out) ⌝ }
+    ensures { λ r. ⌜ Puts (now (out .entry)) 0 (linesOf answer (now (records .entry)) len) r (now (out .exit)) ⌝ }
+{
+    match answer {
+        LexAnswer::Lexed { tokens, rest } => {
+            let at = put_records(out, records, tokens);
+            put_rest(out, at, rest, len - rest)
+        }
+        LexAnswer::Refused(refusal) => put_refused(out, 0, refusal.number as usize, refusal.place),
+    }
+}
+
+// Cuts `text` by the rules of a book, with the records lent, and writes the lines of the outcome from the start of `out`;
+// answers how many bytes they are.
+pub fn list(book: &[u8], text: &[u8], records: &mut [u8], out: &mut [u8]) -> usize
+    requires { ⌜ (length (now records) ≡ recordBytes) × (length (now out) ≡ outputBytes) ⌝ }
+    ensures { λ r. ⌜ r ≡ length (listing (now (book .entry)) (now (text .entry)) (now (records .entry))) ⌝ }
+    ensures { λ r. ⌜ now (records .exit) ≡ (lexOutcome (now (book .entry)) (now (text .entry)) (now (records .entry))) .records ⌝ }
+    ensures { λ r. ⌜ now (out .exit) ≡ listing (now (book .entry)) (now (text .entry)) (now (records .entry)) ++ drop r (now (out .entry)) ⌝ }
+{
+    let answer = lexer::operation::lex(book, text, records);
+    put_lines(out, answer, records, text.len())
+}
