@@ -1,7 +1,8 @@
 -- How the answers of the code come to the outcome of document 01. Assumes nothing.
-use mathlib.Core.Path.{_≡_, refl, sym, _∙_, ap, subst}
-use Prim.Native.Nat.{ℕ, _-_, _*_, _/_, _<_, _≤_}
-use mathlib.Core.List.{List, _++_}
+use mathlib.Core.Path.{_≡_, refl, sym, _∙_, ap}
+use Prim.Native.Nat.{ℕ, _-_, _<_, _≤_}
+use mathlib.Core.Bool.{Bool, true, false}
+use mathlib.Core.List.{List}
 use native.Mathlib.Omega.{arith}
 use lib.Dec.{ltb}
 use lib.ListN.{length, take, drop, length-drop}
@@ -9,7 +10,6 @@ use lib.Seq.{take-all}
 use borrow.Author.Tests.{lt-ltb, le-ltb}
 use Rattle.automaton.specs.Choice.{if}
 use Rattle.automaton.specs.Rule.{Rule}
-use Rattle.automaton.specs.Tables.{Tables}
 use Rattle.book.specs.declared.refusal.Refusal.{Refusal}
 use Rattle.book.specs.declared.BookAnswer.{BookAnswer}
 use Rattle.book.specs.declared.BookAnswer.the-variants as book
@@ -19,7 +19,7 @@ use Rattle.lexer.specs.declared.LexAnswer.{LexAnswer}
 use Rattle.lexer.specs.declared.LexAnswer.the-variants as lexed
 use Rattle.lexer.specs.Lexer.{lex}
 use Rattle.lexer.specs.Answers.{Holds, Held, Cuts, Room, Fills}
-use Rattle.lexer.specs.Outcome.{maxText, recordCount, lexRules, lexReading, lexOutcome, Answered, restRules, restReading, restOf, RestAt}
+use Rattle.lexer.specs.Outcome.{maxText, recordCount, lexRefused, lexAccepted, lexRules, lexReading, lexOutcome, Answered, restRules, restReading, restOf, RestAt}
 use Rattle.lexer.proofs.Lexing.{lex-few, lex-lengths, rest-drop}
 
 -- ---- by rules
@@ -113,3 +113,27 @@ module _ (rules : List Rule) (text : List ℕ) where
 -- the part of the text from there on is the rest
 pub rest-part : {text rest : List ℕ} {at : ℕ} → RestAt text at rest → take (length text - at) (drop at text) ≡ rest
 rest-part {text} {rest} {at} r = take-all (length text - at) (drop at text) (omega (arith, length-drop at text)) ∙ r .tail
+
+-- ---- both calls agree
+
+-- Where a text is cut, `restOf` is its part from the place that the answer reports.
+pub rest-agrees : (book text records : List ℕ) (tokens rest : ℕ) → (lexOutcome book text records) .answer ≡ lexed.Lexed tokens rest
+    → restOf book text ≡ drop rest text
+unfolding lexOutcome lexRules restOf
+rest-agrees book text records tokens rest e = by (readBook book) e
+  where
+    refused-not : {f : Refusal} {A : Type 0} → lexed.Refused f ≡ lexed.Lexed tokens rest → A
+    refused-not q = let z : _≡_ {A = ℕ} 0 1 = cc in absurd (omega arith)
+
+    rules-agree : (rules : List Rule) (t u : Bool)
+        → (if t (lexRefused 14 0 records) (if u (lexRefused 15 (length ((lex rules text) .tokens)) records) (lexAccepted (lex rules text) text records))) .answer ≡ lexed.Lexed tokens rest
+        → if t text ((lex rules text) .rest) ≡ drop rest text
+    rules-agree rules true u q = refused-not q
+    rules-agree rules false true q = refused-not q
+    rules-agree rules false false q =
+        let z : length text - length ((lex rules text) .rest) ≡ rest = cc in
+        rest-drop rules text ∙ ap (λ (n : ℕ). drop n text) z
+
+    by : (o : Reading) → (lexReading o text records) .answer ≡ lexed.Lexed tokens rest → restReading o text ≡ drop rest text
+    by (refused number place) q = refused-not q
+    by (accepted rules) q = rules-agree rules (ltb maxText (length text)) (ltb (recordCount records) (length ((lex rules text) .tokens))) q

@@ -66,7 +66,7 @@ four-is bytes i n l a b c d =
 
 module _ (ts : List Token) (more : List ℕ) (k : ℕ) (l : k < length ts) where
   -- byte number j of record number k
-  byte-at : (j : ℕ) → j < 10
+  pub byte-at : (j : ℕ) → j < 10
       → getD (recordsAt 0 ts ++ more) (10 * k + j) 0 ≡ getD (recordOf ((tokenAt ts k) .tag) (placeAt ts k) (length ((tokenAt ts k) .bytes))) j 0
   byte-at j m =
       List·getD-append (recordsAt 0 ts) more 0 (10 * k + j) (omega (arith, length-records ts 0))
@@ -77,12 +77,12 @@ module _ (ts : List Token) (more : List ℕ) (k : ℕ) (l : k < length ts) where
   tag-below : twoAt (recordsAt 0 ts ++ more) (10 * k) < 65536
   tag-below = let z = rw add-zero at (byte-at 0 (omega arith)) in omega (arith, byte-at 1 (omega arith))
 
-  place-is : placeAt ts k < 4294967296 → fourAt (recordsAt 0 ts ++ more) (10 * k + 2) ≡ placeAt ts k
+  pub place-is : placeAt ts k < 4294967296 → fourAt (recordsAt 0 ts ++ more) (10 * k + 2) ≡ placeAt ts k
   place-is m =
       four-is (recordsAt 0 ts ++ more) (10 * k + 2) (placeAt ts k) m (byte-at 2 (omega arith)) (rw add-assoc (byte-at 3 (omega arith)))
       (rw add-assoc (byte-at 4 (omega arith))) (rw add-assoc (byte-at 5 (omega arith)))
 
-  length-is : length ((tokenAt ts k) .bytes) < 4294967296 → fourAt (recordsAt 0 ts ++ more) (10 * k + 6) ≡ length ((tokenAt ts k) .bytes)
+  pub length-is : length ((tokenAt ts k) .bytes) < 4294967296 → fourAt (recordsAt 0 ts ++ more) (10 * k + 6) ≡ length ((tokenAt ts k) .bytes)
   length-is m =
       four-is (recordsAt 0 ts ++ more) (10 * k + 6) (length ((tokenAt ts k) .bytes)) m (byte-at 6 (omega arith)) (rw add-assoc (byte-at 7 (omega arith)))
       (rw add-assoc (byte-at 8 (omega arith))) (rw add-assoc (byte-at 9 (omega arith)))

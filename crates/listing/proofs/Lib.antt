@@ -2,3 +2,4 @@
 pub mod Putting
 pub mod Listing
 pub mod Bounds
+pub mod Tokens

@@ -8,6 +8,7 @@ use lib.ListN.{length, take, drop, getD}
 use Rattle.automaton.specs.Choice.{if}
 use Rattle.lexer.specs.declared.LexAnswer.{LexAnswer}
 use Rattle.lexer.specs.declared.LexAnswer.the-variants.{Lexed, Refused}
+use Rattle.lexer.specs.Lexer.{Token}
 use Rattle.lexer.specs.Outcome.{lexOutcome}
 
 -- ---- numbers
@@ -39,6 +40,11 @@ lastTwo a b = field a blank ++ field b lineEnd
 
 unfoldable pub tokenLine : ℕ → ℕ → ℕ → ℕ → List ℕ
 tokenLine number tag place len = field number blank ++ field tag blank ++ lastTwo place len
+
+-- the lines of tokens that lie one behind the other, the first of them at `place`
+unfoldable pub tokenLines : ℕ → ℕ → List Token → List ℕ
+tokenLines number place [] = []
+tokenLines number place (t ∷ ts) = tokenLine number t.tag place (length t.bytes) ++ tokenLines (number + 1) (place + length t.bytes) ts
 
 -- "rest " and "refused "
 abbrev pub restWord : List ℕ

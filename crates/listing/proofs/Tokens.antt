@@ -1,0 +1,122 @@
+-- What is printed of an accepted cut is a line for each of its tokens, and the rest. Assumes nothing.
+use mathlib.Core.Path.{_≡_, refl, sym, _∙_, ap, subst}
+use Prim.Native.Nat.{ℕ, zero, suc, _+_, _-_, _*_, _<_, _≤_}
+use mathlib.Core.Option.{Option, none, some}
+use mathlib.Core.List.{List, [], _∷_, _++_, append-assoc, append-nil}
+use native.Mathlib.Omega.{arith}
+use native.Mathlib.Nat.{add-zero, zero-add}
+use lib.ListN.{length, getD, take, drop, length-append}
+use lib.Seq.{take-suc, take-length, length-take-le}
+use borrow.Author.Tests.{le-ltb}
+use Rattle.automaton.specs.Choice.{All}
+use Rattle.automaton.specs.Rule.{Rule}
+use Rattle.book.specs.Commands.{byteAt}
+use Rattle.book.specs.Reading.{accepted, readBook}
+use Rattle.book.specs.Valid.{ValidRule}
+use Rattle.book.proofs.Accepted.{accepted-valid}
+use Rattle.lexer.specs.Lexer.{Token, Found, Lexed, choose, proceed, lexFor, lex, join}
+use Rattle.lexer.specs.Records.{recordsAt}
+use Rattle.lexer.specs.Outcome.{maxText, recordCount, lexRules, lexOutcome}
+use Rattle.lexer.proofs.Choosing.{choose-some}
+use Rattle.lexer.proofs.Lexing.{lex-lengths}
+use Rattle.lexer.proofs.Records.{tokenAt, placeAt, laid-within, two-value}
+use Rattle.listing.specs.Lines.{tokenLine, tokenLines, restLine, twoAt, recordLine, recordLines, listing}
+use Rattle.listing.proofs.Bounds.{byte-at, place-is, length-is}
+
+-- ---- a token more
+
+join-snoc : (ts : List Token) (t : Token) → join (ts ++ (t ∷ [])) ≡ join ts ++ t.bytes
+join-snoc [] t = append-nil t.bytes
+join-snoc (u ∷ ts) t = rw (join-snoc ts t, append-assoc)
+
+lines-snoc : (number place : ℕ) (ts : List Token) (t : Token)
+    → tokenLines number place (ts ++ (t ∷ [])) ≡ tokenLines number place ts ++ tokenLine (number + length ts) t.tag (place + length (join ts)) (length t.bytes)
+unfolding tokenLines
+lines-snoc number place [] t = rw (append-nil, add-zero number, add-zero place)
+lines-snoc number place (u ∷ ts) t =
+    let a : number + 1 + length ts ≡ number + suc (length ts) = omega arith in
+    let b : place + length u.bytes + length (join ts) ≡ place + length (u.bytes ++ join ts) = omega (arith, length-append u.bytes (join ts)) in
+    rw (lines-snoc (number + 1) (place + length u.bytes) ts t, a, b, append-assoc)
+
+-- ---- the records of tokens
+
+module _ (ts : List Token) (more : List ℕ) (small : length (join ts) < 4294967296) (tags : (k : ℕ) → k < length ts → (tokenAt ts k) .tag < 65536) where
+  abbrev filled : List ℕ
+  filled = recordsAt 0 ts ++ more
+
+  tag-is : (k : ℕ) → k < length ts → twoAt filled (10 * k) ≡ (tokenAt ts k) .tag
+  tag-is k l = rw (rw add-zero at (byte-at ts more k l 0 (omega arith)), byte-at ts more k l 1 (omega arith)) (two-value ((tokenAt ts k) .tag) (tags k l))
+
+  line-is : (k : ℕ) → k < length ts → recordLine filled k ≡ tokenLine k ((tokenAt ts k) .tag) (placeAt ts k) (length ((tokenAt ts k) .bytes))
+  unfolding recordLine
+  line-is k l =
+      let w = laid-within ts k l in
+      rw (tag-is k l, place-is ts more k l (omega arith), length-is ts more k l (omega arith))
+
+  lines-are : (k : ℕ) → k ≤ length ts → recordLines filled k ≡ tokenLines 0 0 (take k ts)
+  unfolding recordLines tokenLines
+  lines-are zero l = refl
+  lines-are (suc k) l =
+      let n : length (take k ts) ≡ k = length-take-le k ts (omega arith) in
+      ap (λ (x : List ℕ). x ++ recordLine filled k) (lines-are k (omega arith))
+      ∙ ap (λ (x : List ℕ). tokenLines 0 0 (take k ts) ++ x) (line-is k (omega arith))
+      ∙ sym (rw (take-suc ts k (tokenAt [] 0) (omega arith)) (rw (lines-snoc 0 0 (take k ts) (tokenAt ts k), n, zero-add k, zero-add (placeAt ts k))))
+
+  pub token-lines : recordLines filled (length ts) ≡ tokenLines 0 0 ts
+  token-lines = lines-are (length ts) (omega arith) ∙ rw take-length
+
+-- ---- tags
+
+abbrev TagBelow : Token → Type 0
+TagBelow t = t.tag < 65536
+
+all-at : {A : Type 0} (P : A → Type 0) (xs : List A) (y : A) (ys : List A) → All P (xs ++ y ∷ ys) → P y
+all-at P [] y ys (p, h) = p
+all-at P (x ∷ xs) y ys (p, h) = all-at P xs y ys h
+
+all-get : {A : Type 0} (P : A → Type 0) (xs : List A) (d : A) → All P xs → (k : ℕ) → k < length xs → P (getD xs k d)
+all-get P [] d h k l = absurd (omega arith)
+all-get P (x ∷ xs) d (p, h) zero l = p
+all-get P (x ∷ xs) d (p, h) (suc k) l = all-get P xs d h k (omega arith)
+
+all-tags : (rules : List Rule) → All ValidRule rules → All (λ (r : Rule). r.tag < 65536) rules
+all-tags [] h = tt
+all-tags (r ∷ rs) (v, h) = (v .tag-below, all-tags rs h)
+
+tags-proceed : (rules : List Rule) (text : List ℕ) (o : Option Found) → choose rules text ≡ o → All (λ (r : Rule). r.tag < 65536) rules → (go : List ℕ → Lexed)
+    → ((x : List ℕ) → All TagBelow ((go x) .tokens)) → All TagBelow ((proceed o text go) .tokens)
+tags-proceed rules text none e h go ih = tt
+tags-proceed rules text (some f) e h go ih =
+    let c = choose-some rules text f e .earliest in
+    let p = all-at (λ (r : Rule). r.tag < 65536) c.before c.rule c.behind (subst (All (λ (r : Rule). r.tag < 65536)) c.splits h) in
+    (rw c.tagged at p, ih f.rest)
+
+tagsFor : (rules : List Rule) → All (λ (r : Rule). r.tag < 65536) rules → (n : ℕ) (text : List ℕ) → All TagBelow ((lexFor n rules text) .tokens)
+unfolding lexFor
+tagsFor rules h zero text = tt
+tagsFor rules h (suc n) text = tags-proceed rules text _ refl h _ (tagsFor rules h n)
+
+lex-tags : (rules : List Rule) → All (λ (r : Rule). r.tag < 65536) rules → (text : List ℕ) → All TagBelow ((lex rules text) .tokens)
+unfolding lex
+lex-tags rules h text = tagsFor rules h (length text) text
+
+-- ---- the whole
+
+-- For an accepted book, and a text and records within their limits: "a line per token (number, tag, place, length)" and the rest.
+pub listing-lexed : (book text records : List ℕ) (rules : List Rule) → ((i : ℕ) → byteAt book i < 256) → readBook book ≡ accepted rules
+    → length text ≤ maxText → length ((lex rules text) .tokens) ≤ recordCount records
+    → listing book text records
+    ≡ tokenLines 0 0 ((lex rules text) .tokens) ++ restLine (length text - length ((lex rules text) .rest)) (length ((lex rules text) .rest))
+unfolding listing lexOutcome lexRules
+listing-lexed book text records rules byte e small few =
+    let j = lex-lengths rules text in
+    let r : length text - (length text - length ((lex rules text) .rest)) ≡ length ((lex rules text) .rest) = omega arith in
+    let tags = lex-tags rules (all-tags rules (accepted-valid book rules byte e .rules-valid .each)) text in
+    rw (
+      e,
+      le-ltb _ _ small,
+      le-ltb _ _ few,
+      r,
+      token-lines ((lex rules text) .tokens) (drop (10 * length ((lex rules text) .tokens)) records) (omega arith)
+          (all-get TagBelow ((lex rules text) .tokens) (tokenAt [] 0) tags),
+    )
