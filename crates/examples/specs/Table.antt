@@ -2,10 +2,14 @@
 use mathlib.Core.Path.{_≡_}
 use Prim.Native.Nat.{ℕ, _-_}
 use mathlib.Core.List.{List, [], _∷_}
-use lib.ListN.{length, replicate}
+use lib.ListN.{length, take, replicate}
 use Rattle.automaton.specs.Choice.{All}
 use Rattle.book.specs.Reading.{Reading, accepted, refused, readBook}
-use Rattle.lexer.specs.Lexer.{Token, Lexed, lex}
+use Rattle.lexer.specs.Lexer.{Token, Lexed, lex, join}
+use Rattle.lexer.specs.Records.{recordsAt}
+use Rattle.printer.specs.declared.PrintAnswer.{PrintAnswer}
+use Rattle.printer.specs.declared.PrintAnswer.the-variants as answer
+use Rattle.printer.specs.Outcome.{PrintOutcome, printOutcome}
 use Rattle.listing.specs.Lines.{listing, recordBytes}
 use Rattle.examples.specs.Books.{bookA, bookB, bookC}
 
@@ -15,6 +19,8 @@ pub data Question : Type 0 where
   cut : List ℕ → Question
   -- what cutlist prints of a text
   lines : List ℕ → Question
+  -- what the plain printer writes for a list
+  plain : List Token → Question
 
 -- what it gives
 pub data Result : Type 0 where
@@ -32,9 +38,22 @@ abbrev pub cutBy : Reading → List ℕ → Result
 cutBy (refused number place) text = refusal number place
 cutBy (accepted rules) text = cutResult (lex rules text) text
 
+-- room for more bytes than any example writes
+abbrev pub room : List ℕ
+room = replicate 16 0
+
+abbrev pub printResult : PrintAnswer → List ℕ → Result
+printResult (answer.Printed n) out = bytes (take n out)
+printResult (answer.Refused f) out = refusal (f .number) (f .place)
+
+abbrev pub printBy : PrintOutcome → Result
+printBy o = printResult (o .answer) (o .out)
+
 abbrev pub result : List ℕ → Question → Result
 result book (cut text) = cutBy (readBook book) text
 result book (lines text) = bytes (listing book text (replicate recordBytes 0))
+-- the tokens lie one behind the other in the pool
+result book (plain ts) = printBy (printOutcome book (recordsAt 0 ts) (join ts) room)
 
 pub record Example : Type 0 where
   pub book : List ℕ
@@ -47,6 +66,15 @@ Right e = result (e .book) (e .question) ≡ e .gives
 
 abbrev token : ℕ → List ℕ → Token
 token tag w = record { tag = tag; bytes = w }
+
+abbrev a : Token
+a = token 1 (97 ∷ [])
+
+abbrev b : Token
+b = token 2 (98 ∷ [])
+
+abbrev c : Token
+c = token 3 (99 ∷ [])
 
 abbrev row : List ℕ → Question → Result → Example
 row book question gives = record { book = book; question = question; gives = gives }
@@ -71,6 +99,14 @@ table =
     ∷ row bookB (cut (97 ∷ 98 ∷ 99 ∷ [])) (tokens (token 1 (97 ∷ 98 ∷ []) ∷ []) 2)
     -- "if" gives 1
     ∷ row bookC (cut (105 ∷ 102 ∷ [])) (tokens (token 1 (105 ∷ 102 ∷ []) ∷ []) 2)
+    -- plain writing: a, b, c is refused 21 at 0
+    ∷ row bookA (plain (a ∷ b ∷ c ∷ [])) (refusal 21 0)
+    -- c, b, a writes "cba"
+    ∷ row bookA (plain (c ∷ b ∷ a ∷ [])) (bytes (99 ∷ 98 ∷ 97 ∷ []))
+    -- the empty list writes nothing
+    ∷ row bookA (plain []) (bytes [])
+    -- 1 "a", 2 "bc" is refused 21 at 0
+    ∷ row bookB (plain (a ∷ token 2 (98 ∷ 99 ∷ []) ∷ [])) (refusal 21 0)
     ∷ []
 
 -- every example is right
