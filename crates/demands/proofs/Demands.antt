@@ -1,10 +1,11 @@
 -- A proof of each of the demands. Assumes nothing.
 use mathlib.Core.Path.{_≡_, refl, sym, subst}
-use Prim.Native.Nat.{ℕ, _-_}
+use Prim.Native.Nat.{ℕ, _-_, _≤_}
 use mathlib.Core.Bool.{Bool, true, false}
 use mathlib.Core.List.{List, []}
 use native.Mathlib.Omega.{arith}
-use lib.ListN.{length, drop}
+use lib.ListN.{length, take, drop}
+use lib.Seq.{take-append-seam}
 use Rattle.automaton.specs.Rule.{Rule}
 use Rattle.automaton.proofs.Tests.{clash}
 use Rattle.book.specs.Reading.{accepted, readBook}
@@ -17,8 +18,16 @@ use Rattle.printer.specs.Tokens.{tokensOf}
 use Rattle.printer.specs.Checks.{aloneIn}
 use Rattle.printer.proofs.Accepting.{written-joins, alone-tagged}
 use Rattle.printer.proofs.RoundTrip.{byte-below, same-rules, Cut, lexed-cut, cut-accepts, stored-say, equal-lists, accepts-printable, output-cut, cut-printed}
-use Rattle.demands.specs.Words.{Book, stored, LongestMatch}
-use Rattle.demands.specs.Demands.{CutIsLongestMatch, StoredIsLongestMatch, TokensAndRestJoined, WritingJoins, EqualLists, AcceptedExactly, UnknownNotAlone, OutputsAreCut, CutsArePrinted, EmptyTextIsCut}
+use Rattle.lexer.specs.Outcome.{LexOutcome, maxText}
+use Rattle.printer.specs.declared.tokens.TokenRecord.{TokenRecord}
+use Rattle.printer.specs.declared.PrintAnswer.the-variants as print
+use Rattle.printer.specs.Outcome.{PrintOutcome}
+use Rattle.separated.specs.Separators.{dropSeparators}
+use Rattle.separated.specs.Outcome.{spelled, separatedOutcome}
+use Rattle.separated.specs.Claims.{Accepts, Writes, Unrefused}
+use Rattle.separated.proofs.Claims.{accepts-unrefused, accepts-no-other, cuts-back, writes-apart}
+use Rattle.demands.specs.Words.{Book, Lexes, stored, Spaces, spaced, LongestMatch}
+use Rattle.demands.specs.Demands.{CutIsLongestMatch, StoredIsLongestMatch, TokensAndRestJoined, WritingJoins, EqualLists, AcceptedExactly, UnknownNotAlone, OutputsAreCut, CutsArePrinted, EmptyTextIsCut, SpacingAccepts, SpacingAcceptsNoOther, SpacingEqualLists, SpacingCutsBack}
 use Rattle.demands.proofs.LongestMatch.{lex-longest, longest-lex}
 use Rattle.demands.proofs.Separable.{separable-printable, printable-separable}
 
@@ -88,3 +97,35 @@ empty-text-is-cut book rules b room =
     let z = lex-nil rules in
     let o = cut-accepts book [] room rules (b .reads) (omega arith) (rw z (omega arith)) in
     rw (o, z)
+
+-- ---- demand 3, the spacing printer
+
+accepts : {book : List ℕ} {rules : List Rule} → Book book rules → Accepts book rules
+accepts {book} b = record { bytes = byte-below book (b .bytes); reads = b .reads }
+
+writes : (o : PrintOutcome) (n : ℕ) → o .answer ≡ print.Printed n → Writes o (take n (o .out))
+writes o n e = record { count = n; reported = e; below = refl }
+
+pub spacing-accepts : SpacingAccepts
+spacing-accepts book rules b sep mode records pool out u =
+    let z = accepts-unrefused book rules (accepts b) sep mode records pool out u in
+    rw z (refl, take-append-seam (spelled rules sep mode records pool) (drop (length (spelled rules sep mode records pool)) out))
+
+pub spacing-accepts-no-other : SpacingAcceptsNoOther
+spacing-accepts-no-other book rules b sep mode records pool out n e = accepts-no-other book rules (accepts b) sep mode records pool out _ (writes _ n e)
+
+pub spacing-equal-lists : SpacingEqualLists
+spacing-equal-lists book rules b mode sep records pool out n e sep₁ records₁ pool₁ out₁ n₁ e₁ same =
+    writes-apart book rules (accepts b) mode sep records pool out _ sep₁ records₁ pool₁ out₁ _ same (writes _ n e) (writes _ n₁ e₁)
+
+pub spacing-cuts-back : SpacingCutsBack
+spacing-cuts-back book rules b sep mode records pool out n e text t room enough =
+    let w : Writes (separatedOutcome book sep mode records pool out) text = record { count = n; reported = e; below = t } in
+    let x = accepts-no-other book rules (accepts b) sep mode records pool out text w in
+    let y = cuts-back book rules (accepts b) sep mode records pool out text w in
+    let short : length text ≤ maxText = rw (x .1) (x .0 .not-20) in
+    let o = cut-accepts book text room rules (b .reads) short enough in
+    let z : length text - length ((lex rules text) .rest) ≡ length text = rw (y .0) (omega arith) in
+    let l : Lexes book text room (length ((lex rules text) .tokens)) (length text) = rw o (rw z refl) in
+    let c = lexed-cut book text room (length ((lex rules text) .tokens)) (length text) l in
+    (l, rw (stored-say book (b .bytes) c rules (b .reads)) (y .1))

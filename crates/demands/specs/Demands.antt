@@ -1,5 +1,5 @@
--- The customer's sentences, each with what it says of the outcomes. The contracts of `lexer::operation::lex` and `printer::print` equate
--- their answers and every byte lent to them with `lexOutcome` and `printOutcome`.
+-- The customer's sentences, each with what it says of the outcomes. The contracts of `lexer::operation::lex`, `printer::print` and
+-- `separated::print_separated` equate their answers and every byte lent to them with `lexOutcome`, `printOutcome` and `separatedOutcome`.
 use mathlib.Core.Path.{_≡_}
 use mathlib.Core.Logic.{_↔_}
 use Prim.Native.Nat.{ℕ, _≤_}
@@ -12,7 +12,19 @@ use Rattle.lexer.specs.Lexer.{Token, lex, join}
 use Rattle.lexer.specs.Outcome.{recordCount}
 use Rattle.printer.specs.Tokens.{tokensOf}
 use Rattle.printer.specs.Checks.{aloneIn}
-use Rattle.demands.specs.Words.{Book, Lexes, stored, Prints, written, Unlimited, LongestMatch, Separable}
+use Rattle.printer.specs.declared.tokens.TokenRecord.{TokenRecord}
+use Rattle.printer.specs.Tokens.{tokenIn}
+use Rattle.separated.specs.Separators.{dropSeparators}
+use Rattle.separated.specs.Outcome.{spelled}
+use Rattle.separated.specs.Claims.{Unrefused}
+use Rattle.demands.specs.Words.{Spaces, spaced, Book, Lexes, stored, Prints, written, Unlimited, LongestMatch, Separable}
+
+-- ---- demand 1
+
+-- "The program as a whole comes to an end on every book, text, token list and buffer that it is handed, does nothing undefined": every
+-- function is proved to return and to be safe, and the operations ask nothing of their callers.
+-- "and refuses what is unfit by the number in document 01, with nothing changed in the buffers lent to it": the contracts, in every case;
+-- `readBook`, `lexOutcome`, `printOutcome` and `separatedOutcome` say which number, and that a refusal leaves every byte.
 
 -- ---- demand 2
 
@@ -87,3 +99,43 @@ CutsArePrinted =
 -- "the empty text is one"
 abbrev pub EmptyTextIsCut : Type 0
 EmptyTextIsCut = (book : List ℕ) (rules : List Rule) → Book book rules → (room : List ℕ) → Lexes book [] room 0 0
+
+-- ---- demand 3, the spacing printer
+
+-- "For every separator token and every mode, the spacing writer accepts each list that meets none of its refusals in document 01, and
+-- places the separators as 01 says": `Unrefused` goes through 16 to 26, `spelled` joins the tokens with their separators.
+abbrev pub SpacingAccepts : Type 0
+SpacingAccepts =
+    (book : List ℕ) (rules : List Rule) → Book book rules
+    → (sep : TokenRecord) (mode : ℕ) (records pool out : List ℕ) → Unrefused rules sep mode records pool out
+    → Spaces book sep mode records pool out (length (spelled rules sep mode records pool))
+    × (spaced book sep mode records pool out (length (spelled rules sep mode records pool)) ≡ spelled rules sep mode records pool)
+
+-- and it accepts no other
+abbrev pub SpacingAcceptsNoOther : Type 0
+SpacingAcceptsNoOther =
+    (book : List ℕ) (rules : List Rule) → Book book rules
+    → (sep : TokenRecord) (mode : ℕ) (records pool out : List ℕ) (n : ℕ) → Spaces book sep mode records pool out n
+    → Unrefused rules sep mode records pool out × (spaced book sep mode records pool out n ≡ spelled rules sep mode records pool)
+
+-- "any two lists that it accepts with them are equal exactly when the bytes written for them are equal": "Two separator tokens are one
+-- when tag and bytes are equal, wherever the pools hold them."
+abbrev pub SpacingEqualLists : Type 0
+SpacingEqualLists =
+    (book : List ℕ) (rules : List Rule) → Book book rules → (mode : ℕ)
+    → (sep : TokenRecord) (records pool out : List ℕ) (n : ℕ) → Spaces book sep mode records pool out n
+    → (sep₁ : TokenRecord) (records₁ pool₁ out₁ : List ℕ) (n₁ : ℕ) → Spaces book sep₁ mode records₁ pool₁ out₁ n₁
+    → tokenIn pool sep ≡ tokenIn pool₁ sep₁
+    → (tokensOf records pool ≡ tokensOf records₁ pool₁)
+      ↔ (spaced book sep mode records pool out n ≡ spaced book sep₁ mode records₁ pool₁ out₁ n₁)
+
+-- "cutting its output leaves no rest and, with separators dropped, gives the list back, the same tags and bytes in the same order":
+-- "under the same book with records enough".
+abbrev pub SpacingCutsBack : Type 0
+SpacingCutsBack =
+    (book : List ℕ) (rules : List Rule) → Book book rules
+    → (sep : TokenRecord) (mode : ℕ) (records pool out : List ℕ) (n : ℕ) → Spaces book sep mode records pool out n
+    → (text : List ℕ) → spaced book sep mode records pool out n ≡ text
+    → (room : List ℕ) → length ((lex rules text) .tokens) ≤ recordCount room
+    → Lexes book text room (length ((lex rules text) .tokens)) (length text)
+    × (dropSeparators rules (tokensOf (stored book text room (length ((lex rules text) .tokens))) text) ≡ tokensOf records pool)

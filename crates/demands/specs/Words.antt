@@ -15,6 +15,8 @@ use Rattle.printer.specs.Tokens.{recordsOf, tokensOf}
 use Rattle.printer.specs.Checks.{aloneIn}
 use Rattle.printer.specs.Outcome.{maxTokens, printOutcome}
 use Rattle.printer.specs.Answers.{InPool}
+use Rattle.printer.specs.declared.tokens.TokenRecord.{TokenRecord}
+use Rattle.separated.specs.Outcome.{separatedOutcome}
 
 -- ---- the operations
 
@@ -42,6 +44,13 @@ Prints book records pool out n = (printOutcome book records pool out) .answer �
 -- "The bytes written are the output's bytes below the reported count."
 abbrev pub written : List ℕ → List ℕ → List ℕ → List ℕ → ℕ → List ℕ
 written book records pool out n = take n ((printOutcome book records pool out) .out)
+
+-- a list that the spacing printer accepts with a separator token and a mode: it reports n bytes
+abbrev pub Spaces : List ℕ → TokenRecord → ℕ → List ℕ → List ℕ → List ℕ → ℕ → Type 0
+Spaces book sep mode records pool out n = (separatedOutcome book sep mode records pool out) .answer ≡ print.Printed n
+
+abbrev pub spaced : List ℕ → TokenRecord → ℕ → List ℕ → List ℕ → List ℕ → ℕ → List ℕ
+spaced book sep mode records pool out n = take n ((separatedOutcome book sep mode records pool out) .out)
 
 -- "Space and size limits apart": in none of the cases of 16, 17, 20 and 22
 pub record Unlimited (records pool out : List ℕ) : Type 0 where

@@ -1,0 +1,120 @@
+-- What the code answers is the outcome. Assumes nothing.
+use mathlib.Core.Path.{_≡_, refl, sym, ap, _∙_, subst}
+use Prim.Native.Nat.{ℕ, _<_, _≤_}
+use mathlib.Core.Option.{Option, none, some}
+use mathlib.Core.List.{List}
+use native.Mathlib.Omega.{arith}
+use native.Mathlib.Nat.{zero-add}
+use lib.ListN.{length, take, drop}
+use lib.Seq.{paste, take-length}
+use borrow.Author.Tests.{lt-ltb, le-ltb}
+use Rattle.automaton.specs.Rule.{Rule}
+use Rattle.book.specs.declared.refusal.Refusal.{Refusal}
+use Rattle.book.specs.declared.BookAnswer.{BookAnswer}
+use Rattle.book.specs.declared.BookAnswer.the-variants as book
+use Rattle.book.specs.Reading.{Reading, accepted, refused, readBook, answer}
+use Rattle.book.specs.State.{Loaded}
+use Rattle.lexer.specs.Answers.{Holds}
+use Rattle.lexer.specs.Outcome.{maxText}
+use Rattle.printer.specs.declared.PrintAnswer.{PrintAnswer}
+use Rattle.printer.specs.declared.PrintAnswer.the-variants as print
+use Rattle.printer.specs.declared.tokens.TokenRecord.{TokenRecord}
+use Rattle.printer.specs.Outcome.{check, unless, Answered}
+use Rattle.separated.specs.declared.checks.Checked.the-variants as checked
+use Rattle.separated.specs.declared.spacing.Placed.{Placed}
+use Rattle.separated.specs.declared.spacing.Placed.the-variants as placed
+use Rattle.separated.specs.Outcome.{separatedRefusal, writing, spelled, separatedRules, separatedOutcome}
+use Rattle.separated.specs.Answers.{checkedOf, Stands, Passed}
+
+-- ---- what is written
+
+module _ (bytes out : List ℕ) where
+  pub answered-long : maxText < length bytes → {r : PrintAnswer} → r ≡ print.Refused (record { number = 20; place = 0 }) → Answered (writing bytes out) r out
+  unfolding writing check
+  answered-long l a = rw (lt-ltb _ _ l) (record { answer = a; out = refl })
+
+  module _ {total : ℕ} (e : total ≡ length bytes) (short : total ≤ maxText) where
+    pub answered-short : length out < total → {r : PrintAnswer} → r ≡ print.Refused (record { number = 22; place = total }) → Answered (writing bytes out) r out
+    unfolding writing check
+    answered-short l a = rw (← e, le-ltb _ _ short, lt-ltb _ _ l) (record { answer = a; out = refl })
+
+    pub answered-printed : total ≤ length out → {exit : List ℕ} → exit ≡ paste out 0 bytes total → Answered (writing bytes out) (print.Printed total) exit
+    unfolding writing check
+    answered-printed l p =
+        let t : take total bytes ≡ bytes = rw e (take-length bytes) in
+        rw (← e, le-ltb _ _ short, le-ltb _ _ l) (record { answer = refl; out = p ∙ rw (t, zero-add) })
+
+-- what stands at the end of a scratch of that size
+module _ (scratch : List ℕ) (size : length scratch ≡ maxText) where
+  pub answered-full : {p : Placed} (bytes out : List ℕ) → Stands p bytes scratch → p ≡ placed.Full
+      → {r : PrintAnswer} → r ≡ print.Refused (record { number = 20; place = 0 }) → Answered (writing bytes out) r out
+  answered-full bytes out s e a = let l = s .full e in answered-long bytes out (omega arith) a
+
+  pub answered-at : {p : Placed} {start : ℕ} (bytes out : List ℕ) {exit : List ℕ} → Stands p bytes scratch → p ≡ placed.At start
+      → {r : PrintAnswer} → Answered (writing (drop start scratch) out) r exit → Answered (writing bytes out) r exit
+  answered-at bytes out {exit} s e {r} a = subst (λ (x : List ℕ). Answered (writing x out) r exit) (s .at _ e .laid) a
+
+-- ---- by rules
+
+module _ (rules : List Rule) (sep : TokenRecord) (mode : ℕ) (records pool : List ℕ) where
+  -- no refusal, where the checks pass
+  pub unrefused : checked.Passed ≡ checkedOf (separatedRefusal rules sep mode records pool) → separatedRefusal rules sep mode records pool ≡ none
+  unrefused e = go (separatedRefusal rules sep mode records pool) refl e
+    where
+      go : (o : Option Refusal) → separatedRefusal rules sep mode records pool ≡ o → checked.Passed ≡ checkedOf o → separatedRefusal rules sep mode records pool ≡ none
+      go none q z = q
+      go (some f) q z = let y : _≡_ {A = ℕ} 0 1 = cc in absurd (omega arith)
+
+  module _ (out : List ℕ) where
+    pub answered-fault : {f : Refusal} → checked.Refused f ≡ checkedOf (separatedRefusal rules sep mode records pool)
+        → Answered (separatedRules rules sep mode records pool out) (print.Refused f) out
+    unfolding separatedRules unless
+    answered-fault {f} e = go (separatedRefusal rules sep mode records pool) refl e
+      where
+        go : (o : Option Refusal) → separatedRefusal rules sep mode records pool ≡ o → checked.Refused f ≡ checkedOf o
+            → Answered (separatedRules rules sep mode records pool out) (print.Refused f) out
+        go none q z = let y : _≡_ {A = ℕ} 0 1 = cc in absurd (omega arith)
+        go (some g) q z = let y : f ≡ g = cc in rw q (record { answer = ap print.Refused y; out = refl })
+
+    pub answered-passed : {r : PrintAnswer} {exit : List ℕ} → checked.Passed ≡ checkedOf (separatedRefusal rules sep mode records pool)
+        → Answered (writing (spelled rules sep mode records pool) out) r exit → Answered (separatedRules rules sep mode records pool out) r exit
+    unfolding separatedRules unless
+    answered-passed e a = rw (unrefused e) a
+
+-- ---- by a book
+
+module _ {bytes hs ss es : List ℕ} {b : BookAnswer} {n : ℕ} (l : Loaded bytes b hs ss es) (a : b ≡ book.Accepted n) where
+  -- the rules of an accepted book are in the tables
+  loaded-rules : (rules : List Rule) × ((readBook bytes ≡ accepted rules) × Holds hs ss es n rules)
+  loaded-rules = go (readBook bytes) refl
+    where
+      go : (o : Reading) → readBook bytes ≡ o → (rules : List Rule) × ((readBook bytes ≡ accepted rules) × Holds hs ss es n rules)
+      go (accepted rules) e =
+          let q : book.Accepted n ≡ book.Accepted (length rules) = sym a ∙ l .answered ∙ ap answer e in
+          (rules, (e, record { tables = l .tables rules e; count = cc }))
+      go (refused number place) e =
+          let q : book.Accepted n ≡ book.Refused (record { number = number; place = place }) = sym a ∙ l .answered ∙ ap answer e in
+          let z : _≡_ {A = ℕ} 0 1 = cc in absurd (omega arith)
+
+  pub answered-book : (sep : TokenRecord) (mode : ℕ) (records pool out exit : List ℕ) (r : PrintAnswer)
+      → ((rules : List Rule) → Holds hs ss es n rules → Answered (separatedRules rules sep mode records pool out) r exit)
+      → Answered (separatedOutcome bytes sep mode records pool out) r exit
+  unfolding separatedOutcome
+  answered-book sep mode records pool out exit r h = rw (loaded-rules .1 .0) (h (loaded-rules .0) (loaded-rules .1 .1))
+
+module _ {bytes hs ss es : List ℕ} {b : BookAnswer} {f : Refusal} (l : Loaded bytes b hs ss es) (a : b ≡ book.Refused f) where
+  loaded-refused : readBook bytes ≡ refused (f .number) (f .place)
+  loaded-refused = go (readBook bytes) refl
+    where
+      go : (o : Reading) → readBook bytes ≡ o → readBook bytes ≡ refused (f .number) (f .place)
+      go (accepted rules) e =
+          let q : book.Refused f ≡ book.Accepted (length rules) = sym a ∙ l .answered ∙ ap answer e in
+          let z : _≡_ {A = ℕ} 0 1 = cc in absurd (omega arith)
+      go (refused number place) e =
+          let q : book.Refused f ≡ book.Refused (record { number = number; place = place }) = sym a ∙ l .answered ∙ ap answer e in
+          let y : f ≡ record { number = number; place = place } = cc in
+          rw y e
+
+  pub answered-refused : (sep : TokenRecord) (mode : ℕ) (records pool out : List ℕ) → Answered (separatedOutcome bytes sep mode records pool out) (print.Refused f) out
+  unfolding separatedOutcome
+  answered-refused sep mode records pool out = rw loaded-refused (record { answer = refl; out = refl })

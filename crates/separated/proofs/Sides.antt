@@ -1,0 +1,157 @@
+-- Where no byte is used by both kinds of rules, each byte of a token is on the side of the token's kind. Assumes nothing.
+use mathlib.Core.Path.{_≡_, refl, sym, subst}
+use Prim.Native.Nat.{ℕ, _≤_, _<_}
+use mathlib.Core.Bool.{Bool, true, false, _&&_}
+use mathlib.Core.Option.{none, some}
+use mathlib.Core.List.{List, [], _∷_, _++_}
+use native.Mathlib.Omega.{arith}
+use lib.Dec.{leb, eqb}
+use borrow.Author.Tests.{eqb-true, eqb-false, eq-eqb, ne-eqb, leb-true}
+use Rattle.automaton.specs.Choice.{if, All, any, among}
+use Rattle.automaton.specs.Rule.{Transition, Rule, covers, target, step, walk, matches, used, Ranged, Sound}
+use Rattle.automaton.specs.Tables.{stateCount}
+use Rattle.automaton.proofs.Tests.{clash, or-none, or-true, and-true}
+use Rattle.automaton.proofs.Walks.{target-stays}
+use Rattle.automaton.proofs.Used.{uses-all}
+use Rattle.book.specs.Valid.{ValidRule, Distinct, ValidRules}
+use Rattle.lexer.specs.Lexer.{Token, isSome, firstMatch, Alone}
+use Rattle.lexer.proofs.First.{some-of, Earliest, earliest, nothing-empty}
+use Rattle.separated.specs.Bytes.{plainKind, separatorKind, usedByKind, shared}
+use Rattle.separated.specs.Separators.{separates}
+
+-- ---- lists
+
+pub all-right : {A : Type 0} (P : A → Type 0) (xs ys : List A) → All P (xs ++ ys) → All P ys
+all-right P [] ys h = h
+all-right P (x ∷ xs) ys h = all-right P xs ys (h .1)
+
+pub all-map : {A : Type 0} (P Q : A → Type 0) → ((a : A) → P a → Q a) → (xs : List A) → All P xs → All Q xs
+all-map P Q f [] h = tt
+all-map P Q f (x ∷ xs) (p, h) = (f x p, all-map P Q f xs h)
+
+all-both : {A : Type 0} (P Q R : A → Type 0) → ((a : A) → P a → Q a → R a) → (xs : List A) → All P xs → All Q xs → All R xs
+all-both P Q R f [] h g = tt
+all-both P Q R f (x ∷ xs) (p, h) (q, g) = (f x p q, all-both P Q R f xs h g)
+
+any-middle : {A : Type 0} (f : A → Bool) (xs : List A) (x : A) (ys : List A) → f x ≡ true → any f (xs ++ x ∷ ys) ≡ true
+any-middle f [] x ys e = rw e
+any-middle f (y ∷ xs) x ys e = rw (any-middle f xs x ys e, or-true)
+
+-- ---- what a rule matches are bytes
+
+target-byte : (n : ℕ) (ts : List Transition) (s b error : ℕ) → All (Ranged n) ts → eqb (target ts s b error) error ≡ false → b < 256
+unfolding target
+target-byte n [] s b error h e = clash (eq-eqb error error refl) e
+target-byte n (t ∷ ts) s b error (r, h) e = go (eqb t.from s && covers t b) refl (target-byte n ts s b error h) e
+  where
+    go : (c : Bool) → eqb t.from s && covers t b ≡ c → (eqb (target ts s b error) error ≡ false → b < 256)
+        → eqb (if c t.to (target ts s b error)) error ≡ false → b < 256
+    go true q ih z =
+        let l : b ≤ t.high = leb-true b t.high ((and-true (leb t.low b) _ ((and-true (eqb t.from s) (covers t b) q) .1)) .1) in
+        omega (arith, r .byte)
+    go false q ih z = ih z
+
+module _ {n : ℕ} (r : Rule) (h : Sound n r) where
+  walk-stays : (w : List ℕ) → walk r r.error w ≡ r.error
+  unfolding walk
+  walk-stays [] = refl
+  walk-stays (b ∷ w) = rw (target-stays r.error b r.transitions (h .stays)) (walk-stays w)
+
+  walk-bytes : (s : ℕ) (w : List ℕ) → among (walk r s w) r.finals ≡ true → All (λ (b : ℕ). b < 256) w
+  unfolding walk
+  walk-bytes s [] e = tt
+  walk-bytes s (b ∷ w) e = (go (eqb (step r s b) r.error) refl, walk-bytes (step r s b) w e)
+    where
+      go : (c : Bool) → eqb (step r s b) r.error ≡ c → b < 256
+      go true q = let z : step r s b ≡ r.error = eqb-true _ _ q in clash e (rw (z, walk-stays w) (h .fails))
+      go false q = target-byte n r.transitions s b r.error (h .ranged) q
+
+  matched-bytes : (w : List ℕ) → matches r w ≡ true → All (λ (b : ℕ). b < 256) w
+  unfolding matches
+  matched-bytes w e = walk-bytes r.start w e
+
+-- ---- sides
+
+abbrev pub kindOn : Bool → ℕ
+kindOn true = separatorKind
+kindOn false = plainKind
+
+-- a byte that some rule of the kind uses
+pub record Side (rules : List Rule) (s : Bool) (b : ℕ) : Type 0 where
+  pub byte : b < 256
+  pub uses : usedByKind (kindOn s) rules b ≡ true
+
+-- refusal 23 does not apply
+pub record Disjoint (rules : List Rule) : Type 0 where
+  pub apart : (b : ℕ) → b < 256 → shared rules b ≡ false
+
+module _ {rules : List Rule} {b : ℕ} (d : Disjoint rules) where
+  parted : Side rules true b → Side rules false b → ⊥
+  unfolding shared
+  parted x y = clash (rw (y .uses) (x .uses)) (d .apart b (x .byte))
+
+  one-side : (s q : Bool) → Side rules s b → Side rules q b → s ≡ q
+  one-side true true x y = refl
+  one-side true false x y = absurd (parted x y)
+  one-side false true x y = absurd (parted y x)
+  one-side false false x y = refl
+
+  pub side-unique : {s q : Bool} → Side rules s b → Side rules q b → s ≡ q
+  side-unique x y = one-side _ _ x y
+
+kind-on : (k : ℕ) → k ≤ 1 → (c : Bool) → eqb k separatorKind ≡ c → k ≡ kindOn c
+kind-on k l true e = eqb-true k 1 e
+kind-on k l false e = let n = eqb-false k 1 e in omega arith
+
+-- the kind of a rule's tag is the rule's
+untagged : (rs : List Rule) (tag : ℕ) → All (λ (q : Rule). eqb q.tag tag ≡ false) rs → separates rs tag ≡ false
+unfolding separates
+untagged [] tag h = refl
+untagged (r ∷ rs) tag (e, h) = rw (e, untagged rs tag h)
+
+all-middle : {A : Type 0} (P : A → Type 0) (xs : List A) (x : A) (ys : List A) → All P (xs ++ x ∷ ys) → P x
+all-middle P xs x ys h = all-right P xs (x ∷ ys) h .0
+
+side-of-tag : (before : List Rule) (r : Rule) (behind : List Rule) → Distinct (before ++ r ∷ behind)
+    → separates (before ++ r ∷ behind) r.tag ≡ eqb r.kind separatorKind
+unfolding separates
+side-of-tag [] r behind (h, d) = rw (eq-eqb r.tag r.tag refl, untagged behind r.tag h, or-none)
+side-of-tag (q ∷ before) r behind (h, d) =
+    let z : eqb r.tag q.tag ≡ false = all-middle (λ (x : Rule). eqb x.tag q.tag ≡ false) before r behind h in
+    rw (ne-eqb q.tag r.tag (λ p. eqb-false r.tag q.tag z (sym p)), side-of-tag before r behind d)
+
+module _ {rules : List Rule} (v : ValidRules rules) where
+  -- a rule of the book that matches w
+  module _ {w : List ℕ} {tag : ℕ} (f : Earliest rules w tag) where
+    valid : ValidRule f.rule
+    valid = all-middle ValidRule f.before f.rule f.behind (subst (All ValidRule) f.splits (v .each))
+
+    -- all the bytes that it matches are on its side
+    rule-side : All (Side rules (eqb f.rule.kind separatorKind)) w
+    unfolding usedByKind
+    rule-side =
+        all-both (λ (b : ℕ). used f.rule b ≡ true) (λ (b : ℕ). b < 256) (Side rules (eqb f.rule.kind separatorKind))
+        (λ b u l. record { byte = l; uses = uses b u }) w
+        (uses-all f.rule (valid .sound) w f.matched) (matched-bytes f.rule (valid .sound) w f.matched)
+      where
+        uses : (b : ℕ) → used f.rule b ≡ true → usedByKind (kindOn (eqb f.rule.kind separatorKind)) rules b ≡ true
+        uses b u =
+            rw (← kind-on f.rule.kind (valid .kind) _ refl, f.splits)
+            (any-middle (λ (r : Rule). eqb r.kind f.rule.kind && used r b) f.before f.rule f.behind (rw (eq-eqb f.rule.kind f.rule.kind refl, u)))
+
+    tag-side : separates rules tag ≡ eqb f.rule.kind separatorKind
+    tag-side = rw (← f.tagged, f.splits) (side-of-tag f.before f.rule f.behind (subst Distinct f.splits (v .distinct)))
+
+  -- a token that is cut as itself has its bytes on its tag's side
+  pub token-side : (t : Token) → Alone rules t → All (Side rules (separates rules t.tag)) t.bytes
+  token-side t a = let f = earliest rules t.bytes t.tag a in rw (tag-side f) (rule-side f)
+
+  -- what some rule matches is on one side
+  pub match-side : (s : Bool) (b : ℕ) (w : List ℕ) → Disjoint rules → isSome (firstMatch rules (b ∷ w)) ≡ true → Side rules s b → All (Side rules s) (b ∷ w)
+  match-side s b w d e h =
+      let m = some-of _ e in
+      let x = rule-side (earliest rules (b ∷ w) (m .0) (m .1)) in
+      subst (λ (k : Bool). All (Side rules k) (b ∷ w)) (side-unique d (x .0) h) x
+
+  pub valid-empty : firstMatch rules [] ≡ none
+  valid-empty = nothing-empty stateCount rules (all-map ValidRule (Sound stateCount) (λ r h. h .sound) rules (v .each))

@@ -1,0 +1,227 @@
+-- The outcome is an acceptance exactly where no refusal applies. Assumes nothing.
+use mathlib.Core.Path.{_≡_, refl, ap}
+use Prim.Native.Nat.{ℕ, zero, suc, _+_, _≤_, _<_}
+use mathlib.Core.Bool.{Bool, true, false, not, _&&_}
+use mathlib.Core.Option.{Option, none, some}
+use mathlib.Core.List.{List, [], _∷_}
+use native.Mathlib.Omega.{arith}
+use lib.Dec.{ltb, eqb}
+use lib.ListN.{length}
+use borrow.Author.Tests.{le-ltb, ltb-false, eqb-true, eqb-false, eq-eqb}
+use Rattle.automaton.specs.Choice.{if, All}
+use Rattle.automaton.specs.Rule.{Rule}
+use Rattle.automaton.proofs.Tests.{clash}
+use Rattle.book.specs.declared.refusal.Refusal.{Refusal}
+use Rattle.lexer.specs.Lexer.{or}
+use Rattle.lexer.specs.Outcome.{maxText, recordCount}
+use Rattle.lexer.proofs.First.{nothing}
+use Rattle.printer.specs.declared.PrintAnswer.the-variants as answer
+use Rattle.printer.specs.declared.tokens.TokenRecord.{TokenRecord}
+use Rattle.printer.specs.Tokens.{recordsOf}
+use Rattle.printer.specs.Checks.{faultOf, refuse, firstFault}
+use Rattle.printer.specs.Outcome.{maxTokens, PrintOutcome, printAccepted, check, unless}
+use Rattle.printer.proofs.Faults.{faultless, fault-none}
+use Rattle.separated.specs.Bytes.{plainKind, separatorKind, usedByKind, shared, lowestFrom, sharedByte}
+use Rattle.separated.specs.Separators.{separates}
+use Rattle.separated.specs.Outcome.{orElse, separatorFault, plainFault, sharing, listRefusal, separatedRefusal, writing, spelled, separatedRules}
+use Rattle.separated.specs.Claims.{Fit, FitSeparator, FitPlain, Unrefused}
+use Rattle.separated.proofs.Sides.{all-map}
+
+-- ---- the lowest byte
+
+pub lowest-none : (f : ℕ → Bool) (b n : ℕ) → lowestFrom f b n ≡ none → (i : ℕ) → b ≤ i → i < b + n → f i ≡ false
+unfolding lowestFrom
+lowest-none f b zero e i l m = absurd (omega arith)
+lowest-none f b (suc n) e i l m = go (f b) refl (lowest-none f (suc b) n) (eqb i b) refl e
+  where
+    go : (t : Bool) → f b ≡ t → (lowestFrom f (suc b) n ≡ none → (j : ℕ) → suc b ≤ j → j < suc b + n → f j ≡ false)
+        → (s : Bool) → eqb i b ≡ s → if t (some b) (lowestFrom f (suc b) n) ≡ none → f i ≡ false
+    go true q ih s p z = nothing z refl
+    go false q ih true p z = rw (eqb-true i b p) q
+    go false q ih false p z = let ne = eqb-false i b p in ih z i (omega arith) (omega arith)
+
+pub none-lowest : (f : ℕ → Bool) (b n : ℕ) → ((i : ℕ) → b ≤ i → i < b + n → f i ≡ false) → lowestFrom f b n ≡ none
+unfolding lowestFrom
+none-lowest f b zero h = refl
+none-lowest f b (suc n) h = rw (h b (omega arith) (omega arith)) (none-lowest f (suc b) n (λ i l m. h i (omega arith) (omega arith)))
+
+-- no byte is used by both kinds
+pub unshared : (rules : List Rule) → sharedByte rules ≡ none → (b : ℕ) → b < 256 → shared rules b ≡ false
+unfolding sharedByte
+unshared rules e b l = lowest-none (shared rules) 0 256 e b (omega arith) (omega arith)
+
+pub shared-none : (rules : List Rule) → ((b : ℕ) → b < 256 → shared rules b ≡ false) → sharedByte rules ≡ none
+unfolding sharedByte
+shared-none rules h = none-lowest (shared rules) 0 256 (λ i l m. h i (omega arith))
+
+apart-of : (rules : List Rule) (b : ℕ) → shared rules b ≡ false → usedByKind plainKind rules b ≡ true → usedByKind separatorKind rules b ≡ true → ⊥
+unfolding shared
+apart-of rules b e p q = clash (rw (p, q)) e
+
+pub of-apart : (rules : List Rule) (b : ℕ) → (usedByKind plainKind rules b ≡ true → usedByKind separatorKind rules b ≡ true → ⊥) → shared rules b ≡ false
+unfolding shared
+of-apart rules b h = go (usedByKind plainKind rules b) (usedByKind separatorKind rules b) h
+  where
+    go : (x y : Bool) → (x ≡ true → y ≡ true → ⊥) → x && y ≡ false
+    go true true k = absurd (k refl refl)
+    go true false k = refl
+    go false y k = refl
+
+sharing-none : (o : Option ℕ) → sharing o ≡ none → o ≡ none
+unfolding sharing
+sharing-none none e = refl
+sharing-none (some b) e = nothing e refl
+
+-- ---- the faults of tokens
+
+module _ (fault : ℕ) (test : Bool) (number : ℕ) where
+  pub or-else-none : fault ≡ 0 → test ≡ false → orElse fault test number ≡ 0
+  unfolding orElse
+  or-else-none e f = rw (eq-eqb fault 0 e, f)
+
+  pub none-or-else : 0 < number → orElse fault test number ≡ 0 → (fault ≡ 0) × (test ≡ false)
+  unfolding orElse
+  none-or-else pos e = go (eqb fault 0) refl test refl e
+    where
+      go : (a : Bool) → eqb fault 0 ≡ a → (b : Bool) → test ≡ b → if a (if b number 0) fault ≡ 0 → (fault ≡ 0) × (test ≡ false)
+      go true p true q z = absurd (omega arith)
+      go true p false q z = (eqb-true fault 0 p, q)
+      go false p b q z = absurd (eqb-false fault 0 p z)
+
+module _ (rules : List Rule) (pool : List ℕ) (r : TokenRecord) where
+  fit-of : faultOf rules pool r ≡ 0 → Fit rules pool r
+  fit-of e = let f = faultless rules pool r e in record { not-17 = f .in-pool; not-18 = f .known; not-19 = f .alone }
+
+  of-fit : Fit rules pool r → faultOf rules pool r ≡ 0
+  of-fit f = fault-none rules pool r (f .not-17) (f .not-18) (f .not-19)
+
+  not-not : (b : Bool) → not b ≡ false → b ≡ true
+  not-not true e = refl
+  not-not false e = clash refl e
+
+  pub separator-fit : separatorFault rules pool r ≡ 0 → FitSeparator rules pool r
+  unfolding separatorFault
+  separator-fit e =
+      let p = none-or-else (faultOf rules pool r) (not (separates rules (r .tag))) 25 (omega arith) e in
+      record { fit = fit-of (p .0); not-25 = not-not _ (p .1) }
+
+  fit-separator : FitSeparator rules pool r → separatorFault rules pool r ≡ 0
+  unfolding separatorFault
+  fit-separator f = or-else-none (faultOf rules pool r) (not (separates rules (r .tag))) 25 (of-fit (f .fit)) (ap not (f .not-25))
+
+  pub plain-fit : plainFault rules pool r ≡ 0 → FitPlain rules pool r
+  unfolding plainFault
+  plain-fit e =
+      let p = none-or-else (faultOf rules pool r) (separates rules (r .tag)) 26 (omega arith) e in
+      record { fit = fit-of (p .0); not-26 = p .1 }
+
+  fit-plain : FitPlain rules pool r → plainFault rules pool r ≡ 0
+  unfolding plainFault
+  fit-plain f = or-else-none (faultOf rules pool r) (separates rules (r .tag)) 26 (of-fit (f .fit)) (f .not-26)
+
+-- the list has no fault
+pub faults-none : (fault : TokenRecord → ℕ) (rs : List TokenRecord) (k : ℕ) → firstFault fault rs k ≡ none → All (λ (r : TokenRecord). fault r ≡ 0) rs
+unfolding firstFault refuse
+faults-none fault [] k e = tt
+faults-none fault (r ∷ rs) k e = go (eqb (fault r) 0) refl (faults-none fault rs (suc k)) e
+  where
+    go : (t : Bool) → eqb (fault r) 0 ≡ t → (firstFault fault rs (suc k) ≡ none → All (λ (q : TokenRecord). fault q ≡ 0) rs)
+        → refuse (not t) (fault r) k (firstFault fault rs (suc k)) ≡ none → (fault r ≡ 0) × All (λ (q : TokenRecord). fault q ≡ 0) rs
+    go true q ih z = (eqb-true (fault r) 0 q, ih z)
+    go false q ih z = nothing z refl
+
+pub none-faults : (fault : TokenRecord → ℕ) (rs : List TokenRecord) (k : ℕ) → All (λ (r : TokenRecord). fault r ≡ 0) rs → firstFault fault rs k ≡ none
+unfolding firstFault refuse
+none-faults fault [] k h = refl
+none-faults fault (r ∷ rs) k (e, h) = rw (eq-eqb (fault r) 0 e, none-faults fault rs (suc k) h)
+
+-- ---- the checks of an accepted call
+
+refuse-none : (t : Bool) (number place : ℕ) (next : Option Refusal) → refuse t number place next ≡ none → (t ≡ false) × (next ≡ none)
+unfolding refuse
+refuse-none true number place next e = nothing e refl
+refuse-none false number place next e = (refl, e)
+
+or-none-both : (x y : Option Refusal) → or x y ≡ none → (x ≡ none) × (y ≡ none)
+or-none-both none y e = (refl, e)
+or-none-both (some f) y e = nothing e refl
+
+-- a call that is not refused before anything is put together
+pub record Passes (rules : List Rule) (sep : TokenRecord) (mode : ℕ) (records pool : List ℕ) : Type 0 where
+  pub unshared : (b : ℕ) → b < 256 → shared rules b ≡ false
+  pub known-mode : mode ≤ 2
+  pub separator : FitSeparator rules pool sep
+  pub few : recordCount records ≤ maxTokens
+  pub tokens : All (FitPlain rules pool) (recordsOf records)
+
+module _ (rules : List Rule) (sep : TokenRecord) (mode : ℕ) (records pool : List ℕ) where
+  pub passes : separatedRefusal rules sep mode records pool ≡ none → Passes rules sep mode records pool
+  unfolding separatedRefusal listRefusal
+  passes e =
+      let a = or-none-both (sharing (sharedByte rules)) _ e in
+      let b = refuse-none (ltb 2 mode) 24 0 _ (a .1) in
+      let c = refuse-none (not (eqb (separatorFault rules pool sep) 0)) (separatorFault rules pool sep) (recordCount records) _ (b .1) in
+      let d = refuse-none (ltb maxTokens (recordCount records)) 16 0 _ (c .1) in
+      record {
+        unshared = unshared rules (sharing-none _ (a .0));
+        known-mode = ltb-false 2 mode (b .0);
+        separator = separator-fit rules pool sep (eqb-true _ 0 (not-not rules pool sep _ (c .0)));
+        few = ltb-false _ _ (d .0);
+        tokens = all-map (λ (r : TokenRecord). plainFault rules pool r ≡ 0) (FitPlain rules pool) (plain-fit rules pool) (recordsOf records)
+            (faults-none (plainFault rules pool) (recordsOf records) 0 (d .1));
+      }
+
+  pub passes-none : Passes rules sep mode records pool → separatedRefusal rules sep mode records pool ≡ none
+  unfolding separatedRefusal listRefusal sharing refuse
+  passes-none p =
+      rw (
+        shared-none rules (p .unshared),
+        le-ltb 2 mode (p .known-mode),
+        fit-separator rules pool sep (p .separator),
+        le-ltb maxTokens (recordCount records) (p .few),
+      )
+      (none-faults (plainFault rules pool) (recordsOf records) 0 (all-map (FitPlain rules pool) (λ (r : TokenRecord). plainFault rules pool r ≡ 0) (fit-plain rules pool) (recordsOf records) (p .tokens)))
+
+check-printed : (t : Bool) (number place : ℕ) (out : List ℕ) (next : PrintOutcome) (n : ℕ) → (check t number place out next) .answer ≡ answer.Printed n
+    → (t ≡ false) × (next .answer ≡ answer.Printed n)
+unfolding check
+check-printed true number place out next n e = let z : _≡_ {A = ℕ} 0 1 = cc in absurd (omega arith)
+check-printed false number place out next n e = (refl, e)
+
+unless-printed : (o : Option Refusal) (out : List ℕ) (next : PrintOutcome) (n : ℕ) → (unless o out next) .answer ≡ answer.Printed n
+    → (o ≡ none) × (next .answer ≡ answer.Printed n)
+unfolding unless
+unless-printed (some f) out next n e = let z : _≡_ {A = ℕ} 0 1 = cc in absurd (omega arith)
+unless-printed none out next n e = (refl, e)
+
+module _ (rules : List Rule) (sep : TokenRecord) (mode : ℕ) (records pool out : List ℕ) where
+  -- a call that meets no refusal is accepted
+  pub unrefused-accepted : Unrefused rules sep mode records pool out
+      → separatedRules rules sep mode records pool out ≡ printAccepted (spelled rules sep mode records pool) out
+  unfolding separatedRules writing check unless
+  unrefused-accepted u =
+      let p : Passes rules sep mode records pool =
+      record { unshared = λ b l. of-apart rules b (u .not-23 b l); known-mode = u .not-24; separator = u .separator; few = u .not-16; tokens = u .tokens } in
+      rw (
+        passes-none rules sep mode records pool p,
+        le-ltb maxText (length (spelled rules sep mode records pool)) (u .not-20),
+        le-ltb (length out) (length (spelled rules sep mode records pool)) (u .not-22),
+      )
+
+  -- a call that is accepted meets none
+  pub accepted-unrefused : (n : ℕ) → (separatedRules rules sep mode records pool out) .answer ≡ answer.Printed n → Unrefused rules sep mode records pool out
+  unfolding separatedRules writing
+  accepted-unrefused n e =
+      let a = unless-printed (separatedRefusal rules sep mode records pool) out _ n e in
+      let p = passes rules sep mode records pool (a .0) in
+      let g = check-printed (ltb maxText (length (spelled rules sep mode records pool))) 20 0 out _ n (a .1) in
+      let h = check-printed (ltb (length out) (length (spelled rules sep mode records pool))) 22 (length (spelled rules sep mode records pool)) out _ n (g .1) in
+      record {
+        not-23 = λ i l. apart-of rules i (p .unshared i l);
+        not-24 = p .known-mode;
+        separator = p .separator;
+        not-16 = p .few;
+        tokens = p .tokens;
+        not-20 = ltb-false _ _ (g .0);
+        not-22 = ltb-false _ _ (h .0);
+      }

@@ -1,0 +1,58 @@
+-- `print_passed` writes what is put together. Assumes nothing.
+use mathlib.Core.Path.{_∙_}
+use denote.Ref.{now}
+use Rattle.separated.specs.Outcome.{spelled}
+use Rattle.separated.proofs.Answering.{answered-full, answered-at}
+use borrow.Author.Needs.{needs}
+use Rattle.separated.proofs.print_passed.Statement.{statement}
+use Rattle.separated.proofs.print_passed.Tie as tie
+use Rattle.separated.proofs.print_passed.Reads as reads
+use Rattle.separated.proofs.print_passed.Lts as lts
+use Rattle.separated.proofs.refused.Reads as refused-reads
+use Rattle.separated.proofs.spacing.put_list.Reads as put-list-reads
+use Rattle.separated.proofs.write_from.Reads as write-from-reads
+
+put-list-requires : tie.Need-put-list-requires
+put-list-requires c κs = search needs
+
+enum-known-at : tie.Need-enum-known-at
+enum-known-at c = search needs
+
+write-from-requires : tie.Need-write-from-requires
+write-from-requires c κs = (c .before .before .before .before .before .before .before .put-list .kept .1 .1 .1 .1 .1 .1 .1 .1 .0 ∙ c .before .before .before .before .before .before .before .before .before .before .before .before .before .before .before .before .pre .1, c .before .before .before .before .before .before .before .put-list .ensures (c .before .before .before .before .before .before .before .before .before .before .before .before .before .before .before .before .pre .0 .held .rules) (c .before .before .before .before .before .before .before .before .before .before .before .before .before .before .before .before .pre .0 .held .holds) .at _ (c .before .before .before .at .given .1) .within)
+
+enum-told : tie.Need-enum-told
+enum-told c = search needs
+
+refused-requires : tie.Need-refused-requires
+refused-requires c κs = search needs
+
+same-length : tie.Need-same-length
+same-length c = search needs
+
+same-length-2 : tie.Need-same-length-2
+same-length-2 c = search needs
+
+returns : tie.Need-returns
+returns c = λ rs h. answered-at _ (c .before .before .before .before .before .before .before .before .before .before .put-list .kept .1 .1 .1 .1 .1 .1 .1 .1 .0 ∙ c .before .before .before .before .before .before .before .before .before .before .before .before .before .before .before .before .before .before .before .pre .1) (spelled rs (c .before .before .before .before .before .before .before .before .before .before .before .before .before .before .before .before .before .before .before .args .separator) (c .before .before .before .before .before .before .before .before .before .before .before .before .before .before .before .before .before .before .before .args .mode) (now (c .before .before .before .before .before .before .before .before .before .before .before .before .before .before .before .before .before .before .before .args .records)) (now (c .before .before .before .before .before .before .before .before .before .before .before .before .before .before .before .before .before .before .before .args .pool))) (now (c .before .before .before .before .before .before .before .before .before .before .before .before .before .before .before .before .before .before .before .args .out)) (c .before .before .before .before .before .before .before .before .before .before .put-list .ensures rs h) (c .before .before .before .before .before .before .at .given .1) (c .before .before .write-from .ensures)
+
+same-length-3 : tie.Need-same-length-3
+same-length-3 c = search needs
+
+returns-2 : tie.Need-returns-2
+returns-2 c = λ rs h. answered-full _ (c .before .before .before .before .before .put-list .kept .1 .1 .1 .1 .1 .1 .1 .1 .0 ∙ c .before .before .before .before .before .before .before .before .before .before .before .before .before .before .pre .1) (spelled rs (c .before .before .before .before .before .before .before .before .before .before .before .before .before .before .args .separator) (c .before .before .before .before .before .before .before .before .before .before .before .before .before .before .args .mode) (now (c .before .before .before .before .before .before .before .before .before .before .before .before .before .before .args .records)) (now (c .before .before .before .before .before .before .before .before .before .before .before .before .before .before .args .pool))) (now (c .before .before .before .before .before .before .before .before .before .before .before .before .before .before .args .out)) (c .before .before .before .before .before .put-list .ensures rs h) (c .before .enum-told .given .1) (c .refused .ensures)
+
+pub print-passed-spec : {M : Type 1} → statement M
+print-passed-spec =
+    tie.close
+    (tie.spec
+    put-list-requires
+    enum-known-at
+    write-from-requires
+    enum-told
+    refused-requires
+    same-length
+    same-length-2
+    returns
+    same-length-3
+    returns-2)

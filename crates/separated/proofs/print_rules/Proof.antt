@@ -1,0 +1,48 @@
+-- `print_rules` answers `separatedRules`. Assumes nothing.
+use mathlib.Core.Path.{sym, _∙_}
+use denote.Ref.{now}
+use Rattle.separated.proofs.Answering.{unrefused, answered-fault, answered-passed}
+use borrow.Author.Needs.{needs}
+use Rattle.separated.proofs.print_rules.Statement.{statement}
+use Rattle.separated.proofs.print_rules.Tie as tie
+use Rattle.separated.proofs.print_rules.Reads as reads
+use Rattle.separated.proofs.print_rules.Lts as lts
+use Rattle.separated.proofs.checks.check_call.Reads as check-call-reads
+use Rattle.separated.proofs.print_passed.Reads as print-passed-reads
+
+check-call-requires : tie.Need-check-call-requires
+check-call-requires c κs = search needs
+
+enum-told : tie.Need-enum-told
+enum-told c = search needs
+
+print-passed-requires : tie.Need-print-passed-requires
+print-passed-requires c κs = (record { held = c .before .before .before .before .before .before .before .before .before .before .before .before .pre .0; unrefused = λ rs h. unrefused rs (c .before .before .before .before .before .before .before .before .before .before .before .before .args .separator) (c .before .before .before .before .before .before .before .before .before .before .before .before .args .mode) (now (c .before .before .before .before .before .before .before .before .before .before .before .before .args .records)) (now (c .before .before .before .before .before .before .before .before .before .before .before .before .args .pool)) (sym (c .before .before .enum-told .given .1) ∙ c .before .before .before .before .check-call .ensures rs h) }, c .before .before .before .before .before .before .before .before .before .before .before .before .pre .1)
+
+enum-known-refusal : tie.Need-enum-known-refusal
+enum-known-refusal c = search needs
+
+same-length : tie.Need-same-length
+same-length c = search needs
+
+same-length-2 : tie.Need-same-length-2
+same-length-2 c = search needs
+
+returns : tie.Need-returns
+returns c = λ rs h. answered-passed rs (c .before .before .before .before .before .before .before .before .before .before .before .before .before .before .before .before .before .args .separator) (c .before .before .before .before .before .before .before .before .before .before .before .before .before .before .before .before .before .args .mode) (now (c .before .before .before .before .before .before .before .before .before .before .before .before .before .before .before .before .before .args .records)) (now (c .before .before .before .before .before .before .before .before .before .before .before .before .before .before .before .before .before .args .pool)) _ (sym (c .before .before .before .before .before .before .before .enum-told .given .1) ∙ c .before .before .before .before .before .before .before .before .before .check-call .ensures rs h) (c .before .before .before .before .print-passed .ensures rs h)
+
+returns-2 : tie.Need-returns-2
+returns-2 c = λ rs h. answered-fault rs (c .before .before .before .before .before .before .before .before .before .before .before .args .separator) (c .before .before .before .before .before .before .before .before .before .before .before .args .mode) (now (c .before .before .before .before .before .before .before .before .before .before .before .args .records)) (now (c .before .before .before .before .before .before .before .before .before .before .before .args .pool)) _ (sym (c .before .refusal .given .1) ∙ c .before .before .before .check-call .ensures rs h)
+
+pub print-rules-spec : {M : Type 1} → statement M
+print-rules-spec =
+    tie.close
+    (tie.spec
+    check-call-requires
+    enum-told
+    print-passed-requires
+    enum-known-refusal
+    same-length
+    same-length-2
+    returns
+    returns-2)

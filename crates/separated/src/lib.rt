@@ -1,0 +1,219 @@
+// Printing a list of plain tokens with separators between them, the paper's spacing writing. Tokens and separators are put together in
+// a scratch of the call's own, so that the output stands as it was where the list is refused.
+pub mod bytes;
+pub mod checks;
+pub mod spacing;
+pub mod used;
+
+use book::BookAnswer;
+use book::reading::Book;
+use book::refusal::Refusal;
+use checks::Checked;
+use printer::PrintAnswer;
+use printer::lists;
+use printer::tokens::TokenRecord;
+use spacing::Placed;
+ghost use mathlib.Core.Path.{_≡_};
+ghost use mathlib.Core.List.{List};
+ghost use Prim.Native.Nat.{_≤_};
+ghost use lib.ListN.{length, drop};
+ghost use Rattle.automaton.specs.Rule.{Rule};
+ghost use Rattle.book.specs.State.{Fresh};
+ghost use Rattle.lexer.specs.Outcome.{maxText};
+ghost use Rattle.lexer.specs.Answers.{Holds, Held};
+ghost use Rattle.printer.specs.Outcome.{Answered};
+ghost use Rattle.separated.specs.Outcome.{writing, spelled, separatedRules, separatedOutcome};
+ghost use Rattle.separated.specs.Answers.{Passed};
+
+// Prints the tokens that `records` say with `pool`, by the rules of a book, with the separator token between neighbours: in mode 1, and
+// in mode 0, between all, in mode 2 where a token would be read on. The answer is the number of bytes, which stand at the start of
+// `out`, or the refusal of document 01. Every other byte of `out` stays as it was.
+pub fn print_separated(
+    book: &[u8],
+    separator: TokenRecord,
+    mode: u32,
+    records: &[u8],
+    pool: &[u8],
+    out: &mut [u8],
+) -> PrintAnswer
+    ensures { λ r. ⌜ r ≡ (separatedOutcome (now (book .entry)) separator mode (now (records .entry)) (now (pool .entry)) (now (out .entry))) .answer ⌝ }
+    ensures { λ r. ⌜ now (out .exit) ≡ (separatedOutcome (now (book .entry)) separator mode (now (records .entry)) (now (pool .entry)) (now (out .entry))) .out ⌝ }
+{
+    let mut headers = [0u64; Book::RULES];
+    let mut states = [0u16; Book::CELLS];
+    let mut edges = [0u64; Book::EDGES];
+    let mut scratch = [0u8; Book::TEXT];
+    print_arrays(
+        book,
+        &mut headers,
+        &mut states,
+        &mut edges,
+        separator,
+        mode,
+        records,
+        pool,
+        &mut scratch,
+        out,
+    )
+}
+
+fn print_arrays(
+    book: &[u8],
+    headers: &mut [u64; Book::RULES],
+    states: &mut [u16; Book::CELLS],
+    edges: &mut [u64; Book::EDGES],
+    separator: TokenRecord,
+    mode: u32,
+    records: &[u8],
+    pool: &[u8],
+    scratch: &mut [u8; Book::TEXT],
+    out: &mut [u8],
+) -> PrintAnswer
+    requires { ⌜ Fresh (now headers) (now states) (now edges) ⌝ }
+    requires { ⌜ length (now scratch) ≡ maxText ⌝ }
+    ensures { λ r. ⌜ Answered (separatedOutcome (now (book .entry)) separator mode (now (records .entry)) (now (pool .entry)) (now (out .entry))) r (now (out .exit)) ⌝ }
+{
+    print_book(
+        book,
+        headers,
+        states,
+        edges,
+        separator,
+        mode,
+        records,
+        pool,
+        scratch,
+        out,
+    )
+}
+
+fn print_book(
+    book: &[u8],
+    headers: &mut [u64],
+    states: &mut [u16],
+    edges: &mut [u64],
+    separator: TokenRecord,
+    mode: u32,
+    records: &[u8],
+    pool: &[u8],
+    scratch: &mut [u8],
+    out: &mut [u8],
+) -> PrintAnswer
+    requires { ⌜ Fresh (now headers) (now states) (now edges) ⌝ }
+    requires { ⌜ length (now scratch) ≡ maxText ⌝ }
+    ensures { λ r. ⌜ Answered (separatedOutcome (now (book .entry)) separator mode (now (records .entry)) (now (pool .entry)) (now (out .entry))) r (now (out .exit)) ⌝ }
+{
+    match book::load(book, headers, states, edges) {
+        BookAnswer::Accepted(rules) => print_rules(
+            headers,
+            states,
+            edges,
+            rules,
+            separator,
+            mode,
+            records,
+            pool,
+            scratch,
+            out,
+        ),
+        BookAnswer::Refused(refusal) => PrintAnswer::Refused(refusal),
+    }
+}
+
+// The same by rules that the tables hold.
+pub fn print_rules(
+    headers: &[u64],
+    states: &[u16],
+    edges: &[u64],
+    rules: usize,
+    separator: TokenRecord,
+    mode: u32,
+    records: &[u8],
+    pool: &[u8],
+    scratch: &mut [u8],
+    out: &mut [u8],
+) -> PrintAnswer
+    requires { ⌜ Held (now headers) (now states) (now edges) rules ⌝ }
+    requires { ⌜ length (now scratch) ≡ maxText ⌝ }
+    ensures { λ r. ⌜ ((rs : List Rule) → Holds (now (headers .entry)) (now (states .entry)) (now (edges .entry)) rules rs
+        → Answered (separatedRules rs separator mode (now (records .entry)) (now (pool .entry)) (now (out .entry))) r (now (out .exit))) ⌝ }
+{
+    match checks::check_call(
+        headers,
+        states,
+        edges,
+        rules,
+        separator,
+        mode,
+        records,
+        pool,
+    ) {
+        Checked::Passed => print_passed(
+            headers,
+            states,
+            edges,
+            rules,
+            separator,
+            mode,
+            records,
+            pool,
+            scratch,
+            out,
+        ),
+        Checked::Refused(refusal) => PrintAnswer::Refused(refusal),
+    }
+}
+
+// The same of a call that the checks pass.
+fn print_passed(
+    headers: &[u64],
+    states: &[u16],
+    edges: &[u64],
+    rules: usize,
+    separator: TokenRecord,
+    mode: u32,
+    records: &[u8],
+    pool: &[u8],
+    scratch: &mut [u8],
+    out: &mut [u8],
+) -> PrintAnswer
+    requires { ⌜ Passed (now headers) (now states) (now edges) rules separator mode (now records) (now pool) ⌝ }
+    requires { ⌜ length (now scratch) ≡ maxText ⌝ }
+    ensures { λ r. ⌜ ((rs : List Rule) → Holds (now (headers .entry)) (now (states .entry)) (now (edges .entry)) rules rs
+        → Answered (writing (spelled rs separator mode (now (records .entry)) (now (pool .entry))) (now (out .entry))) r (now (out .exit))) ⌝ }
+{
+    match spacing::put_list(
+        headers,
+        states,
+        edges,
+        rules,
+        separator,
+        mode,
+        records,
+        pool,
+        scratch,
+    ) {
+        Placed::At(at) => write_from(scratch, at, out),
+        Placed::Full => refused(Refusal::OUTPUT_TOO_LONG, 0),
+    }
+}
+
+// Writes what stands in the scratch from `at` on.
+fn write_from(scratch: &[u8], at: usize, out: &mut [u8]) -> PrintAnswer
+    requires { ⌜ length (now scratch) ≡ maxText ⌝ }
+    requires { ⌜ at ≤ length (now scratch) ⌝ }
+    ensures { λ r. ⌜ Answered (writing (drop at (now (scratch .entry))) (now (out .entry))) r (now (out .exit)) ⌝ }
+{
+    let total = scratch.len() - at;
+    if out.len() < total {
+        return refused(Refusal::OUTPUT_TOO_SHORT, total);
+    }
+    lists::copy(scratch, at, total, out, 0);
+    PrintAnswer::Printed(total)
+}
+
+fn refused(number: u8, place: usize) -> PrintAnswer
+    ensures { λ r. ⌜ r ≡ PrintAnswer.Refused (record { number = number; place = place }) ⌝ }
+{
+    PrintAnswer::Refused(Refusal { number, place })
+}
