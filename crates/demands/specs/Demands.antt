@@ -127,7 +127,7 @@ SpacingEqualLists =
     → (sep₁ : TokenRecord) (records₁ pool₁ out₁ : List ℕ) (n₁ : ℕ) → Spaces book sep₁ mode records₁ pool₁ out₁ n₁
     → tokenIn pool sep ≡ tokenIn pool₁ sep₁
     → (tokensOf records pool ≡ tokensOf records₁ pool₁)
-      ↔ (spaced book sep mode records pool out n ≡ spaced book sep₁ mode records₁ pool₁ out₁ n₁)
+    ↔ (spaced book sep mode records pool out n ≡ spaced book sep₁ mode records₁ pool₁ out₁ n₁)
 
 -- "cutting its output leaves no rest and, with separators dropped, gives the list back, the same tags and bytes in the same order":
 -- "under the same book with records enough".

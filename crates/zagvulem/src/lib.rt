@@ -3,13 +3,15 @@ use book::BookAnswer;
 use book::refusal::Refusal;
 use lexer::LexAnswer;
 use printer::PrintAnswer;
+use printer::tokens::TokenRecord;
 ghost use mathlib.Core.Path.{_≡_};
 ghost use Prim.Native.Nat.{min};
 ghost use Rattle.book.specs.Reading.{readBook, answer};
 ghost use Rattle.lexer.specs.Outcome.{lexOutcome};
 ghost use Rattle.builtin.specs.Book.{builtinBytes};
 ghost use Rattle.printer.specs.Outcome.{printOutcome};
-ghost use Rattle.zagvulem.specs.Words.{refusalWord, acceptedWord, bookWord, lexWord, printWord};
+ghost use Rattle.separated.specs.Outcome.{separatedOutcome};
+ghost use Rattle.zagvulem.specs.Words.{refusalWord, acceptedWord, bookWord, lexWord, printWord, separator};
 
 // Reads a book: the number of its rules and 0, or the refusal.
 #[no_mangle]
@@ -47,6 +49,29 @@ pub extern "C" fn zgv_print(book: &[u8], records: &[u8], pool: &[u8], out: &mut 
     ensures { λ r. ⌜ now (out .exit) ≡ (printOutcome (now (book .entry)) (now (records .entry)) (now (pool .entry)) (now (out .entry))) .out ⌝ }
 {
     printed(printer::print(book, records, pool, out))
+}
+
+// Prints the tokens with a separator token between them: the number of bytes and 0, or the refusal.
+#[no_mangle]
+pub extern "C" fn zgv_print_separated(
+    book: &[u8],
+    separator_tag: u16,
+    separator_place: u32,
+    separator_length: u32,
+    mode: u32,
+    records: &[u8],
+    pool: &[u8],
+    out: &mut [u8],
+) -> u64
+    ensures { λ r. ⌜ r ≡ printWord ((separatedOutcome (now (book .entry)) (separator «separator_tag» «separator_place» «separator_length») mode (now (records .entry)) (now (pool .entry)) (now (out .entry))) .answer) ⌝ }
+    ensures { λ r. ⌜ now (out .exit) ≡ (separatedOutcome (now (book .entry)) (separator «separator_tag» «separator_place» «separator_length») mode (now (records .entry)) (now (pool .entry)) (now (out .entry))) .out ⌝ }
+{
+    let token = TokenRecord {
+        tag: separator_tag as u64,
+        place: separator_place as usize,
+        len: separator_length as usize,
+    };
+    printed(separated::print_separated(book, token, mode, records, pool, out))
 }
 
 fn printed(answer: PrintAnswer) -> u64
