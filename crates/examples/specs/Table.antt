@@ -1,7 +1,7 @@
 -- The table of examples: a book's bytes, what is asked, and what document 01 says it gives.
 use mathlib.Core.Path.{_≡_}
 use Prim.Native.Nat.{ℕ, _-_}
-use mathlib.Core.List.{List, [], _∷_}
+use mathlib.Core.List.{List, [], _∷_, _++_}
 use lib.ListN.{length, take, replicate}
 use Rattle.automaton.specs.Choice.{All}
 use Rattle.book.specs.Reading.{Reading, accepted, refused, readBook}
@@ -10,6 +10,7 @@ use Rattle.lexer.specs.Records.{recordsAt}
 use Rattle.printer.specs.declared.PrintAnswer.{PrintAnswer}
 use Rattle.printer.specs.declared.PrintAnswer.the-variants as answer
 use Rattle.printer.specs.Outcome.{PrintOutcome, printOutcome}
+use Rattle.separated.specs.Outcome.{separatedOutcome}
 use Rattle.listing.specs.Lines.{listing, recordBytes}
 use Rattle.examples.specs.Books.{bookA, bookB, bookC}
 
@@ -21,6 +22,8 @@ pub data Question : Type 0 where
   lines : List ℕ → Question
   -- what the plain printer writes for a list
   plain : List Token → Question
+  -- what the spacing printer writes for a list with one blank of tag 4, in a mode
+  blanks : ℕ → List Token → Question
 
 -- what it gives
 pub data Result : Type 0 where
@@ -54,6 +57,10 @@ result book (cut text) = cutBy (readBook book) text
 result book (lines text) = bytes (listing book text (replicate recordBytes 0))
 -- the tokens lie one behind the other in the pool
 result book (plain ts) = printBy (printOutcome book (recordsAt 0 ts) (join ts) room)
+-- and the blank behind them
+result book (blanks mode ts) =
+    printBy
+    (separatedOutcome book (record { tag = 4; place = length (join ts); len = 1 }) mode (recordsAt 0 ts) (join ts ++ (32 ∷ [])) room)
 
 pub record Example : Type 0 where
   pub book : List ℕ
@@ -107,6 +114,10 @@ table =
     ∷ row bookA (plain []) (bytes [])
     -- 1 "a", 2 "bc" is refused 21 at 0
     ∷ row bookB (plain (a ∷ token 2 (98 ∷ 99 ∷ []) ∷ [])) (refusal 21 0)
+    -- spacing by " ": a, b, c in mode 1 "a b c"
+    ∷ row bookA (blanks 1 (a ∷ b ∷ c ∷ [])) (bytes (97 ∷ 32 ∷ 98 ∷ 32 ∷ 99 ∷ []))
+    -- in mode 2 "a bc"
+    ∷ row bookA (blanks 2 (a ∷ b ∷ c ∷ [])) (bytes (97 ∷ 32 ∷ 98 ∷ 99 ∷ []))
     ∷ []
 
 -- every example is right

@@ -40,7 +40,7 @@ unfoldable pub sharing : Option ℕ → Option Refusal
 sharing none = none
 sharing (some b) = some (record { number = 23; place = b })
 
--- what is refused before anything is put together: 24, the separator's faults at the list's length, 16, the first token at fault
+-- what is refused before anything is put together, also of the empty list: 24, the separator's faults at the list's length, 16, the first token at fault
 unfoldable pub listRefusal : List Rule → TokenRecord → ℕ → List ℕ → List ℕ → Option Refusal
 listRefusal rules sep mode records pool =
     refuse (ltb 2 mode) 24 0
@@ -52,7 +52,7 @@ listRefusal rules sep mode records pool =
 unfoldable pub separatedRefusal : List Rule → TokenRecord → ℕ → List ℕ → List ℕ → Option Refusal
 separatedRefusal rules sep mode records pool = or (sharing (sharedByte rules)) (listRefusal rules sep mode records pool)
 
--- 20 and 22, then the bytes
+-- 20, separators counted, and 22, then the bytes
 unfoldable pub writing : List ℕ → List ℕ → PrintOutcome
 writing bytes out =
     check (ltb maxText (length bytes)) 20 0 out
