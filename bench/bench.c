@@ -1,0 +1,529 @@
+/*
+ * bench.c - times of the library beside other lexers, in one run
+ *
+ * Contenders of a table are measured in turns, several rounds; the best round of each counts. Ratios are times divided by
+ * that of the table's first line. The output is a page of tables.
+ */
+#define _POSIX_C_SOURCE 199309L
+
+#include "chains.h"
+#include "dense.h"
+#include "zagvulem.h"
+#ifdef HAVE_FLEX
+#include "flex_lexer.h"
+#endif
+
+#include <stdio.h>
+#include <stdlib.h>
+#include <string.h>
+#include <time.h>
+
+enum { ROUNDS = 80, SHEET = 65536, LINE = 30, LINES = 512, MAX_CONTENDERS = 8 };
+
+static uint8_t *sheet;      /* a timed lyric sheet, with two zero bytes behind it */
+static size_t sheet_len;
+static uint8_t *records;    /* room for a record of every byte */
+static uint8_t *out;
+static uint8_t book[ZGV_BOOK_BYTES];
+static size_t book_len;
+static dense *table;
+static volatile uint64_t sink;
+
+/* Processor time of this program, so that what else the machine does counts less. */
+static double now(void)
+{
+    struct timespec t;
+    clock_gettime(CLOCK_PROCESS_CPUTIME_ID, &t);
+    return (double)t.tv_sec + 1e-9 * (double)t.tv_nsec;
+}
+
+static void fail(const char *why)
+{
+    fprintf(stderr, "bench: %s\n", why);
+    exit(EXIT_FAILURE);
+}
+
+/* One contender: what is run, how many bytes that handles, its best time so far. */
+typedef struct contender {
+    const char *name;
+    void (*run)(void);
+    double bytes, best;
+} contender;
+
+/* Times of the contenders, in turns. A turn runs long enough for the clock. */
+static void measure(contender *all, size_t count)
+{
+    size_t repeat[MAX_CONTENDERS], i;
+    int round;
+    for (i = 0; i < count; i++) {
+        double begin = now(), spent;
+        all[i].run();
+        spent = now() - begin;
+        repeat[i] = spent > 0.002 ? 1 : (size_t)(0.002 / (spent + 1e-8)) + 1;
+        all[i].best = 1e9;
+    }
+    for (round = 0; round < ROUNDS; round++)
+        for (i = 0; i < count; i++) {
+            size_t n;
+            double begin = now(), spent;
+            for (n = 0; n < repeat[i]; n++)
+                all[i].run();
+            spent = (now() - begin) / (double)repeat[i];
+            if (spent < all[i].best)
+                all[i].best = spent;
+        }
+}
+
+static void print_table(const char *title, contender *all, size_t count, double calls)
+{
+    size_t i;
+    measure(all, count);
+    printf("\n%s\n\n| | µs a call | MB/s | time, first line = 1 |\n|---|---:|---:|---:|\n", title);
+    for (i = 0; i < count; i++)
+        printf("| %s | %.2f | %.0f | %.2f |\n", all[i].name, all[i].best * 1e6 / calls, all[i].bytes / all[i].best / 1e6,
+               all[i].best / all[0].best);
+}
+
+/* ---- Inputs */
+
+static uint32_t seed = 1;
+
+static uint32_t draw(uint32_t below)
+{
+    seed = seed * 1664525u + 1013904223u;
+    return (seed >> 8) % below;
+}
+
+static void make_sheet(void)
+{
+    static const char *const words[] = {"lamps", "along", "the", "harbour", "wall", "count", "boats", "that", "come", "and",
+                                        "go", "one", "for", "every", "evening", "bell", "rain", "has", "drawn", "a",
+                                        "silver", "line", "caf\xC3\xA9", "quay", "hey,", "slow", "(again)", "oh"};
+    char line[256];
+    unsigned time = 400;
+    for (;;) {
+        int n = sprintf(line, "[%02u:%02u.%02u]", time / 6000 % 100, time / 100 % 60, time % 100);
+        uint32_t i, count = 4 + draw(5);
+        for (i = 0; i < count; i++)
+            n += sprintf(line + n, i == 0 ? "%s" : " %s", words[draw(sizeof words / sizeof words[0])]);
+        n += sprintf(line + n, "\n");
+        if (sheet_len + (size_t)n > SHEET)
+            return;
+        memcpy(sheet + sheet_len, line, (size_t)n);
+        sheet_len += (size_t)n;
+        time += 250 + draw(300);
+    }
+}
+
+/* Lines of 30 bytes, each with two zero bytes behind it. */
+static uint8_t lines[LINES][LINE + 2];
+
+static void make_lines(void)
+{
+    static const char *const ends[] = {"one for every bells", "the boats of papers", "count them slow hey", "all the water falls"};
+    size_t i;
+    for (i = 0; i < LINES; i++) {
+        char line[64];
+        int n = sprintf(line, "[%02u:%02u.%02u]%s\n", (unsigned)draw(60), (unsigned)draw(60), (unsigned)draw(100), ends[draw(4)]);
+        if (n != LINE)
+            fail("a line is not 30 bytes long");
+        memcpy(lines[i], line, LINE);
+    }
+}
+
+static void read_builtin(const char *name)
+{
+    FILE *file = fopen(name, "rb");
+    if (file == NULL)
+        fail("the book cannot be opened");
+    book_len = fread(book, 1, sizeof book, file);
+    fclose(file);
+}
+
+/* ---- Lexing the sheet and the lines */
+
+#define ROOM (SHEET * ZGV_RECORD_BYTES)
+
+static void sheet_zgv(void) { sink = zgv_lex(book, book_len, sheet, sheet_len, records, ROOM); }
+static void sheet_builtin(void) { sink = zgv_lex_builtin(sheet, sheet_len, records, ROOM); }
+static void sheet_chains(void) { sink = chains_lex(book, book_len, sheet, sheet_len, records, ROOM); }
+static void sheet_dense(void) { sink = dense_lex(table, sheet, sheet_len, records); }
+
+/* Fewer records than bytes, though enough: the library counts before it stores. */
+#define FEWER (SHEET / 2 * ZGV_RECORD_BYTES)
+static void sheet_counted(void) { sink = zgv_lex(book, book_len, sheet, sheet_len, records, FEWER); }
+static void sheet_builtin_counted(void) { sink = zgv_lex_builtin(sheet, sheet_len, records, FEWER); }
+
+#define EACH_LINE(call)                   \
+    do {                                  \
+        size_t i;                         \
+        for (i = 0; i < LINES; i++) {     \
+            uint8_t *line = lines[i];     \
+            sink = call;                  \
+        }                                 \
+    } while (0)
+
+static void lines_zgv(void) { EACH_LINE(zgv_lex(book, book_len, line, LINE, records, ROOM)); }
+static void lines_builtin(void) { EACH_LINE(zgv_lex_builtin(line, LINE, records, ROOM)); }
+static void lines_chains(void) { EACH_LINE(chains_lex(book, book_len, line, LINE, records, ROOM)); }
+static void lines_dense(void) { EACH_LINE(dense_lex(table, line, LINE, records)); }
+
+#ifdef HAVE_FLEX
+static void sheet_flex(void) { sink = flex_lex((char *)sheet, sheet_len, records); }
+static void lines_flex(void) { EACH_LINE(flex_lex((char *)line, LINE, records)); }
+#endif
+
+/* All contenders must give the same records before any is timed. */
+static void check_same(void)
+{
+    uint8_t *first = malloc(ROOM);
+    uint64_t answer;
+    size_t used;
+    void (*others[])(void) = {sheet_builtin, sheet_chains, sheet_dense, sheet_counted, sheet_builtin_counted,
+#ifdef HAVE_FLEX
+                              sheet_flex
+#endif
+    };
+    size_t i;
+    if (first == NULL)
+        fail("out of memory");
+    sheet_zgv();
+    answer = sink;
+    used = (size_t)zgv_first(answer) * ZGV_RECORD_BYTES;
+    if (zgv_number(answer) != ZGV_ACCEPTED || zgv_second(answer) != sheet_len)
+        fail("the sheet is not cut whole");
+    memcpy(first, records, used);
+    for (i = 0; i < sizeof others / sizeof others[0]; i++) {
+        memset(records, 0, ROOM);
+        others[i]();
+        if (sink != answer || memcmp(first, records, used) != 0)
+            fail("two lexers give different records");
+    }
+    printf("The sheet: %lu bytes, %lu tokens. A line: %d bytes.\n", (unsigned long)sheet_len,
+           (unsigned long)zgv_first(answer), LINE);
+    free(first);
+}
+
+static void bench_lexers(void)
+{
+    contender on_sheet[] = {
+        {"`zgv_lex`, built-in book as bytes", sheet_zgv, 0, 0},
+        {"`zgv_lex_builtin`", sheet_builtin, 0, 0},
+        {"chains in C", sheet_chains, 0, 0},
+        {"one dense table in C, built before", sheet_dense, 0, 0},
+#ifdef HAVE_FLEX
+        {"flex, full tables", sheet_flex, 0, 0},
+#endif
+        {"`zgv_lex`, fewer records than bytes", sheet_counted, 0, 0},
+        {"`zgv_lex_builtin`, fewer records than bytes", sheet_builtin_counted, 0, 0},
+    };
+    contender on_lines[] = {
+        {"`zgv_lex`, built-in book as bytes", lines_zgv, 0, 0},
+        {"`zgv_lex_builtin`", lines_builtin, 0, 0},
+        {"chains in C", lines_chains, 0, 0},
+        {"one dense table in C, built before", lines_dense, 0, 0},
+#ifdef HAVE_FLEX
+        {"flex, full tables", lines_flex, 0, 0},
+#endif
+    };
+    size_t i;
+    for (i = 0; i < sizeof on_sheet / sizeof on_sheet[0]; i++)
+        on_sheet[i].bytes = (double)sheet_len;
+    for (i = 0; i < sizeof on_lines / sizeof on_lines[0]; i++)
+        on_lines[i].bytes = (double)LINES * LINE;
+    print_table("### Lexing a sheet of 64 KB", on_sheet, sizeof on_sheet / sizeof on_sheet[0], 1);
+    print_table("### Lexing lines of 30 bytes, a call for each", on_lines, sizeof on_lines / sizeof on_lines[0], LINES);
+}
+
+/* ---- Printing */
+
+static uint8_t *list;       /* the tokens of the sheet */
+static size_t list_len;
+static uint8_t *plain;      /* those of plain rules in the sheet's first 60,000 bytes, which fit with separators too */
+static size_t plain_len;
+static zgv_token blank;
+static size_t written[3];
+
+static void print_memcpy(void)
+{
+    memcpy(out, sheet, sheet_len);
+    sink = out[sheet_len / 2];
+}
+static void print_plain(void) { sink = zgv_print(book, book_len, list, list_len, sheet, sheet_len, out, SHEET); }
+static void print_mode(uint32_t mode)
+{
+    sink = zgv_print_separated(book, book_len, blank.tag, blank.place, blank.length, mode, plain, plain_len, sheet, sheet_len,
+                               out, SHEET);
+}
+static void print_mode_1(void) { print_mode(ZGV_MODE_ALL); }
+static void print_mode_2(void) { print_mode(ZGV_MODE_SPARE); }
+
+static void bench_printers(void)
+{
+    contender all[] = {
+        {"memcpy of as many bytes", print_memcpy, 0, 0},
+        {"`zgv_print`", print_plain, 0, 0},
+        {"`zgv_print_separated`, mode 1", print_mode_1, 0, 0},
+        {"`zgv_print_separated`, mode 2", print_mode_2, 0, 0},
+    };
+    size_t tokens, i, kept = 0;
+    list = malloc(ROOM);
+    plain = malloc(ROOM);
+    if (list == NULL || plain == NULL)
+        fail("out of memory");
+    sheet_zgv();
+    tokens = zgv_first(sink);
+    list_len = tokens * ZGV_RECORD_BYTES;
+    memcpy(list, records, list_len);
+    for (i = 0; i < tokens; i++) {
+        zgv_token t = zgv_get_record(list, i);
+        if (t.tag == 3 || t.tag == 4) {
+            if (t.tag == 3 && t.length == 1)
+                blank = t;
+        } else if (t.place < 60000) {
+            zgv_put_record(plain, kept++, t);
+        }
+    }
+    plain_len = kept * ZGV_RECORD_BYTES;
+    all[0].bytes = (double)sheet_len;
+    for (i = 1; i < 4; i++) {
+        all[i].run();
+        if (zgv_number(sink) != ZGV_ACCEPTED)
+            fail("a printer refuses the sheet");
+        written[i - 1] = zgv_first(sink);
+        all[i].bytes = (double)written[i - 1];
+    }
+    if (written[0] != sheet_len)
+        fail("the plain printer does not write the sheet");
+    print_table("### Printing the sheet's tokens", all, 4, 1);
+    printf("\nMode 1 writes %lu bytes, mode 2 %lu.\n", (unsigned long)written[1], (unsigned long)written[2]);
+}
+
+/* ---- Growth */
+
+static uint8_t wide_book[ZGV_BOOK_BYTES];
+static size_t wide_len;
+static uint8_t wide_text[SHEET];
+
+static void put(const uint8_t *bytes, size_t count)
+{
+    if (wide_len + count > sizeof wide_book)
+        fail("a book is too long");
+    memcpy(wide_book + wide_len, bytes, count);
+    wide_len += count;
+}
+
+static void open_rule(unsigned tag, uint8_t final)
+{
+    uint8_t head[10] = {1, 0, 0, 0, 2, 0, 3, 255, 4, 0};
+    head[1] = (uint8_t)(tag >> 8);
+    head[2] = (uint8_t)tag;
+    head[9] = final;
+    put(head, sizeof head);
+}
+
+static void span(unsigned from, unsigned low, unsigned high, unsigned to)
+{
+    uint8_t s[5];
+    s[0] = 6;
+    s[1] = (uint8_t)from;
+    s[2] = (uint8_t)low;
+    s[3] = (uint8_t)high;
+    s[4] = (uint8_t)to;
+    put(s, sizeof s);
+}
+
+static void step(unsigned from, unsigned byte, unsigned to)
+{
+    uint8_t s[4];
+    s[0] = 5;
+    s[1] = (uint8_t)from;
+    s[2] = (uint8_t)byte;
+    s[3] = (uint8_t)to;
+    put(s, sizeof s);
+}
+
+static void end_rule(void) { put((const uint8_t *)"\x07", 1); }
+static void end_book(void) { put((const uint8_t *)"\x08", 1); }
+
+static void wide_zgv(void) { sink = zgv_lex(wide_book, wide_len, wide_text, SHEET, records, ROOM); }
+static void wide_chains(void) { sink = chains_lex(wide_book, wide_len, wide_text, SHEET, records, ROOM); }
+static void wide_dense(void) { sink = dense_lex(table, wide_text, SHEET, records); }
+
+static void growth_line(const char *name)
+{
+    contender all[] = {{"", wide_zgv, SHEET, 0}, {"", wide_chains, SHEET, 0}, {"", wide_dense, SHEET, 0}};
+    uint64_t answer;
+    wide_zgv();
+    answer = sink;
+    if (zgv_number(answer) != ZGV_ACCEPTED || zgv_second(answer) < SHEET - 256)
+        fail("a text for growth is not cut");
+    wide_chains();
+    if (sink != answer || !dense_build(table, wide_book, wide_len))
+        fail("a book for growth is too large");
+    wide_dense();
+    if (sink != answer)
+        fail("two lexers differ on growth");
+    measure(all, 3);
+    printf("| %s | %lu | %.0f | %.0f | %.0f |\n", name, (unsigned long)wide_len, SHEET / all[0].best / 1e6,
+           SHEET / all[1].best / 1e6, SHEET / all[2].best / 1e6);
+}
+
+/* Tokens of five bytes, a letter and four digits. Rule k takes those of its letter. */
+static void rules_apart(unsigned count)
+{
+    unsigned k;
+    size_t i;
+    char name[64];
+    wide_len = 0;
+    for (k = 0; k < count; k++) {
+        open_rule(k + 1, 1);
+        step(0, 0x40 + k, 1);
+        span(1, '0', '9', 1);
+        end_rule();
+    }
+    end_book();
+    for (i = 0; i < SHEET; i++)
+        wide_text[i] = i % 5 == 0 ? (uint8_t)(0x40 + draw(count)) : (uint8_t)('0' + draw(10));
+    sprintf(name, "%u rule%s, one walks on past a token's first byte", count, count == 1 ? "" : "s");
+    growth_line(name);
+}
+
+/* The same tokens between blanks, where every rule walks over the whole token. */
+static void rules_together(unsigned count)
+{
+    unsigned k;
+    size_t i;
+    char name[64];
+    wide_len = 0;
+    for (k = 0; k < count; k++) {
+        open_rule(k + 1, 2);
+        span(0, '0', '9', 1);
+        span(1, '0', '9', 1);
+        step(1, 0x40 + k, 2);
+        end_rule();
+    }
+    end_book();
+    for (i = 0; i < SHEET; i++)
+        wide_text[i] = i % 5 == 4 ? (uint8_t)(0x40 + draw(count)) : (uint8_t)('0' + draw(10));
+    sprintf(name, "%u rule%s, all walk over the whole token", count, count == 1 ? "" : "s");
+    growth_line(name);
+}
+
+/* One rule: tokens of four bytes, with the transitions from four states. */
+static void moves_at_few(unsigned count)
+{
+    unsigned k, each = count / 4;
+    size_t i;
+    char name[64];
+    wide_len = 0;
+    open_rule(1, 4);
+    for (k = 0; k < count; k++)
+        step(k / each, k % each, k / each + 1);
+    end_rule();
+    end_book();
+    for (i = 0; i < SHEET; i++)
+        wide_text[i] = (uint8_t)draw(each);
+    sprintf(name, "%u transitions from 4 states", count);
+    growth_line(name);
+}
+
+/* One rule: tokens as long as half the transitions, with two from each state. */
+static void moves_spread(unsigned count)
+{
+    unsigned k, states = count / 2 < 250 ? count / 2 : 250;
+    size_t i;
+    char name[64];
+    wide_len = 0;
+    open_rule(1, (uint8_t)states);
+    for (k = 0; k < states; k++) {
+        step(k, 'a', k + 1);
+        step(k, 'b', k + 1);
+    }
+    for (k = 2 * states; k < count; k++)
+        step(251 + (k - 2 * states) / 250, (k - 2 * states) % 250, 251);
+    end_rule();
+    end_book();
+    for (i = 0; i < SHEET; i++)
+        wide_text[i] = (uint8_t)('a' + draw(2));
+    sprintf(name, "%u transitions, 2 from a state", count);
+    growth_line(name);
+}
+
+/* ---- Reading */
+
+static void read_zgv(void) { sink = zgv_read_book(book, book_len); }
+static void read_wide_zgv(void) { sink = zgv_read_book(wide_book, wide_len); }
+static void read_chains(const uint8_t *bytes, size_t len)
+{
+    chains t;
+    memset(&t, 0, sizeof t);
+    sink = chains_load(&t, bytes, len);
+}
+static void read_c(void) { read_chains(book, book_len); }
+static void read_wide_c(void) { read_chains(wide_book, wide_len); }
+
+static void bench_reading(void)
+{
+    contender all[] = {
+        {"`zgv_read_book`, the built-in book", read_zgv, 0, 0},
+        {"the same in C", read_c, 0, 0},
+        {"`zgv_read_book`, a full book, 256 transitions from a state", read_wide_zgv, 0, 0},
+        {"the same in C", read_wide_c, 0, 0},
+    };
+    unsigned k, rule;
+    wide_len = 0;
+    for (rule = 1; rule <= 15; rule++) {
+        open_rule(rule, 2);
+        for (k = 0; k < ZGV_RULE_TRANSITIONS; k++)
+            step(k / 256, k % 256, k / 256 + 1);
+        end_rule();
+    }
+    end_book();
+    all[0].bytes = all[1].bytes = (double)book_len;
+    all[2].bytes = all[3].bytes = (double)wide_len;
+    read_wide_zgv();
+    if (zgv_first(sink) != 15)
+        fail("the full book is refused");
+    print_table("### Reading a book", all, 4, 1);
+    printf("\nThe built-in book has %lu bytes, the full one %lu.\n", (unsigned long)book_len, (unsigned long)wide_len);
+}
+
+static void bench_growth(void)
+{
+    static const unsigned rules[] = {1, 8, 32}, moves[] = {16, 128, 512};
+    size_t i;
+    printf("\n### Growth with the book, a text of 65,536 bytes, MB/s\n\n"
+           "| book | its bytes | `zgv_lex` | chains in C | dense table |\n|---|---:|---:|---:|---:|\n");
+    for (i = 0; i < 3; i++)
+        rules_apart(rules[i]);
+    for (i = 0; i < 3; i++)
+        rules_together(rules[i]);
+    for (i = 0; i < 3; i++)
+        moves_at_few(moves[i]);
+    for (i = 0; i < 3; i++)
+        moves_spread(moves[i]);
+}
+
+int main(int argc, char **argv)
+{
+    sheet = calloc(1, SHEET + 2);
+    records = calloc(1, ROOM);
+    out = calloc(1, SHEET);
+    table = malloc(sizeof *table);
+    if (sheet == NULL || records == NULL || out == NULL || table == NULL)
+        fail("out of memory");
+    if (argc != 2)
+        fail("usage: bench BOOK");
+    read_builtin(argv[1]);
+    make_sheet();
+    make_lines();
+    if (!dense_build(table, book, book_len))
+        fail("the built-in book has no dense table");
+    check_same();
+    bench_lexers();
+    bench_printers();
+    bench_growth();
+    bench_reading();
+    return 0;
+}

@@ -1,0 +1,107 @@
+/*
+ * stack.c - how deep each call goes on the stack
+ *
+ * A thread gets a stack that is painted with one byte, makes one call and ends; what is no longer painted was used.
+ * The use of a thread that makes no call is taken off.
+ */
+#define _GNU_SOURCE
+
+#include "zagvulem.h"
+
+#include <pthread.h>
+#include <stdio.h>
+#include <stdlib.h>
+#include <string.h>
+
+enum { STACK = 1 << 20, PAINT = 0xC7 };
+
+static uint8_t book[ZGV_BOOK_BYTES];
+static size_t book_len;
+static const uint8_t text[] = "[00:12.50]oh yes [fade]\n[00:1";
+static uint8_t records[sizeof text * ZGV_RECORD_BYTES];
+static uint8_t out[256];
+static volatile uint64_t sink;
+
+static void *nothing(void *unused)
+{
+    sink = 0;
+    return unused;
+}
+static void *read_book(void *unused)
+{
+    sink = zgv_read_book(book, book_len);
+    return unused;
+}
+static void *lex(void *unused)
+{
+    sink = zgv_lex(book, book_len, text, sizeof text - 1, records, sizeof records);
+    return unused;
+}
+static void *lex_builtin(void *unused)
+{
+    sink = zgv_lex_builtin(text, sizeof text - 1, records, sizeof records);
+    return unused;
+}
+static void *print(void *unused)
+{
+    sink = zgv_print(book, book_len, records, 3 * ZGV_RECORD_BYTES, text, sizeof text - 1, out, sizeof out);
+    return unused;
+}
+static void *print_separated(void *unused)
+{
+    static uint8_t plain[2 * ZGV_RECORD_BYTES];
+    memcpy(plain, records, ZGV_RECORD_BYTES);
+    memcpy(plain + ZGV_RECORD_BYTES, records + ZGV_RECORD_BYTES, ZGV_RECORD_BYTES);
+    sink = zgv_print_separated(book, book_len, 3, 12, 1, ZGV_MODE_SPARE, plain, sizeof plain, text, sizeof text - 1, out,
+                               sizeof out);
+    return unused;
+}
+
+static size_t depth(void *(*call)(void *))
+{
+    pthread_attr_t attributes;
+    pthread_t thread;
+    size_t untouched = 0;
+    uint8_t *stack = aligned_alloc(4096, STACK);
+    if (stack == NULL)
+        exit(EXIT_FAILURE);
+    memset(stack, PAINT, STACK);
+    if (pthread_attr_init(&attributes) != 0 || pthread_attr_setstack(&attributes, stack, STACK) != 0
+        || pthread_create(&thread, &attributes, call, NULL) != 0 || pthread_join(thread, NULL) != 0)
+        exit(EXIT_FAILURE);
+    while (untouched < STACK && stack[untouched] == PAINT)
+        untouched++;
+    free(stack);
+    return STACK - untouched;
+}
+
+int main(int argc, char **argv)
+{
+    static const struct {
+        const char *name;
+        void *(*call)(void *);
+    } calls[] = {{"zgv_read_book", read_book},
+                 {"zgv_lex", lex},
+                 {"zgv_lex_builtin", lex_builtin},
+                 {"zgv_print", print},
+                 {"zgv_print_separated", print_separated}};
+    size_t i, base;
+    FILE *file = argc == 2 ? fopen(argv[1], "rb") : NULL;
+    if (file == NULL) {
+        fputs("usage: stack BOOK\n", stderr);
+        return EXIT_FAILURE;
+    }
+    book_len = fread(book, 1, sizeof book, file);
+    fclose(file);
+    base = depth(nothing);
+    printf("\n### Stack of a call\n\n| call | bytes |\n|---|---:|\n");
+    for (i = 0; i < sizeof calls / sizeof calls[0]; i++) {
+        size_t used = depth(calls[i].call);
+        if (zgv_number(sink) != ZGV_ACCEPTED) {
+            fprintf(stderr, "stack: %s refuses\n", calls[i].name);
+            return EXIT_FAILURE;
+        }
+        printf("| `%s` | %lu |\n", calls[i].name, (unsigned long)(used > base ? used - base : 0));
+    }
+    return EXIT_SUCCESS;
+}

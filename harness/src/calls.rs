@@ -1,0 +1,194 @@
+//! A call of one of the five operations, and what it leaves.
+
+use crate::reference::{self, Cut, Record, Refusal};
+
+#[derive(Clone, Copy, Debug, PartialEq, Eq, PartialOrd, Ord)]
+pub enum Operation {
+    ReadBook,
+    Lex,
+    LexBuiltin,
+    Print,
+    PrintSeparated,
+}
+
+pub const OPERATIONS: [Operation; 5] =
+    [Operation::ReadBook, Operation::Lex, Operation::LexBuiltin, Operation::Print, Operation::PrintSeparated];
+
+impl Operation {
+    pub fn name(self) -> &'static str {
+        match self {
+            Operation::ReadBook => "zgv_read_book",
+            Operation::Lex => "zgv_lex",
+            Operation::LexBuiltin => "zgv_lex_builtin",
+            Operation::Print => "zgv_print",
+            Operation::PrintSeparated => "zgv_print_separated",
+        }
+    }
+}
+
+/// What is lent to an operation. A field that the operation does not take is empty.
+#[derive(Clone, Debug, PartialEq, Eq)]
+pub struct Call {
+    pub operation: Operation,
+    pub book: Vec<u8>,
+    /// The text, or the pool.
+    pub text: Vec<u8>,
+    pub records: Vec<u8>,
+    pub out: Vec<u8>,
+    pub separator: Record,
+    pub mode: u32,
+}
+
+const NO_RECORD: Record = Record { tag: 0, place: 0, length: 0 };
+
+impl Call {
+    fn new(operation: Operation) -> Call {
+        Call {
+            operation,
+            book: Vec::new(),
+            text: Vec::new(),
+            records: Vec::new(),
+            out: Vec::new(),
+            separator: NO_RECORD,
+            mode: 0,
+        }
+    }
+
+    pub fn read_book(book: &[u8]) -> Call {
+        Call { book: book.to_vec(), ..Call::new(Operation::ReadBook) }
+    }
+
+    pub fn lex(book: &[u8], text: &[u8], records: Vec<u8>) -> Call {
+        Call { book: book.to_vec(), text: text.to_vec(), records, ..Call::new(Operation::Lex) }
+    }
+
+    pub fn lex_builtin(text: &[u8], records: Vec<u8>) -> Call {
+        Call { text: text.to_vec(), records, ..Call::new(Operation::LexBuiltin) }
+    }
+
+    pub fn print(book: &[u8], records: Vec<u8>, pool: &[u8], out: Vec<u8>) -> Call {
+        Call { book: book.to_vec(), text: pool.to_vec(), records, out, ..Call::new(Operation::Print) }
+    }
+
+    pub fn print_separated(
+        book: &[u8],
+        separator: Record,
+        mode: u32,
+        records: Vec<u8>,
+        pool: &[u8],
+        out: Vec<u8>,
+    ) -> Call {
+        Call {
+            book: book.to_vec(),
+            text: pool.to_vec(),
+            records,
+            out,
+            separator,
+            mode,
+            ..Call::new(Operation::PrintSeparated)
+        }
+    }
+
+    /// The buffers lent, with the names of the header.
+    pub fn buffers(&self) -> Vec<(&'static str, &Vec<u8>)> {
+        match self.operation {
+            Operation::ReadBook => vec![("book", &self.book)],
+            Operation::Lex => vec![("book", &self.book), ("text", &self.text), ("records", &self.records)],
+            Operation::LexBuiltin => vec![("text", &self.text), ("records", &self.records)],
+            Operation::Print | Operation::PrintSeparated => {
+                vec![("book", &self.book), ("records", &self.records), ("pool", &self.text), ("out", &self.out)]
+            }
+        }
+    }
+
+    pub fn set_buffer(&mut self, name: &str, bytes: Vec<u8>) {
+        match name {
+            "book" => self.book = bytes,
+            "text" | "pool" => self.text = bytes,
+            "records" => self.records = bytes,
+            _ => self.out = bytes,
+        }
+    }
+}
+
+/// The answer, and every byte of every lent buffer afterwards, in the order of `Call::buffers`.
+#[derive(Clone, Debug, PartialEq, Eq)]
+pub struct Outcome {
+    pub answer: u64,
+    pub buffers: Vec<Vec<u8>>,
+}
+
+/// The numbers of an answer, as the header packs them.
+#[derive(Clone, Copy, Debug, PartialEq, Eq)]
+pub struct Answer(pub u64);
+
+impl Answer {
+    pub fn number(self) -> u8 {
+        (self.0 >> 56) as u8
+    }
+    pub fn place(self) -> u64 {
+        self.0 & ((1 << 56) - 1)
+    }
+    pub fn first(self) -> u64 {
+        self.0 >> 28 & 0xFFF_FFFF
+    }
+    pub fn second(self) -> u64 {
+        self.0 & 0xFFF_FFFF
+    }
+}
+
+impl std::fmt::Display for Answer {
+    fn fmt(&self, f: &mut std::fmt::Formatter<'_>) -> std::fmt::Result {
+        if self.number() == 0 {
+            write!(f, "accepted {} {}", self.first(), self.second())
+        } else {
+            write!(f, "refused {} at {}", self.number(), self.place())
+        }
+    }
+}
+
+fn accepted(first: usize, second: usize) -> u64 {
+    (first as u64) << 28 | second as u64
+}
+
+fn refused(r: Refusal) -> u64 {
+    (r.number as u64) << 56 | (r.place as u64).min((1 << 56) - 1)
+}
+
+/// What document 01 asks of a call.
+pub fn expected(call: &Call) -> Outcome {
+    let mut after = call.clone();
+    let list = || reference::records_of(&call.records);
+    let room = call.records.len() / reference::RECORD_BYTES;
+    let answer = match call.operation {
+        Operation::ReadBook => reference::read_book(&call.book).map(|rules| accepted(rules, 0)),
+        Operation::Lex => reference::lex(&call.book, &call.text, room).map(|c| store(c, &mut after.records)),
+        Operation::LexBuiltin => reference::lex(BUILTIN, &call.text, room).map(|c| store(c, &mut after.records)),
+        Operation::Print => {
+            reference::print(&call.book, &list(), &call.text, call.out.len()).map(|bytes| write(bytes, &mut after.out))
+        }
+        Operation::PrintSeparated => {
+            reference::print_separated(&call.book, call.separator, call.mode, &list(), &call.text, call.out.len())
+                .map(|bytes| write(bytes, &mut after.out))
+        }
+    };
+    Outcome {
+        answer: answer.unwrap_or_else(refused),
+        buffers: after.buffers().into_iter().map(|(_, b)| b.clone()).collect(),
+    }
+}
+
+fn store(cut: Cut, records: &mut [u8]) -> u64 {
+    for (i, token) in cut.tokens.iter().enumerate() {
+        records[i * 10..i * 10 + 10].copy_from_slice(&token.to_bytes());
+    }
+    accepted(cut.tokens.len(), cut.rest)
+}
+
+fn write(bytes: Vec<u8>, out: &mut [u8]) -> u64 {
+    out[..bytes.len()].copy_from_slice(&bytes);
+    accepted(bytes.len(), 0)
+}
+
+/// The built-in book as command bytes.
+pub const BUILTIN: &[u8] = include_bytes!("../../examples/builtin.bin");

@@ -1,0 +1,327 @@
+//! The sizes at which answers change, each with one byte, record, rule or move on either side.
+
+use crate::calls::{Call, Operation, BUILTIN};
+use crate::generate::{bytes_of, Book, Rule};
+use crate::reference::{self as paper, Record};
+
+/// A rule that matches one or more of `letter`, or exactly one where `once`.
+fn letter(tag: u16, kind: u8, letter: u8, once: bool) -> Rule {
+    let mut moves = vec![(0, letter, letter, 1)];
+    if !once {
+        moves.push((1, letter, letter, 1));
+    }
+    Rule { tag, kind, start: 0, error: 2, finals: vec![1], moves }
+}
+
+/// A rule with `count` moves of one byte each, 256 from a state.
+fn wide(tag: u16, count: usize) -> Rule {
+    let moves = (0..count).map(|i| ((i / 256) as u8, i as u8, i as u8, (i / 256 + 1) as u8)).collect();
+    Rule { tag, kind: 0, start: 0, error: 255, finals: vec![1], moves }
+}
+
+fn book(rules: Vec<Rule>) -> Book {
+    Book { rules }
+}
+
+fn record(tag: u16, place: usize, length: usize) -> Record {
+    Record { tag, place: place as u32, length: length as u32 }
+}
+
+/// A buffer of records with a byte pattern that a store would change.
+fn room(records: usize) -> Vec<u8> {
+    vec![0xEE; records * paper::RECORD_BYTES]
+}
+
+/// Every edge call, with a name.
+pub fn calls() -> Vec<(String, Call)> {
+    let mut all: Vec<(String, Call)> = Vec::new();
+    let mut add = |name: &str, call: Call| {
+        // every operation that takes a book meets the same edges of it
+        if call.operation == Operation::ReadBook {
+            let record = bytes_of(&[record(1, 0, 1)]);
+            let between = Record { tag: 2, place: 1, length: 1 };
+            all.push((format!("{name}, cutting"), Call::lex(&call.book, b"abca", room(4))));
+            all.push((format!("{name}, writing"), Call::print(&call.book, record.clone(), b"a", vec![0xEE; 2])));
+            let call = Call::print_separated(&call.book, between, 2, record, b"a ", vec![0xEE; 2]);
+            all.push((format!("{name}, spacing"), call));
+        }
+        all.push((name.to_string(), call));
+    };
+    books(&mut add);
+    faults(&mut add);
+    cuts(&mut add);
+    prints(&mut add);
+    separated(&mut add);
+    all
+}
+
+type Add<'a> = &'a mut dyn FnMut(&str, Call);
+
+fn books(add: Add) {
+    add("the empty book", Call::read_book(&[]));
+    add("END alone", Call::read_book(&[8]));
+    let a = book(vec![letter(1, 0, b'a', true)]).bytes();
+    assert_eq!(a.len(), 16);
+    for length in [32_766, 32_768, 32_769, 32_770, 40_000] {
+        // FINAL may be repeated: it fills a book up by two bytes
+        let mut filled = a[..10].to_vec();
+        while filled.len() + 6 + 2 <= length {
+            filled.extend([paper::FINAL, 1]);
+        }
+        filled.extend(&a[10..]);
+        filled.resize(length, 0);
+        add(&format!("a book of {length} bytes"), Call::read_book(&filled));
+    }
+    for rules in [31, 32, 33, 34] {
+        let many = book((1..=rules).map(|t| letter(t, 0, t as u8, true)).collect()).bytes();
+        add(&format!("{rules} rules"), Call::read_book(&many));
+        add(&format!("cutting by {rules} rules"), Call::lex(&many, &[1, 31, 32, 33, 2], room(5)));
+        let mut zero = book((1..=rules).map(|t| letter(t, 0, t as u8, true)).collect());
+        zero.rules.last_mut().expect("there are rules").tag = 0;
+        add(&format!("{rules} rules, the last with tag 0"), Call::read_book(&zero.bytes()));
+    }
+    for moves in [511, 512, 513, 514] {
+        let bytes = book(vec![letter(9, 0, b'a', true), wide(1, moves)]).bytes();
+        add(&format!("{moves} moves in a rule"), Call::read_book(&bytes));
+        let mut bad = book(vec![wide(1, moves)]);
+        bad.rules[0].moves.last_mut().expect("there are moves").1 = 255;
+        bad.rules[0].moves.last_mut().expect("there are moves").2 = 0;
+        add(&format!("{moves} moves, the last with low above high"), Call::read_book(&bad.bytes()));
+    }
+    // as many moves as a book can hold
+    let mut full: Vec<Rule> = (1..=15).map(|t| wide(t, 512)).collect();
+    full.push(wide(16, 467));
+    let bytes = book(full).bytes();
+    assert!(bytes.len() > 32_700 && bytes.len() <= paper::BOOK_BYTES);
+    add("a book full of moves", Call::read_book(&bytes));
+    add("cutting by a book full of moves", Call::lex(&bytes, b"abc\x00\xFF", room(5)));
+    // a chain through every state
+    let chain = Rule {
+        tag: 1,
+        kind: 0,
+        start: 0,
+        error: 255,
+        finals: vec![254],
+        moves: (0..254).map(|s| (s, b'a', b'a', s + 1)).collect(),
+    };
+    let bytes = book(vec![chain, letter(2, 0, b'a', true)]).bytes();
+    for length in [253, 254, 255, 300] {
+        add(&format!("a chain of states over {length} bytes"), Call::lex(&bytes, &vec![b'a'; length], room(length)));
+    }
+    let error_starts = Rule { tag: 1, kind: 0, start: 0, error: 0, finals: vec![1], moves: vec![(2, 0, 255, 1)] };
+    let bytes = book(vec![error_starts, letter(2, 0, b'a', true)]).bytes();
+    add("a rule that starts in its error state", Call::lex(&bytes, b"aab", room(3)));
+}
+
+/// Small books around every refusal: cut off at each byte, changed at each byte, and with several faults at once.
+fn faults(add: Add) {
+    let a = book(vec![letter(1, 0, b'a', true)]).bytes();
+    for n in 0..BUILTIN.len() {
+        add("the built-in book cut off", Call::read_book(&BUILTIN[..n]));
+    }
+    for at in 0..a.len() {
+        for byte in 0..=255 {
+            let mut changed = a.clone();
+            changed[at] = byte;
+            add("the book of 16 bytes with a byte changed", Call::read_book(&changed));
+        }
+        for code in 0..=9 {
+            let mut cut = a[..at].to_vec();
+            cut.push(code);
+            add("the book of 16 bytes, then another command", Call::read_book(&cut));
+            cut.extend([0, 1, 0, 2, 3]);
+            add("the book of 16 bytes, then other commands", Call::read_book(&cut));
+        }
+    }
+    for tail in [&[0][..], &[8], &[1, 0, 2, 0], &a] {
+        add("bytes after END", Call::read_book(&[&a, tail].concat()));
+        add("bytes after END and no rule", Call::read_book(&[&[8], tail].concat()));
+    }
+    // every set of faults at CLOSE
+    for set in 0..64 {
+        let has = |bit: u8| set >> bit & 1 == 1;
+        let mut rule = vec![paper::RULE, 0, 1, 0, paper::STEP, 0, b'a', 1];
+        let parts: [(bool, &[u8]); 6] = [
+            (!has(0), &[paper::START, 0]),
+            (!has(1), &[paper::ERROR, 2]),
+            (has(2), &[paper::SPAN, 0, b'Z', b'a', 1]),
+            (has(3), &[paper::STEP, 2, b'a', 1]),
+            (has(4), &[paper::FINAL, 2]),
+            (has(5), &[paper::FINAL, 0]),
+        ];
+        for (there, bytes) in parts {
+            if there {
+                rule.extend(bytes);
+            }
+        }
+        rule.extend([paper::CLOSE, paper::END]);
+        add("faults at CLOSE", Call::read_book(&rule));
+    }
+    // every set of faults at RULE
+    for rules in [31, 32] {
+        let mut many = book((1..=rules).map(|t| letter(t, 0, b'a', true)).collect()).bytes();
+        many.pop();
+        for (tag, kind) in [(0, 0), (0, 2), (1, 0), (1, 2), (40, 1), (40, 2), (40, 255)] {
+            add("faults at RULE", Call::read_book(&[&many[..], &[paper::RULE, 0, tag, kind]].concat()));
+        }
+    }
+    // moves that touch, and moves that just do not
+    for low in 0..=6 {
+        for high in 0..=6 {
+            let rule = Rule {
+                tag: 1,
+                kind: 0,
+                start: 0,
+                error: 2,
+                finals: vec![1],
+                moves: vec![(0, 2, 4, 1), (0, low, high, 1)],
+            };
+            add("two moves from one state", Call::read_book(&book(vec![rule]).bytes()));
+        }
+    }
+}
+
+fn cuts(add: Add) {
+    let once = book(vec![letter(1, 0, b'a', true)]).bytes();
+    let run = book(vec![letter(1, 0, b'a', false)]).bytes();
+    for length in [65_535, 65_536, 65_537] {
+        let text = vec![b'a'; length];
+        let name = |what: &str| format!("{what}, {length} bytes");
+        add(&name("one token a byte"), Call::lex(&once, &text, room(length)));
+        add(&name("one token a byte, a record short"), Call::lex(&once, &text, room(length - 1)));
+        add(&name("one token a byte, a byte short"), {
+            let mut call = Call::lex(&once, &text, room(length));
+            call.records.pop();
+            call
+        });
+        add(&name("one token in all"), Call::lex(&run, &text, room(1)));
+        add(&name("one token in all, no record"), Call::lex(&run, &text, vec![0xEE; 9]));
+        add(&name("one token, then a rest"), {
+            let mut text = text.clone();
+            text[length - 2] = b'b';
+            Call::lex(&run, &text, room(3))
+        });
+        add(&name("by the built-in book"), Call::lex_builtin(&text, room(2)));
+        let sheet: Vec<u8> = b"[00:12.50]oh yes\n[00:1 ".iter().cycle().take(length).copied().collect();
+        add(&name("a sheet by the built-in book"), Call::lex_builtin(&sheet, room(length)));
+        let tokens = paper::cut(BUILTIN, &sheet).tokens.len();
+        add(&name("a sheet, a record short"), Call::lex_builtin(&sheet, room(tokens - 1)));
+        add(&name("a sheet by the command bytes"), Call::lex(BUILTIN, &sheet, room(length)));
+    }
+    add("nothing lent but the book", Call::lex(&once, b"", Vec::new()));
+    add("nothing lent", Call::lex(b"", b"", Vec::new()));
+    add("the empty text, room left", Call::lex(&once, b"", vec![1, 2, 3]));
+    add("a rest at once, room left", Call::lex(&once, b"ba", room(2)));
+    add("the empty text by the built-in book", Call::lex_builtin(b"", room(1)));
+    let mut ahead = letter(2, 0, b'a', false);
+    ahead.finals = vec![3];
+    ahead.moves.push((1, b'b', b'b', 3));
+    let bytes = book(vec![letter(1, 0, b'a', true), ahead]).bytes();
+    for end in [b'a', b'b'] {
+        let mut text = vec![b'a'; 120];
+        text.push(end);
+        add("walks to the end at each token", Call::lex(&bytes, &text, room(121)));
+    }
+    for byte in 0..=255u8 {
+        add("each byte by the built-in book", Call::lex_builtin(&[byte, b'x', byte], room(3)));
+    }
+}
+
+fn prints(add: Add) {
+    let once = book(vec![letter(1, 0, b'a', true)]).bytes();
+    let run = book(vec![letter(1, 0, b'a', false)]).bytes();
+    let out = |n: usize| vec![0xEE; n];
+    for count in [65_535, 65_536, 65_537] {
+        let list = bytes_of(&vec![record(1, 0, 1); count]);
+        let name = |what: &str| format!("{what}, {count} tokens");
+        add(&name("writing"), Call::print(&once, list.clone(), b"a", out(count)));
+        add(&name("writing, a byte short"), Call::print(&once, list.clone(), b"a", out(count - 1)));
+        let mut bad = list.clone();
+        bad[10 * (count - 1)] = 1;
+        add(&name("writing, the last tag unknown"), Call::print(&once, bad, b"a", out(count)));
+        let mut more = list.clone();
+        more.extend([7; 9]);
+        add(&name("writing, bytes left over"), Call::print(&once, more, b"a", out(count + 9)));
+    }
+    for length in [65_535, 65_536, 65_537, 70_000] {
+        let pool = vec![b'a'; length];
+        let name = |what: &str| format!("{what}, {length} bytes");
+        let list = bytes_of(&[record(1, 0, length)]);
+        add(&name("writing one token"), Call::print(&run, list.clone(), &pool, out(length)));
+        add(&name("writing one token, a byte short"), Call::print(&run, list.clone(), &pool, out(length - 1)));
+        add(&name("writing one token, no room"), Call::print(&run, list, &pool, out(0)));
+        let two = bytes_of(&[record(1, 0, 1), record(1, 1, length - 1)]);
+        add(&name("writing two tokens that meet"), Call::print(&run, two, &pool, out(length)));
+    }
+    let edges = [(0, 4), (1, 3), (3, 1), (4, 0), (0, 5), (4, 1), (5, 0), (2, 3)];
+    for (place, length) in edges {
+        let list = bytes_of(&[record(1, place, length)]);
+        add("at the pool's end", Call::print(&run, list.clone(), b"aaaa", out(8)));
+        let sep = record(1, place, length);
+        let spaces = book(vec![letter(1, 1, b'a', false), letter(2, 0, b'b', false)]).bytes();
+        add("the separator at the pool's end", Call::print_separated(&spaces, sep, 2, vec![], b"aaaa", out(8)));
+    }
+    for (place, length) in [(u32::MAX, u32::MAX), (u32::MAX, 1), (1, u32::MAX), (u32::MAX, 0), (0, u32::MAX)] {
+        let list = bytes_of(&[Record { tag: 1, place, length }]);
+        add("a sum past 32 bits", Call::print(&run, list, b"aaaa", out(8)));
+    }
+    let held = once.iter().position(|&b| b == b'a').expect("the book names its letter");
+    add("the pool is the book", Call::print(&once, bytes_of(&[record(1, held, 1)]), &once, out(2)));
+    add("the text is the book", Call::lex(&once, &once, room(1)));
+    add("the empty list", Call::print(&once, Vec::new(), b"", Vec::new()));
+    add("the empty list, room left", Call::print(&once, vec![1; 9], b"a", out(3)));
+    add("the empty list by the empty book", Call::print(b"", Vec::new(), b"", Vec::new()));
+}
+
+fn separated(add: Add) {
+    let rules = || vec![letter(1, 0, b'a', false), letter(2, 1, b' ', false), letter(3, 0, b'b', true)];
+    let bytes = book(rules()).bytes();
+    let pool = b"ab      ";
+    let out = |n: usize| vec![0xEE; n];
+    let one = record(2, 2, 1);
+    for mode in [0, 1, 2, 3, 256, u32::MAX] {
+        let list = bytes_of(&[record(1, 0, 1), record(1, 0, 1), record(3, 1, 1), record(1, 0, 1)]);
+        for n in [0, 4, 5, 6, 7, 8] {
+            add("room around the need", Call::print_separated(&bytes, one, mode, list.clone(), pool, out(n)));
+        }
+        add("the empty list", Call::print_separated(&bytes, one, mode, Vec::new(), pool, out(3)));
+        add("nothing but the book", Call::print_separated(&bytes, one, mode, Vec::new(), b"", Vec::new()));
+    }
+    // 65,536 bytes: 32,769 tokens of a byte with 32,768 separators are 65,537
+    for (count, sep) in [(32_768, 1), (32_769, 1), (21_845, 2), (21_846, 2), (65_536, 1), (65_537, 1)] {
+        for (token, mode) in [(record(1, 0, 1), 1), (record(1, 0, 1), 2), (record(3, 1, 1), 2), (record(3, 1, 1), 0)] {
+            let list = bytes_of(&vec![token; count]);
+            let call = Call::print_separated(&bytes, record(2, 2, sep), mode, list, pool, out(65_536));
+            add(&format!("{count} tokens, a separator of {sep}, mode {mode}"), call);
+        }
+    }
+    // the separator's refusals come before 16 and have the list's length as their place
+    let many = bytes_of(&vec![record(1, 0, 1); 65_537]);
+    for separator in [record(2, 2, 7), record(7, 2, 1), record(2, 0, 1), record(2, 2, 0), record(1, 0, 1), one] {
+        let call = Call::print_separated(&bytes, separator, 1, many.clone(), pool, out(4));
+        add("65,537 tokens and a separator that may be unfit", call);
+        let call = Call::print_separated(&bytes, separator, 1, vec![0; 39], pool, out(4));
+        add("a list of three and a separator that may be unfit", call);
+    }
+    // a separator that passes the limit by itself
+    let mut long = b"ab".to_vec();
+    long.extend(vec![b' '; 70_000]);
+    for (length, tokens) in [(70_000, 0), (70_000, 1), (70_000, 2), (65_534, 2), (65_535, 2)] {
+        let list = bytes_of(&vec![record(3, 1, 1); tokens]);
+        let call = Call::print_separated(&bytes, record(2, 2, length), 1, list, &long, out(65_536));
+        add(&format!("a separator of {length} bytes, {tokens} tokens"), call);
+    }
+    // used bytes: a move to the error state uses none
+    for to in [2, 1] {
+        let mut shared = rules();
+        shared[1].moves.push((0, b'b', b'b', to));
+        shared[1].moves.push((1, b'a', b'b', to));
+        let list = bytes_of(&[record(1, 0, 1), record(3, 1, 1)]);
+        let call = Call::print_separated(&book(shared).bytes(), one, 2, list, pool, out(4));
+        add("a shared byte", call);
+    }
+    let no_separator = book(vec![letter(1, 0, b'a', false)]).bytes();
+    add("no separator rule", Call::print_separated(&no_separator, record(1, 0, 1), 1, vec![], pool, out(4)));
+    let list = bytes_of(&[record(1, 0, 1), record(2, 2, 1)]);
+    add("a separator in the list", Call::print_separated(&bytes, one, 1, list, pool, out(8)));
+}

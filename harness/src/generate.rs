@@ -1,0 +1,555 @@
+//! Random books, texts, lists and buffers, valid and damaged.
+
+use crate::calls::{self, Answer, Call};
+use crate::random::Random;
+use crate::reference::{self as paper, Record};
+
+/// A rule as its parts, from which its commands are written.
+#[derive(Clone)]
+pub struct Rule {
+    pub tag: u16,
+    pub kind: u8,
+    pub start: u8,
+    pub error: u8,
+    pub finals: Vec<u8>,
+    /// from, low, high, to
+    pub moves: Vec<(u8, u8, u8, u8)>,
+}
+
+impl Rule {
+    pub fn commands(&self) -> Vec<Vec<u8>> {
+        let [high, low] = self.tag.to_be_bytes();
+        let mut all = vec![
+            vec![paper::RULE, high, low, self.kind],
+            vec![paper::START, self.start],
+            vec![paper::ERROR, self.error],
+        ];
+        all.extend(self.finals.iter().map(|&s| vec![paper::FINAL, s]));
+        for &(from, low, high, to) in &self.moves {
+            if low == high {
+                all.push(vec![paper::STEP, from, low, to]);
+            } else {
+                all.push(vec![paper::SPAN, from, low, high, to]);
+            }
+        }
+        all.push(vec![paper::CLOSE]);
+        all
+    }
+
+    fn target(&self, state: u8, byte: u8) -> u8 {
+        self.moves.iter().find(|m| m.0 == state && m.1 <= byte && byte <= m.2).map_or(self.error, |m| m.3)
+    }
+
+    /// A byte string that the rule matches, found by walking at random; often the walk finds none.
+    pub fn word(&self, r: &mut Random, longest: usize) -> Option<Vec<u8>> {
+        let mut state = self.start;
+        let mut word = Vec::new();
+        let mut best = None;
+        for _ in 0..longest {
+            let leaving: Vec<_> = self.moves.iter().filter(|m| m.0 == state && m.3 != self.error).collect();
+            if leaving.is_empty() {
+                break;
+            }
+            let m = r.pick(&leaving);
+            word.push(r.from(m.1 as usize, m.2 as usize) as u8);
+            state = m.3;
+            if self.finals.contains(&state) {
+                best = Some(word.clone());
+                if r.once_in(3) {
+                    break;
+                }
+            }
+        }
+        best
+    }
+}
+
+/// A book as its rules.
+#[derive(Clone)]
+pub struct Book {
+    pub rules: Vec<Rule>,
+}
+
+impl Book {
+    pub fn commands(&self) -> Vec<Vec<u8>> {
+        let mut all: Vec<Vec<u8>> = self.rules.iter().flat_map(|r| r.commands()).collect();
+        all.push(vec![paper::END]);
+        all
+    }
+
+    pub fn bytes(&self) -> Vec<u8> {
+        self.commands().concat()
+    }
+}
+
+/// The bytes that the rules of a book are about.
+pub struct Alphabet {
+    plain: Vec<u8>,
+    separators: Vec<u8>,
+}
+
+impl Alphabet {
+    fn random(r: &mut Random) -> Alphabet {
+        let (plain, separators): (Vec<u8>, Vec<u8>) = match r.below(6) {
+            0..=2 => (b"abcd"[..r.from(1, 4)].to_vec(), b" _"[..r.from(1, 2)].to_vec()),
+            3 => (vec![0, 1, 2, 255], vec![127, 128]),
+            4 => (vec![b'a', b'b', b' '], vec![b' ', b'_']),
+            _ => (r.bytes(3), r.bytes(2)),
+        };
+        Alphabet { plain, separators }
+    }
+
+    fn of(&self, kind: u8) -> Vec<u8> {
+        let mut bytes = if kind == 1 { self.separators.clone() } else { self.plain.clone() };
+        bytes.sort_unstable();
+        bytes.dedup();
+        bytes
+    }
+
+    fn any(&self, r: &mut Random) -> u8 {
+        if r.once_in(4) {
+            *r.pick(&self.separators)
+        } else {
+            *r.pick(&self.plain)
+        }
+    }
+}
+
+// ---- Rules
+
+/// A rule that matches a few words: its states are their beginnings, so that walks go on through states that are not final.
+fn words_rule(r: &mut Random, letters: &[u8]) -> Rule {
+    let mut rule = empty_rule();
+    let mut states: Vec<Vec<u8>> = vec![Vec::new()];
+    for _ in 0..r.from(1, 4) {
+        let word: Vec<u8> = (0..r.from(1, 5)).map(|_| *r.pick(letters)).collect();
+        for n in 1..=word.len() {
+            if states.iter().any(|s| s == &word[..n]) {
+                continue;
+            }
+            let from = states.iter().position(|s| s == &word[..n - 1]).expect("its beginning is there");
+            rule.moves.push((from as u8, word[n - 1], word[n - 1], states.len() as u8));
+            states.push(word[..n].to_vec());
+        }
+        let end = states.iter().position(|s| *s == word).expect("the word is there");
+        rule.finals.push(end as u8);
+    }
+    rule.error = states.len() as u8;
+    if r.once_in(3) {
+        let state = r.from(1, states.len() - 1) as u8;
+        let byte = *r.pick(letters);
+        if rule.target(state, byte) == rule.error {
+            rule.moves.push((state, byte, byte, r.from(1, states.len() - 1) as u8));
+        }
+    }
+    rule
+}
+
+/// A rule with moves at random.
+fn wild_rule(r: &mut Random, letters: &[u8]) -> Rule {
+    let mut rule = empty_rule();
+    let count = r.from(2, 6);
+    rule.error = r.below(count) as u8;
+    rule.start = r.below(count) as u8;
+    for state in 0..count as u8 {
+        if state == rule.error {
+            continue;
+        }
+        if state != rule.start && r.once_in(2) {
+            rule.finals.push(state);
+        }
+        let mut i = 0;
+        while i < letters.len() {
+            let end = r.from(i, letters.len() - 1);
+            if !r.once_in(4) {
+                rule.moves.push((state, letters[i], letters[end], r.below(count) as u8));
+            }
+            i = end + 1;
+        }
+    }
+    rule
+}
+
+/// A rule that matches one or more of the letters.
+fn run_rule(r: &mut Random, letters: &[u8]) -> Rule {
+    let mut rule = empty_rule();
+    rule.error = 2;
+    rule.finals.push(1);
+    for &letter in letters {
+        if letters.len() == 1 || !r.once_in(3) {
+            rule.moves.push((0, letter, letter, 1));
+            rule.moves.push((1, letter, letter, 1));
+        }
+    }
+    rule
+}
+
+fn empty_rule() -> Rule {
+    Rule { tag: 0, kind: 0, start: 0, error: 0, finals: Vec::new(), moves: Vec::new() }
+}
+
+/// Renames the states at random.
+fn rename(r: &mut Random, rule: &mut Rule) {
+    let mut names: Vec<u8> = (0..=255).collect();
+    r.shuffle(&mut names);
+    let name = |s: u8| names[s as usize];
+    rule.start = name(rule.start);
+    rule.error = name(rule.error);
+    rule.finals.iter_mut().for_each(|s| *s = name(*s));
+    for m in &mut rule.moves {
+        m.0 = name(m.0);
+        m.3 = name(m.3);
+    }
+}
+
+/// A book that is accepted, and what its texts are made of.
+pub fn book(r: &mut Random) -> (Book, Alphabet) {
+    let alphabet = Alphabet::random(r);
+    let count = if r.once_in(40) { r.from(28, 32) } else { r.from(2, 6) - r.once_in(4) as usize };
+    // most books have both kinds
+    let separator = if r.once_in(8) { count } else { r.below(count) };
+    let mut rules: Vec<Rule> = Vec::new();
+    for k in 0..count {
+        let kind = (k == separator || r.once_in(5)) as u8;
+        let letters = alphabet.of(kind);
+        let mut rule = match r.below(4) {
+            0 | 1 => words_rule(r, &letters),
+            2 => wild_rule(r, &letters),
+            _ => run_rule(r, &letters),
+        };
+        rule.kind = kind;
+        rule.tag = loop {
+            let tag = if r.once_in(4) { r.next() as u16 } else { r.from(1, 60) as u16 };
+            if tag != 0 && rules.iter().all(|other| other.tag != tag) {
+                break tag;
+            }
+        };
+        if r.once_in(2) {
+            rename(r, &mut rule);
+        }
+        r.shuffle(&mut rule.moves);
+        if !rule.finals.is_empty() && r.once_in(5) {
+            let again = *r.pick(&rule.finals);
+            rule.finals.push(again);
+        }
+        rules.push(rule);
+    }
+    (Book { rules }, alphabet)
+}
+
+/// The commands of a rule may stand in any order between RULE and CLOSE.
+pub fn shuffled(r: &mut Random, book: &Book) -> Vec<u8> {
+    let mut bytes = Vec::new();
+    for rule in &book.rules {
+        let mut commands = rule.commands();
+        let last = commands.len() - 1;
+        r.shuffle(&mut commands[1..last]);
+        bytes.extend(commands.concat());
+    }
+    bytes.push(paper::END);
+    bytes
+}
+
+// ---- Damaged books
+
+/// A book with one fault put in by design.
+pub fn faulty(r: &mut Random, book: &Book) -> Vec<u8> {
+    let mut book = book.clone();
+    let k = r.below(book.rules.len());
+    let other = book.rules[r.below(book.rules.len())].tag;
+    let rule = &mut book.rules[k];
+    let mut extra: Option<Vec<u8>> = None;
+    let mut drop: Option<u8> = None;
+    match r.below(14) {
+        0 => rule.tag = 0,
+        1 => rule.tag = other,
+        2 => rule.kind = r.from(2, 255) as u8,
+        3 => rule.finals.push(rule.error),
+        4 => rule.finals.push(rule.start),
+        5 => rule.moves.push((rule.error, r.byte(), 255, r.byte())),
+        6 => {
+            if let Some(&m) = rule.moves.first() {
+                let byte = r.from(m.1 as usize, m.2 as usize) as u8;
+                rule.moves.push((m.0, byte, r.from(byte as usize, 255) as u8, r.byte()));
+            }
+        }
+        7 => extra = Some(vec![paper::START, rule.start]),
+        8 => extra = Some(vec![paper::ERROR, r.byte()]),
+        9 => drop = Some(paper::START),
+        10 => drop = Some(paper::ERROR),
+        11 => extra = Some(vec![paper::SPAN, r.byte(), 9, 8, r.byte()]),
+        12 => extra = Some(vec![*r.pick(&[paper::RULE, paper::END, 0, 9, 255]), 0, 1, 0]),
+        _ => drop = Some(*r.pick(&[paper::CLOSE, paper::RULE, paper::END])),
+    }
+    let mut commands = book.commands();
+    if let Some(extra) = extra {
+        let at = r.from(1, commands.len() - 1);
+        commands.insert(at, extra);
+    }
+    if let Some(code) = drop {
+        let all: Vec<usize> = (0..commands.len()).filter(|&i| commands[i][0] == code).collect();
+        commands.remove(*r.pick(&all));
+    }
+    commands.concat()
+}
+
+/// Bytes with a few changes at random.
+pub fn damaged(r: &mut Random, bytes: &[u8]) -> Vec<u8> {
+    let mut bytes = bytes.to_vec();
+    for _ in 0..r.from(1, 3) {
+        if bytes.is_empty() {
+            bytes.push(r.byte());
+        }
+        let at = r.below(bytes.len());
+        match r.below(7) {
+            0 => bytes[at] = r.byte(),
+            1 => bytes[at] = r.below(10) as u8,
+            2 => bytes[at] ^= 1 << r.below(8),
+            3 => {
+                bytes.remove(at);
+            }
+            4 => bytes.insert(at, r.below(10) as u8),
+            5 => bytes.truncate(at),
+            _ => {
+                let again = bytes[at..(at + r.from(1, 12)).min(bytes.len())].to_vec();
+                bytes.extend(again);
+            }
+        }
+    }
+    bytes
+}
+
+// ---- Texts and lists
+
+pub fn text(r: &mut Random, book: &Book, alphabet: &Alphabet, longest: usize) -> Vec<u8> {
+    let wanted = r.from(0, longest);
+    let mut text = Vec::new();
+    while text.len() < wanted {
+        let rule = r.pick(&book.rules);
+        match rule.word(r, 8) {
+            Some(word) if !r.once_in(3) => text.extend(word),
+            _ => text.push(alphabet.any(r)),
+        }
+        if r.once_in(40) {
+            text.push(r.byte());
+        }
+    }
+    text.truncate(wanted);
+    text
+}
+
+/// A list of tokens, the pool that holds them, and a separator token in the same pool.
+pub struct List {
+    pub tokens: Vec<Record>,
+    pub pool: Vec<u8>,
+    pub separator: Record,
+}
+
+/// Adds a token's bytes to a pool, or finds them there.
+fn put(r: &mut Random, pool: &mut Vec<u8>, tag: u16, word: &[u8]) -> Record {
+    if !word.is_empty() && r.once_in(2) {
+        if let Some(place) = pool.windows(word.len()).position(|w| w == word) {
+            return Record { tag, place: place as u32, length: word.len() as u32 };
+        }
+    }
+    if r.once_in(4) {
+        let junk = r.from(0, 3);
+        pool.extend(r.bytes(junk));
+    }
+    let place = pool.len() as u32;
+    pool.extend(word);
+    Record { tag, place, length: word.len() as u32 }
+}
+
+/// A list for the printers. `plain`: only tokens of plain rules, where there are any.
+pub fn list(r: &mut Random, book: &Book, bytes: &[u8], alphabet: &Alphabet, longest: usize, plain: bool) -> List {
+    let mut list = if r.once_in(2) {
+        let text = text(r, book, alphabet, longest);
+        let mut tokens = paper::cut(bytes, &text).tokens;
+        if plain {
+            let is_plain = |t: &Record| book.rules.iter().any(|rule| rule.tag == t.tag && rule.kind == 0);
+            tokens.retain(is_plain);
+        }
+        List { tokens, pool: text, separator: Record { tag: 0, place: 0, length: 0 } }
+    } else {
+        let mut list = List { tokens: Vec::new(), pool: Vec::new(), separator: Record { tag: 0, place: 0, length: 0 } };
+        for _ in 0..r.from(0, longest / 3) {
+            let rule = r.pick(&book.rules);
+            if plain && rule.kind == 1 {
+                continue;
+            }
+            if let Some(word) = rule.word(r, 8) {
+                // the tag that the word has when it is cut alone
+                let tag = match paper::cut(bytes, &word).tokens[..] {
+                    [only] if only.length as usize == word.len() && !r.once_in(30) => only.tag,
+                    _ => rule.tag,
+                };
+                let token = put(r, &mut list.pool, tag, &word);
+                list.tokens.push(token);
+            }
+        }
+        list
+    };
+    if r.once_in(3) {
+        rearrange(r, &mut list.tokens);
+    }
+    separator_of(r, book, &mut list);
+    if r.once_in(5) {
+        spoil(r, book, &mut list);
+    }
+    list
+}
+
+fn rearrange(r: &mut Random, tokens: &mut Vec<Record>) {
+    for _ in 0..r.from(1, 3) {
+        if tokens.is_empty() {
+            return;
+        }
+        let at = r.below(tokens.len());
+        match r.below(3) {
+            0 => {
+                tokens.remove(at);
+            }
+            1 => tokens.insert(at, tokens[r.below(tokens.len())]),
+            _ => {
+                let to = r.below(tokens.len());
+                tokens.swap(at, to);
+            }
+        }
+    }
+}
+
+fn separator_of(r: &mut Random, book: &Book, list: &mut List) {
+    let kind = if r.once_in(12) { 0 } else { 1 };
+    let rules: Vec<&Rule> = book.rules.iter().filter(|rule| rule.kind == kind).collect();
+    if rules.is_empty() {
+        return;
+    }
+    for _ in 0..6 {
+        let rule = r.pick(&rules);
+        if let Some(word) = rule.word(r, 3) {
+            list.separator = put(r, &mut list.pool, rule.tag, &word);
+            return;
+        }
+    }
+}
+
+/// Makes a token, or the separator token, unfit.
+fn spoil(r: &mut Random, book: &Book, list: &mut List) {
+    let n = list.tokens.len();
+    let rule = r.pick(&book.rules);
+    let token = match n {
+        0 => &mut list.separator,
+        _ if r.once_in(3) => &mut list.separator,
+        _ => &mut list.tokens[r.below(n)],
+    };
+    match r.below(8) {
+        0 => token.tag = r.next() as u16,
+        1 => token.tag = rule.tag,
+        2 => token.length = token.length.wrapping_add(1),
+        3 => token.length = token.length.saturating_sub(1),
+        4 => token.place = token.place.wrapping_add(1),
+        5 => token.place = *r.pick(&[u32::MAX, u32::MAX - 1, 1 << 31, list.pool.len() as u32]),
+        6 => token.length = *r.pick(&[u32::MAX, 0, 1 << 31]),
+        _ => token.tag = 0,
+    }
+}
+
+pub fn bytes_of(tokens: &[Record]) -> Vec<u8> {
+    tokens.iter().flat_map(|t| t.to_bytes()).collect()
+}
+
+// ---- Rooms
+
+/// A length around what is needed.
+fn room(r: &mut Random, need: usize) -> usize {
+    match r.below(6) {
+        0 | 1 => need,
+        2 => need.saturating_sub(1),
+        3 => r.from(0, need),
+        _ => need + r.from(0, 20),
+    }
+}
+
+/// The call with room as it comes: its answer tells the need, around which the room is then chosen.
+fn with_room(r: &mut Random, mut call: Call, records: bool) -> Call {
+    let answer = Answer(calls::expected(&call).answer);
+    let need = if answer.number() == 0 { answer.first() as usize } else { answer.place().min(9) as usize };
+    if records {
+        let leftover = if r.once_in(3) { r.from(0, 9) } else { 0 };
+        call.records = {
+            let n = room(r, need) * paper::RECORD_BYTES + leftover;
+            r.bytes(n)
+        };
+    } else {
+        call.out = {
+            let n = room(r, need);
+            r.bytes(n)
+        };
+    }
+    call
+}
+
+/// The calls of one case: a book, and each operation on it.
+pub fn case(r: &mut Random) -> Vec<Call> {
+    let (rules, alphabet) = book(r);
+    let sound = shuffled(r, &rules);
+    let bytes = match r.below(5) {
+        0 => faulty(r, &rules),
+        1 => damaged(r, &sound),
+        _ => sound.clone(),
+    };
+    let longest = if r.once_in(60) { 300 } else { 24 };
+    let mut calls = vec![Call::read_book(&bytes)];
+
+    let text = text(r, &rules, &alphabet, longest);
+    let call = Call::lex(&bytes, &text, vec![0; text.len() * paper::RECORD_BYTES]);
+    calls.push(with_room(r, call, true));
+
+    let sheet = sheet(r, longest);
+    let call = Call::lex_builtin(&sheet, vec![0; sheet.len() * paper::RECORD_BYTES]);
+    calls.push(with_room(r, call, true));
+
+    let written = list(r, &rules, &sound, &alphabet, longest, false);
+    let mut records = bytes_of(&written.tokens);
+    let leftover = if r.once_in(4) { r.from(1, 9) } else { 0 };
+    records.extend(r.bytes(leftover));
+    let call = Call::print(&bytes, records, &written.pool, vec![0; paper::TEXT_BYTES]);
+    calls.push(with_room(r, call, false));
+
+    let only_plain = !r.once_in(6);
+    let spaced = list(r, &rules, &sound, &alphabet, longest, only_plain);
+    let mode = if r.once_in(20) { *r.pick(&[3, 255, 256, 1 << 16, u32::MAX]) } else { r.below(3) as u32 };
+    let mut records = bytes_of(&spaced.tokens);
+    records.extend(r.bytes(leftover));
+    let out = vec![0; paper::TEXT_BYTES];
+    let call = Call::print_separated(&bytes, spaced.separator, mode, records, &spaced.pool, out);
+    calls.push(with_room(r, call, false));
+    calls
+}
+
+/// A piece of a timed lyric sheet, with stamps that are whole and stamps that are not.
+fn sheet(r: &mut Random, longest: usize) -> Vec<u8> {
+    let wanted = r.from(0, longest * 2);
+    let mut text = Vec::new();
+    while text.len() < wanted {
+        match r.below(8) {
+            0 | 1 => {
+                let stamp = format!("[{:02}:{:02}.{:02}]", r.below(60), r.below(60), r.below(100)).into_bytes();
+                let kept = if r.once_in(3) { r.from(1, 10) } else { 10 };
+                text.extend(&stamp[..kept]);
+            }
+            2 | 3 => text.extend(*r.pick(&[&b"oh"[..], b"la", b"x", b"00:1", b"\xC3\xA9"])),
+            4 => text.extend(*r.pick(&[&b" "[..], b"  ", b"\t", b"\n", b" \t\n"])),
+            5 => text.push(*r.pick(b"[]:.0123456789")),
+            6 => text.push(*r.pick(&[b'!', b'~', 0x5A, 0x5C, 0x5E, 0x80, 0xFF])),
+            _ => {
+                if r.once_in(10) {
+                    text.push(r.byte());
+                }
+            }
+        }
+    }
+    text.truncate(wanted);
+    text
+}

@@ -1,0 +1,179 @@
+//! Faults between the harness and the library, to see that the harness finds them. The library itself is not changed: each
+//! fault alters what goes into a call or what comes out of it.
+
+use crate::calls::{Answer, Call, Operation, Outcome};
+use crate::library::{Against, Library};
+use crate::reference;
+
+#[derive(Clone, Copy, Debug, PartialEq, Eq)]
+pub enum Fault {
+    /// On a tie the latest rule wins.
+    Tie,
+    /// 15 says one record more than was lent.
+    Need,
+    /// An accepted cut changes a byte past its last record.
+    PastTheCount,
+    /// A refused printing leaves a byte in the output.
+    OutputTouched,
+    /// A separator is written after the last token too, as 004 does.
+    LastSeparator,
+    /// The plain printer looks at a token and its neighbour alone.
+    Neighbours,
+    /// Mode 2 decides from the front, by a token and its neighbour.
+    FromTheFront,
+}
+
+pub const FAULTS: [Fault; 7] = [
+    Fault::Tie,
+    Fault::Need,
+    Fault::PastTheCount,
+    Fault::OutputTouched,
+    Fault::LastSeparator,
+    Fault::Neighbours,
+    Fault::FromTheFront,
+];
+
+impl Fault {
+    pub fn name(self) -> &'static str {
+        match self {
+            Fault::Tie => "tie",
+            Fault::Need => "need",
+            Fault::PastTheCount => "past-the-count",
+            Fault::OutputTouched => "output-touched",
+            Fault::LastSeparator => "last-separator",
+            Fault::Neighbours => "neighbours",
+            Fault::FromTheFront => "from-the-front",
+        }
+    }
+
+    pub fn of(name: &str) -> Option<Fault> {
+        FAULTS.into_iter().find(|f| f.name() == name)
+    }
+}
+
+/// Calls the library, with the fault where one is planted.
+pub fn run(fault: Option<Fault>, library: &mut Library, call: &Call, against: Against) -> Result<Outcome, String> {
+    let sound = library.run(call, against)?;
+    let Some(fault) = fault else {
+        return Ok(sound);
+    };
+    Ok(match fault {
+        Fault::Tie => tie(library, call, against, sound)?,
+        Fault::Need => need(call, sound),
+        Fault::PastTheCount => past_the_count(call, sound),
+        Fault::OutputTouched => output_touched(call, sound),
+        Fault::LastSeparator => last_separator(call, sound),
+        Fault::Neighbours => neighbours(library, call, against, sound)?,
+        Fault::FromTheFront => from_the_front(library, call, against, sound)?,
+    })
+}
+
+fn is_cut(call: &Call) -> bool {
+    matches!(call.operation, Operation::Lex | Operation::LexBuiltin)
+}
+
+fn is_print(call: &Call) -> bool {
+    matches!(call.operation, Operation::Print | Operation::PrintSeparated)
+}
+
+/// The cut by the same rules in the opposite order.
+fn tie(library: &mut Library, call: &Call, against: Against, sound: Outcome) -> Result<Outcome, String> {
+    if call.operation != Operation::Lex || reference::read_book(&call.book).is_err() {
+        return Ok(sound);
+    }
+    let mut turned = call.clone();
+    turned.book = reference::rules(&call.book).into_iter().rev().flatten().copied().collect();
+    turned.book.push(reference::END);
+    let mut outcome = library.run(&turned, against)?;
+    outcome.buffers[0] = call.book.clone();
+    Ok(outcome)
+}
+
+fn need(call: &Call, mut outcome: Outcome) -> Outcome {
+    if Answer(outcome.answer).number() == 15 {
+        outcome.answer = 15 << 56 | (call.records.len() / reference::RECORD_BYTES + 1) as u64;
+    }
+    outcome
+}
+
+fn past_the_count(call: &Call, mut outcome: Outcome) -> Outcome {
+    let answer = Answer(outcome.answer);
+    if is_cut(call) && answer.number() == 0 {
+        let records = outcome.buffers.last_mut().expect("records are lent last");
+        if let Some(byte) = records.get_mut(answer.first() as usize * reference::RECORD_BYTES) {
+            *byte ^= 1;
+        }
+    }
+    outcome
+}
+
+fn output_touched(call: &Call, mut outcome: Outcome) -> Outcome {
+    if is_print(call) && Answer(outcome.answer).number() == 22 {
+        if let Some(byte) = outcome.buffers[3].first_mut() {
+            *byte ^= 1;
+        }
+    }
+    outcome
+}
+
+fn last_separator(call: &Call, outcome: Outcome) -> Outcome {
+    let answer = Answer(outcome.answer);
+    if call.operation != Operation::PrintSeparated || answer.number() != 0 || answer.first() == 0 {
+        return outcome;
+    }
+    let mut text = outcome.buffers[3][..answer.first() as usize].to_vec();
+    text.extend(call.separator.bytes(&call.text).expect("an accepted separator"));
+    written(call, &text)
+}
+
+/// What a printer leaves that has this text to write.
+fn written(call: &Call, text: &[u8]) -> Outcome {
+    let mut after = call.clone();
+    let answer = if call.out.len() < text.len() {
+        22 << 56 | text.len() as u64
+    } else {
+        after.out[..text.len()].copy_from_slice(text);
+        (text.len() as u64) << 28
+    };
+    Outcome { answer, buffers: after.buffers().into_iter().map(|(_, b)| b.clone()).collect() }
+}
+
+/// For each token but the last, whether the library refuses it and its neighbour as a list of two.
+fn refused_pairs(library: &mut Library, call: &Call, against: Against) -> Result<Vec<bool>, String> {
+    let mut pairs = Vec::new();
+    for pair in call.records.chunks_exact(reference::RECORD_BYTES).collect::<Vec<_>>().windows(2) {
+        let two = Call::print(&call.book, pair.concat(), &call.text, vec![0; reference::TEXT_BYTES]);
+        pairs.push(Answer(library.run(&two, against)?.answer).number() == 21);
+    }
+    Ok(pairs)
+}
+
+fn neighbours(library: &mut Library, call: &Call, against: Against, sound: Outcome) -> Result<Outcome, String> {
+    if call.operation != Operation::Print || Answer(sound.answer).number() != 21 {
+        return Ok(sound);
+    }
+    if let Some(i) = refused_pairs(library, call, against)?.iter().position(|&refused| refused) {
+        return Ok(Outcome { answer: 21 << 56 | i as u64, ..sound });
+    }
+    let tokens = reference::records_of(&call.records);
+    let text: Vec<&[u8]> = tokens.iter().map(|t| t.bytes(&call.text).expect("21 comes after 17")).collect();
+    Ok(written(call, &text.concat()))
+}
+
+fn from_the_front(library: &mut Library, call: &Call, against: Against, sound: Outcome) -> Result<Outcome, String> {
+    let number = Answer(sound.answer).number();
+    if call.operation != Operation::PrintSeparated || call.mode != 2 || (number != 0 && number != 22) {
+        return Ok(sound);
+    }
+    let mut parted = refused_pairs(library, call, against)?;
+    parted.push(false);
+    let between = call.separator.bytes(&call.text).expect("an accepted separator");
+    let mut text = Vec::new();
+    for (token, apart) in reference::records_of(&call.records).iter().zip(parted) {
+        text.extend(token.bytes(&call.text).expect("an accepted token"));
+        if apart {
+            text.extend(between);
+        }
+    }
+    Ok(written(call, &text))
+}

@@ -1,0 +1,460 @@
+//! The operations a second time, from the text of document 01 alone.
+//!
+//! Nothing here is fast. A match reads the rule's commands in the book's bytes again for every byte, and a cut tries every
+//! length from the longest down. There are no tables, so that a mistake in tables cannot be made twice.
+
+use std::collections::{BTreeMap, BTreeSet, VecDeque};
+
+pub const BOOK_BYTES: usize = 32_768;
+pub const BOOK_RULES: usize = 32;
+pub const RULE_MOVES: usize = 512;
+pub const TEXT_BYTES: usize = 65_536;
+pub const LIST_TOKENS: usize = 65_536;
+pub const RECORD_BYTES: usize = 10;
+
+pub const RULE: u8 = 1;
+pub const START: u8 = 2;
+pub const ERROR: u8 = 3;
+pub const FINAL: u8 = 4;
+pub const STEP: u8 = 5;
+pub const SPAN: u8 = 6;
+pub const CLOSE: u8 = 7;
+pub const END: u8 = 8;
+
+#[derive(Clone, Copy, Debug, PartialEq, Eq)]
+pub struct Refusal {
+    pub number: u8,
+    pub place: usize,
+}
+
+fn refuse<T>(number: u8, place: usize) -> Result<T, Refusal> {
+    Err(Refusal { number, place })
+}
+
+/// A record: a tag, and where its bytes are in a pool.
+#[derive(Clone, Copy, Debug, PartialEq, Eq)]
+pub struct Record {
+    pub tag: u16,
+    pub place: u32,
+    pub length: u32,
+}
+
+impl Record {
+    pub fn of_bytes(b: &[u8]) -> Record {
+        Record {
+            tag: u16::from_be_bytes([b[0], b[1]]),
+            place: u32::from_be_bytes([b[2], b[3], b[4], b[5]]),
+            length: u32::from_be_bytes([b[6], b[7], b[8], b[9]]),
+        }
+    }
+
+    pub fn to_bytes(self) -> Vec<u8> {
+        let mut out = self.tag.to_be_bytes().to_vec();
+        out.extend(self.place.to_be_bytes());
+        out.extend(self.length.to_be_bytes());
+        out
+    }
+
+    /// Its bytes, if place plus length does not pass the pool.
+    pub fn bytes(self, pool: &[u8]) -> Option<&[u8]> {
+        let end = self.place as u64 + self.length as u64;
+        if end > pool.len() as u64 {
+            return None;
+        }
+        Some(&pool[self.place as usize..end as usize])
+    }
+}
+
+/// The list that a buffer holds: its length divided by ten, rounded down, records.
+pub fn records_of(buffer: &[u8]) -> Vec<Record> {
+    buffer.chunks_exact(RECORD_BYTES).map(Record::of_bytes).collect()
+}
+
+// ---- The book
+
+fn operands_of(code: u8) -> usize {
+    match code {
+        RULE | STEP => 3,
+        START | ERROR | FINAL => 1,
+        SPAN => 4,
+        _ => 0,
+    }
+}
+
+/// What a rule that is still open has had so far.
+#[derive(Default)]
+struct Open {
+    starts: Vec<u8>,
+    errors: Vec<u8>,
+    finals: BTreeSet<u8>,
+    moves: Vec<(u8, u8, u8)>,
+}
+
+/// Reads a book: the number of its rules.
+pub fn read_book(book: &[u8]) -> Result<usize, Refusal> {
+    if book.len() > BOOK_BYTES {
+        return refuse(1, 0);
+    }
+    let mut tags: BTreeSet<u16> = BTreeSet::new();
+    let mut open: Option<Open> = None;
+    let mut at = 0;
+    while at < book.len() {
+        let code = book[at];
+        let allowed = match code {
+            RULE | END => open.is_none(),
+            START..=CLOSE => open.is_some(),
+            _ => false,
+        };
+        if !allowed {
+            return refuse(3, at);
+        }
+        let Some(o) = book.get(at + 1..at + 1 + operands_of(code)) else {
+            return refuse(2, at);
+        };
+        match (code, open.as_mut()) {
+            (RULE, _) => {
+                let tag = u16::from_be_bytes([o[0], o[1]]);
+                if tags.len() == BOOK_RULES {
+                    return refuse(5, at);
+                }
+                if tag == 0 || o[2] > 1 {
+                    return refuse(6, at);
+                }
+                if !tags.insert(tag) {
+                    return refuse(7, at);
+                }
+                open = Some(Open::default());
+            }
+            (END, _) => {
+                if tags.is_empty() {
+                    return refuse(13, at);
+                }
+                if at + 1 < book.len() {
+                    return refuse(4, at + 1);
+                }
+                return Ok(tags.len());
+            }
+            (START, Some(rule)) => {
+                if !rule.starts.is_empty() {
+                    return refuse(8, at);
+                }
+                rule.starts.push(o[0]);
+            }
+            (ERROR, Some(rule)) => {
+                if !rule.errors.is_empty() {
+                    return refuse(8, at);
+                }
+                rule.errors.push(o[0]);
+            }
+            (FINAL, Some(rule)) => {
+                rule.finals.insert(o[0]);
+            }
+            (STEP | SPAN, Some(rule)) => {
+                let (low, high) = if code == STEP { (o[1], o[1]) } else { (o[1], o[2]) };
+                if rule.moves.len() == RULE_MOVES {
+                    return refuse(5, at);
+                }
+                if low > high {
+                    return refuse(6, at);
+                }
+                rule.moves.push((o[0], low, high));
+            }
+            (CLOSE, Some(rule)) => {
+                if let Some(number) = fault_at_close(rule) {
+                    return refuse(number, at);
+                }
+                open = None;
+            }
+            _ => unreachable!("the command is allowed here"),
+        }
+        at += 1 + o.len();
+    }
+    refuse(2, book.len())
+}
+
+fn fault_at_close(rule: &Open) -> Option<u8> {
+    let (Some(start), Some(error)) = (rule.starts.first(), rule.errors.first()) else {
+        return Some(8);
+    };
+    let mut covered: BTreeSet<(u8, u8)> = BTreeSet::new();
+    for &(from, low, high) in &rule.moves {
+        for byte in low..=high {
+            if !covered.insert((from, byte)) {
+                return Some(9);
+            }
+        }
+    }
+    if rule.moves.iter().any(|m| m.0 == *error) {
+        return Some(10);
+    }
+    if rule.finals.contains(error) {
+        return Some(11);
+    }
+    if rule.finals.contains(start) {
+        return Some(12);
+    }
+    None
+}
+
+/// The commands of an accepted book from `at` on: code and operands.
+fn commands(bytes: &[u8]) -> impl Iterator<Item = (u8, &[u8])> {
+    let mut at = 0;
+    std::iter::from_fn(move || {
+        let code = *bytes.get(at)?;
+        let operands = &bytes[at + 1..at + 1 + operands_of(code)];
+        at += 1 + operands.len();
+        Some((code, operands))
+    })
+}
+
+/// The commands of each rule of an accepted book, as parts of its bytes, from its RULE to its CLOSE.
+pub fn rules(book: &[u8]) -> Vec<&[u8]> {
+    let mut found = Vec::new();
+    let mut at = 0;
+    let mut begin = 0;
+    for (code, operands) in commands(book) {
+        if code == RULE {
+            begin = at;
+        }
+        at += 1 + operands.len();
+        if code == CLOSE {
+            found.push(&book[begin..at]);
+        }
+    }
+    found
+}
+
+fn operand_of(rule: &[u8], wanted: u8) -> u8 {
+    commands(rule).find(|c| c.0 == wanted).expect("an accepted rule has it").1[0]
+}
+
+pub fn tag_of(rule: &[u8]) -> u16 {
+    u16::from_be_bytes([rule[1], rule[2]])
+}
+
+pub fn is_separator(rule: &[u8]) -> bool {
+    rule[3] == 1
+}
+
+fn step(rule: &[u8], state: u8, byte: u8) -> u8 {
+    for (code, o) in commands(rule) {
+        if code == STEP && o[0] == state && o[1] == byte {
+            return o[2];
+        }
+        if code == SPAN && o[0] == state && o[1] <= byte && byte <= o[2] {
+            return o[3];
+        }
+    }
+    operand_of(rule, ERROR)
+}
+
+/// Whether the walk from the rule's start over `word` ends in a final state.
+fn matches(rule: &[u8], word: &[u8]) -> bool {
+    let state = word.iter().fold(operand_of(rule, START), |s, &b| step(rule, s, b));
+    commands(rule).any(|(code, o)| code == FINAL && o[0] == state)
+}
+
+/// How many bytes of `text` can take part in a match: after them every rule stands in its error state, which nothing leaves.
+fn bound<'t>(rules: &[&[u8]], text: impl Iterator<Item = &'t u8>) -> usize {
+    let mut states: Vec<u8> = rules.iter().map(|r| operand_of(r, START)).collect();
+    let errors: Vec<u8> = rules.iter().map(|r| operand_of(r, ERROR)).collect();
+    let mut count = 0;
+    for &byte in text {
+        if states == errors {
+            break;
+        }
+        for (s, r) in states.iter_mut().zip(rules) {
+            *s = step(r, *s, byte);
+        }
+        count += 1;
+    }
+    count
+}
+
+/// Texts up to this length are tried at every length, longer ones only up to their bound.
+const LITERAL: usize = 48;
+
+/// The rank of the earliest rule that matches the longest beginning of `text`, and that beginning's length.
+fn choose(rules: &[&[u8]], text: &[u8]) -> Option<(usize, usize)> {
+    let longest = if text.len() <= LITERAL { text.len() } else { bound(rules, text.iter()) };
+    for length in (1..=longest).rev() {
+        if let Some(rank) = rules.iter().position(|r| matches(r, &text[..length])) {
+            return Some((rank, length));
+        }
+    }
+    None
+}
+
+// ---- Cutting
+
+/// The tokens of a cut, and the place of the rest.
+pub struct Cut {
+    pub tokens: Vec<Record>,
+    pub rest: usize,
+}
+
+pub fn cut(book: &[u8], text: &[u8]) -> Cut {
+    let rules = rules(book);
+    let mut tokens = Vec::new();
+    let mut rest = 0;
+    while let Some((rank, length)) = choose(&rules, &text[rest..]) {
+        tokens.push(Record { tag: tag_of(rules[rank]), place: rest as u32, length: length as u32 });
+        rest += length;
+    }
+    Cut { tokens, rest }
+}
+
+/// Cutting with room for `room` records.
+pub fn lex(book: &[u8], text: &[u8], room: usize) -> Result<Cut, Refusal> {
+    read_book(book)?;
+    if text.len() > TEXT_BYTES {
+        return refuse(14, 0);
+    }
+    let cut = cut(book, text);
+    if room < cut.tokens.len() {
+        return refuse(15, cut.tokens.len());
+    }
+    Ok(cut)
+}
+
+// ---- Writing
+
+/// The rules of a book and how its tags name them.
+struct Tags<'a> {
+    rules: Vec<&'a [u8]>,
+    ranks: BTreeMap<u16, usize>,
+}
+
+impl<'a> Tags<'a> {
+    fn of(book: &'a [u8]) -> Tags<'a> {
+        let rules = rules(book);
+        let ranks = rules.iter().enumerate().map(|(k, r)| (tag_of(r), k)).collect();
+        Tags { rules, ranks }
+    }
+
+    /// A token's bytes and its rule's rank, or 17, 18, 19 at `place`.
+    fn check<'p>(&self, r: Record, pool: &'p [u8], place: usize) -> Result<(&'p [u8], usize), Refusal> {
+        let Some(bytes) = r.bytes(pool) else {
+            return refuse(17, place);
+        };
+        let Some(&rank) = self.ranks.get(&r.tag) else {
+            return refuse(18, place);
+        };
+        let first = self.rules.iter().position(|rule| matches(rule, bytes));
+        if first != Some(rank) {
+            return refuse(19, place);
+        }
+        Ok((bytes, rank))
+    }
+
+    /// Whether some rule matches `word` plus a non-empty beginning of `after`.
+    fn reads_on(&self, word: &[u8], after: &[u8]) -> bool {
+        let mut longest = word.len() + after.len();
+        if longest > LITERAL {
+            longest = bound(&self.rules, word.iter().chain(after));
+        }
+        let whole: Vec<u8> = word.iter().chain(after).take(longest).copied().collect();
+        (word.len() + 1..=longest).any(|n| self.rules.iter().any(|r| matches(r, &whole[..n])))
+    }
+}
+
+/// Plain writing of the list `records` into `room` bytes.
+pub fn print(book: &[u8], records: &[Record], pool: &[u8], room: usize) -> Result<Vec<u8>, Refusal> {
+    read_book(book)?;
+    if records.len() > LIST_TOKENS {
+        return refuse(16, 0);
+    }
+    let tags = Tags::of(book);
+    let mut tokens = Vec::new();
+    for (i, r) in records.iter().enumerate() {
+        tokens.push(tags.check(*r, pool, i)?.0);
+    }
+    let total: usize = tokens.iter().map(|t| t.len()).sum();
+    if total > TEXT_BYTES {
+        return refuse(20, 0);
+    }
+    let joined: Vec<u8> = tokens.concat();
+    let mut end = 0;
+    for (i, word) in tokens.iter().enumerate() {
+        end += word.len();
+        if tags.reads_on(word, &joined[end..]) {
+            return refuse(21, i);
+        }
+    }
+    if room < total {
+        return refuse(22, total);
+    }
+    Ok(joined)
+}
+
+/// The bytes that some move of the rule covers on its way to a state other than the error state.
+fn used(rule: &[u8]) -> BTreeSet<u8> {
+    let error = operand_of(rule, ERROR);
+    let mut bytes = BTreeSet::new();
+    for (code, o) in commands(rule) {
+        match code {
+            STEP if o[2] != error => {
+                bytes.insert(o[1]);
+            }
+            SPAN if o[3] != error => bytes.extend(o[1]..=o[2]),
+            _ => {}
+        }
+    }
+    bytes
+}
+
+fn used_by_kind(rules: &[&[u8]], separator: bool) -> BTreeSet<u8> {
+    rules.iter().filter(|r| is_separator(r) == separator).flat_map(|r| used(r)).collect()
+}
+
+/// Writing with separators.
+pub fn print_separated(
+    book: &[u8],
+    separator: Record,
+    mode: u32,
+    records: &[Record],
+    pool: &[u8],
+    room: usize,
+) -> Result<Vec<u8>, Refusal> {
+    read_book(book)?;
+    let tags = Tags::of(book);
+    let plain = used_by_kind(&tags.rules, false);
+    if let Some(&byte) = plain.intersection(&used_by_kind(&tags.rules, true)).next() {
+        return refuse(23, byte as usize);
+    }
+    if mode > 2 {
+        return refuse(24, 0);
+    }
+    let (between, rank) = tags.check(separator, pool, records.len())?;
+    if !is_separator(tags.rules[rank]) {
+        return refuse(25, records.len());
+    }
+    if records.len() > LIST_TOKENS {
+        return refuse(16, 0);
+    }
+    let mut tokens = Vec::new();
+    for (i, r) in records.iter().enumerate() {
+        let (bytes, rank) = tags.check(*r, pool, i)?;
+        if is_separator(tags.rules[rank]) {
+            return refuse(26, i);
+        }
+        tokens.push(bytes);
+    }
+    // from the last token back; `written` holds the text that is so far behind this token
+    let mut written: VecDeque<u8> = VecDeque::new();
+    for (i, word) in tokens.iter().enumerate().rev() {
+        let last = i + 1 == tokens.len();
+        if !last && (mode != 2 || tags.reads_on(word, written.make_contiguous())) {
+            between.iter().rev().for_each(|&b| written.push_front(b));
+        }
+        word.iter().rev().for_each(|&b| written.push_front(b));
+        // nothing that comes later makes it shorter
+        if written.len() > TEXT_BYTES {
+            return refuse(20, 0);
+        }
+    }
+    if room < written.len() {
+        return refuse(22, written.len());
+    }
+    Ok(written.into())
+}

@@ -1,0 +1,115 @@
+//! A difference as small as it can be made, in hexadecimal.
+
+use crate::calls::{Answer, Call, Operation, Outcome};
+use crate::reference;
+use std::time::{Duration, Instant};
+
+/// How long shrinking may take; what is smallest by then is shown.
+const PATIENCE: Duration = Duration::from_secs(20);
+
+/// Leaves out parts of the lent buffers as long as the difference stays: whole commands and records first, then bytes.
+pub fn shrink(call: &Call, mut differs: impl FnMut(&Call) -> bool) -> Call {
+    let end = Instant::now() + PATIENCE;
+    let mut best = call.clone();
+    loop {
+        let before = best.clone();
+        let names: Vec<&str> = best.buffers().iter().map(|(name, _)| *name).collect();
+        for grain in [Grain::Rules, Grain::Commands, Grain::Bytes] {
+            for name in &names {
+                shrink_buffer(&mut best, name, grain, end, &mut differs);
+            }
+        }
+        if best == before || Instant::now() > end {
+            return best;
+        }
+    }
+}
+
+/// What is left out together: whole rules or commands of a book, whole records of a list, or single bytes.
+#[derive(Clone, Copy, PartialEq, Eq)]
+enum Grain {
+    Rules,
+    Commands,
+    Bytes,
+}
+
+fn pieces(name: &str, bytes: &[u8], grain: Grain) -> Vec<Vec<u8>> {
+    let mut all: Vec<Vec<u8>> = Vec::new();
+    let mut at = 0;
+    let mut joined = false;
+    while at < bytes.len() {
+        let size = match (name, grain) {
+            (_, Grain::Bytes) => 1,
+            ("book", _) => 1 + [0, 3, 1, 1, 1, 3, 4].get(bytes[at] as usize).unwrap_or(&0),
+            ("records", _) => 10,
+            _ => 1,
+        };
+        let piece = &bytes[at..(at + size).min(bytes.len())];
+        match all.last_mut() {
+            Some(last) if joined => last.extend(piece),
+            _ => all.push(piece.to_vec()),
+        }
+        joined = name == "book" && grain == Grain::Rules && bytes[at] < reference::CLOSE;
+        at += size;
+    }
+    all
+}
+
+fn shrink_buffer(best: &mut Call, name: &str, grain: Grain, end: Instant, differs: &mut impl FnMut(&Call) -> bool) {
+    let bytes = best.buffers().iter().find(|(n, _)| *n == name).expect("it is lent").1.clone();
+    let mut left = pieces(name, &bytes, grain);
+    let mut run = left.len();
+    while run > 0 {
+        let mut at = 0;
+        while at < left.len() {
+            if Instant::now() > end {
+                return;
+            }
+            let mut fewer = left.clone();
+            fewer.drain(at..(at + run).min(left.len()));
+            let mut smaller = best.clone();
+            smaller.set_buffer(name, fewer.concat());
+            if differs(&smaller) {
+                *best = smaller;
+                left = fewer;
+            } else {
+                at += run;
+            }
+        }
+        run /= 2;
+    }
+}
+
+fn hex(bytes: &[u8]) -> String {
+    const SHOWN: usize = 512;
+    let mut text: Vec<String> = bytes.iter().take(SHOWN).map(|b| format!("{b:02X}")).collect();
+    if bytes.len() > SHOWN {
+        text.push("…".to_string());
+    }
+    format!("{} bytes: {}", bytes.len(), text.join(" "))
+}
+
+pub fn reproduction(call: &Call, ours: &Result<Outcome, String>, second: &Outcome) -> String {
+    let mut lines = vec![format!("{} with", call.operation.name())];
+    if call.operation == Operation::PrintSeparated {
+        let s = call.separator;
+        lines.push(format!("  separator tag {} place {} length {}, mode {}", s.tag, s.place, s.length, call.mode));
+    }
+    for (name, bytes) in call.buffers() {
+        lines.push(format!("  {name}, {}", hex(bytes)));
+    }
+    lines.push(format!("second implementation: {}", Answer(second.answer)));
+    match ours {
+        Err(guard) => lines.push(format!("library: {guard}")),
+        Ok(ours) => {
+            lines.push(format!("library: {}", Answer(ours.answer)));
+            for ((name, _), (a, b)) in call.buffers().iter().zip(ours.buffers.iter().zip(&second.buffers)) {
+                if a != b {
+                    lines.push(format!("  {name} after the library, {}", hex(a)));
+                    lines.push(format!("  {name} after the second, {}", hex(b)));
+                }
+            }
+        }
+    }
+    lines.join("\n")
+}
