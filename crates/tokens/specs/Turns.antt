@@ -56,12 +56,13 @@ pub record Ready (hs ss es text : List ℕ) (t : Turn) : Type 0 where
   pub within : t .next ≤ length text
   pub short : length text ≤ maxText
 
--- the first turn by these rules: 14, 15, or the first token
+-- the first turn where neither 14 nor 15 applies
 pub record Started (rules : List Rule) (text : List ℕ) (n room : ℕ) (t : Turn) : Type 0 where
   pub short : length text ≤ maxText
   pub enough : length ((lex rules text) .tokens) ≤ room
   pub turns : Turns rules text n 0 0 t
 
+-- the first turn by these rules: 14, 15, or the first token
 pub record Opens (rules : List Rule) (text : List ℕ) (n room : ℕ) (t : Turn) : Type 0 where
   pub idle : t .refused ≡ true → t .more ≡ false
   pub refuses : t .refused ≡ true → (records : List ℕ) → recordCount records ≡ room → Answered (lexRules rules text records) (answer.Refused (refusalOf t)) records
