@@ -79,7 +79,8 @@ module _ {bytes hs ss es : List ℕ} {b : BookAnswer} {n : ℕ} (l : Loaded byte
   rest-book text place h = rw (loaded-rules .1 .0) (h (loaded-rules .0) (loaded-rules .1 .1))
 
 module _ {bytes hs ss es : List ℕ} {b : BookAnswer} {f : Refusal} (l : Loaded bytes b hs ss es) (a : b ≡ book.Refused f) where
-  loaded-refused : readBook bytes ≡ refused (f .number) (f .place)
+  -- a book whose reading answers a refusal is refused so
+  pub loaded-refused : readBook bytes ≡ refused (f .number) (f .place)
   loaded-refused = go (readBook bytes) refl
     where
       go : (o : Reading) → readBook bytes ≡ o → readBook bytes ≡ refused (f .number) (f .place)

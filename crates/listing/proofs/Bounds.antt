@@ -18,7 +18,8 @@ use Rattle.lexer.specs.Records.{recordOf, recordsAt}
 use Rattle.lexer.specs.Outcome.{maxText, recordCount, lexRefused, lexAccepted, lexRules, lexReading, lexOutcome}
 use Rattle.lexer.proofs.Lexing.{lex-lengths}
 use Rattle.lexer.proofs.Records.{length-records, tokenAt, placeAt, records-at, laid-within, four-value}
-use Rattle.listing.specs.Lines.{decimal, field, blank, lineEnd, lastTwo, tokenLine, restWord, restLine, twoAt, fourAt, recordLine, recordLines, recordBytes, outputBytes, linesOf, listing, Fit, Puts}
+use Rattle.printer.specs.Tokens.{twoAt, fourAt, recordAt}
+use Rattle.listing.specs.Lines.{decimal, field, blank, lineEnd, lastTwo, tokenLine, restWord, restLine, recordLine, recordLines, recordBytes, outputBytes, linesOf, listing, Fit, Puts}
 use Rattle.listing.proofs.Putting.{digits}
 
 -- ---- lines
@@ -54,15 +55,11 @@ short-lines records (suc n) h =
 
 -- ---- the records of a cut
 
-regroup : (a b c d : ℕ) → (a * 256 + b) * 65536 + (c * 256 + d) ≡ ((a * 256 + b) * 256 + c) * 256 + d
-regroup a b c d = omega arith
-
 -- the number of four bytes from the bytes
 four-is : (bytes : List ℕ) (i n : ℕ) → n < 4294967296 → getD bytes i 0 ≡ n / 16777216 % 256 → getD bytes (i + 1) 0 ≡ n / 65536 % 256
     → getD bytes (i + 2) 0 ≡ n / 256 % 256 → getD bytes (i + 3) 0 ≡ n % 256 → fourAt bytes i ≡ n
 four-is bytes i n l a b c d =
-    let e : i + 2 + 1 ≡ i + 3 = omega arith in
-    rw (e, a, b, c, d) (regroup (n / 16777216 % 256) (n / 65536 % 256) (n / 256 % 256) (n % 256) ∙ four-value n l)
+    rw (a, b, c, d) (four-value n l)
 
 module _ (ts : List Token) (more : List ℕ) (k : ℕ) (l : k < length ts) where
   -- byte number j of record number k
@@ -97,7 +94,7 @@ module _ (rules : List Rule) (text records : List ℕ) (small : length text ≤ 
   filled = recordsAt 0 tokens ++ drop (10 * length tokens) records
 
   short-record : (k : ℕ) → k < length tokens → length tokens ≤ maxText → length (recordLine filled k) ≤ 24
-  unfolding recordLine
+  unfolding recordLine recordAt
   short-record k l few =
       let w = laid-within tokens k l in
       let j = lex-lengths rules text in

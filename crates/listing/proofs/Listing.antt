@@ -11,7 +11,9 @@ use lib.ListN.{length, length-append}
 use Rattle.book.specs.declared.refusal.Refusal.{Refusal}
 use Rattle.lexer.specs.declared.LexAnswer.{LexAnswer}
 use Rattle.lexer.specs.declared.LexAnswer.the-variants.{Lexed, Refused}
-use Rattle.listing.specs.Lines.{decimal, field, blank, lineEnd, lastTwo, tokenLine, restLine, refusedWord, refusedLine, refusedBytes, twoAt, fourAt, recordLine, recordLines, Fit, linesOf, Room, Puts}
+use Rattle.printer.specs.declared.tokens.TokenRecord.{TokenRecord}
+use Rattle.printer.specs.Tokens.{recordAt}
+use Rattle.listing.specs.Lines.{decimal, field, blank, lineEnd, lastTwo, tokenLine, restLine, refusedWord, refusedLine, refusedBytes, recordLine, recordLines, Fit, linesOf, Room, Puts}
 use Rattle.listing.proofs.Putting.{puts-nothing, puts-then, room-second, digits}
 
 lines-more : (records : List ℕ) (k : ℕ) → recordLines records (k + 1) ≡ recordLines records k ++ recordLine records k
@@ -35,15 +37,15 @@ lines-within records k (suc n) l = go (ltb k n) refl (lines-within records k n)
         rw q (omega (arith, both))
 
 -- the line of a record, by the numbers read from it
-module _ (records : List ℕ) (k : ℕ) {tag place len : ℕ} (a : tag ≡ twoAt records (10 * k)) (b : place ≡ fourAt records (10 * k + 2)) (c : len ≡ fourAt records (10 * k + 6)) where
-  line-of : recordLine records k ≡ tokenLine k tag place len
+module _ (records : List ℕ) (k : ℕ) {r : TokenRecord} (e : r ≡ recordAt records k) where
+  line-of : recordLine records k ≡ tokenLine k (r .tag) (r .place) (r .len)
   unfolding recordLine
-  line-of = rw (a, b, c)
+  line-of = rw e
 
-  pub room-record : {at : ℕ} {out : List ℕ} → Room at (recordLine records k) out → Room at (tokenLine k tag place len) out
-  room-record {at} {out} r = subst (λ (l : List ℕ). Room at l out) line-of r
+  pub room-record : {at : ℕ} {out : List ℕ} → Room at (recordLine records k) out → Room at (tokenLine k (r .tag) (r .place) (r .len)) out
+  room-record {at} {out} h = subst (λ (l : List ℕ). Room at l out) line-of h
 
-  pub puts-record : {at next : ℕ} {out after : List ℕ} → Puts out at (tokenLine k tag place len) next after → Puts out at (recordLine records k) next after
+  pub puts-record : {at next : ℕ} {out after : List ℕ} → Puts out at (tokenLine k (r .tag) (r .place) (r .len)) next after → Puts out at (recordLine records k) next after
   puts-record {at} {next} {out} {after} p = subst (λ (l : List ℕ). Puts out at l next after) (sym line-of) p
 
 -- the lines of the first k records are written

@@ -20,7 +20,8 @@ use Rattle.lexer.specs.Outcome.{maxText, recordCount, lexRules, lexOutcome}
 use Rattle.lexer.proofs.Choosing.{choose-some}
 use Rattle.lexer.proofs.Lexing.{lex-lengths}
 use Rattle.lexer.proofs.Records.{tokenAt, placeAt, laid-within, two-value}
-use Rattle.listing.specs.Lines.{tokenLine, tokenLines, restLine, twoAt, recordLine, recordLines, listing}
+use Rattle.printer.specs.Tokens.{twoAt, recordAt}
+use Rattle.listing.specs.Lines.{tokenLine, tokenLines, restLine, recordLine, recordLines, listing}
 use Rattle.listing.proofs.Bounds.{byte-at, place-is, length-is}
 
 -- ---- a token more
@@ -48,7 +49,7 @@ module _ (ts : List Token) (more : List ℕ) (small : length (join ts) < 4294967
   tag-is k l = rw (rw add-zero at (byte-at ts more k l 0 (omega arith)), byte-at ts more k l 1 (omega arith)) (two-value ((tokenAt ts k) .tag) (tags k l))
 
   line-is : (k : ℕ) → k < length ts → recordLine filled k ≡ tokenLine k ((tokenAt ts k) .tag) (placeAt ts k) (length ((tokenAt ts k) .bytes))
-  unfolding recordLine
+  unfolding recordLine recordAt
   line-is k l =
       let w = laid-within ts k l in
       rw (tag-is k l, place-is ts more k l (omega arith), length-is ts more k l (omega arith))

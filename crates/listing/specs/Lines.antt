@@ -9,6 +9,7 @@ use Rattle.automaton.specs.Choice.{if}
 use Rattle.lexer.specs.declared.LexAnswer.{LexAnswer}
 use Rattle.lexer.specs.declared.LexAnswer.the-variants.{Lexed, Refused}
 use Rattle.lexer.specs.Lexer.{Token}
+use Rattle.printer.specs.Tokens.{recordAt}
 use Rattle.lexer.specs.Outcome.{lexOutcome}
 
 -- ---- numbers
@@ -61,16 +62,9 @@ refusedLine number place = refusedWord ++ lastTwo number place
 
 -- ---- an outcome of lexing
 
--- the numbers of two and of four bytes at a place, high byte first
-abbrev pub twoAt : List ℕ → ℕ → ℕ
-twoAt bytes at = getD bytes at 0 * 256 + getD bytes (at + 1) 0
-
-abbrev pub fourAt : List ℕ → ℕ → ℕ
-fourAt bytes at = twoAt bytes at * 65536 + twoAt bytes (at + 2)
-
 -- the line of record number k
 unfoldable pub recordLine : List ℕ → ℕ → List ℕ
-recordLine records k = tokenLine k (twoAt records (10 * k)) (fourAt records (10 * k + 2)) (fourAt records (10 * k + 6))
+recordLine records k = tokenLine k ((recordAt records k) .tag) ((recordAt records k) .place) ((recordAt records k) .len)
 
 -- the lines of the first n records
 unfoldable pub recordLines : List ℕ → ℕ → List ℕ

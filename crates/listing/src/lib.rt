@@ -4,7 +4,7 @@ ghost use mathlib.Core.List.{_++_, _∷_, []};
 ghost use Prim.Native.Nat.{_+_, _*_, _≤_, _<_};
 ghost use lib.ListN.{length, drop};
 ghost use Rattle.lexer.specs.Outcome.{lexOutcome};
-ghost use Rattle.listing.specs.Lines.{decimal, field, lastTwo, tokenLine, restLine, refusedLine, twoAt, fourAt, recordLine, recordLines, recordBytes, outputBytes, linesOf, listing, Fit, Room, Puts};
+ghost use Rattle.listing.specs.Lines.{decimal, field, lastTwo, tokenLine, restLine, refusedLine, recordLine, recordLines, recordBytes, outputBytes, linesOf, listing, Fit, Room, Puts};
 use lexer::LexAnswer;
 
 // The bytes of the 6,000 records that are lent to `list`, and of the output, which no listing passes.
@@ -100,31 +100,14 @@ fn put_refused(out: &mut [u8], at: usize, number: usize, place: usize) -> usize
     put_last_two(out, next, number, place)
 }
 
-// The number of two bytes at a place, high byte first.
-fn two(bytes: &[u8], at: usize) -> usize
-    requires { ⌜ at + 2 ≤ length (now bytes) ⌝ }
-    ensures { λ r. ⌜ (r ≡ twoAt (now (bytes .entry)) at) × (r < 65536) ⌝ }
-{
-    (bytes[at] as usize) * 256 + (bytes[at + 1] as usize)
-}
-
-fn four(bytes: &[u8], at: usize) -> usize
-    requires { ⌜ at + 4 ≤ length (now bytes) ⌝ }
-    ensures { λ r. ⌜ r ≡ fourAt (now (bytes .entry)) at ⌝ }
-{
-    two(bytes, at) * 65536 + two(bytes, at + 2)
-}
-
 // The line of record number `k`.
 fn put_record(out: &mut [u8], at: usize, records: &[u8], k: usize) -> usize
     requires { ⌜ 10 * k + 10 ≤ length (now records) ⌝ }
     requires { ⌜ Room at (recordLine (now records) k) (now out) ⌝ }
     ensures { λ r. ⌜ Puts (now (out .entry)) at (recordLine (now (records .entry)) k) r (now (out .exit)) ⌝ }
 {
-    let tag = two(records, 10 * k);
-    let place = four(records, 10 * k + 2);
-    let len = four(records, 10 * k + 6);
-    put_token(out, at, k, tag, place, len)
+    let r = printer::tokens::read_record(records, k);
+    put_token(out, at, k, r.tag as usize, r.place, r.len)
 }
 
 // The lines of the first `n` records, from the start of `out`.

@@ -13,12 +13,11 @@ use Rattle.automaton.specs.Rule.{Rule}
 use Rattle.book.specs.declared.refusal.Refusal.{Refusal}
 use Rattle.book.specs.declared.BookAnswer.{BookAnswer}
 use Rattle.book.specs.declared.BookAnswer.the-variants as book
-use Rattle.book.specs.Reading.{Reading, accepted, refused, readBook, answer}
 use Rattle.book.specs.State.{Loaded}
 use Rattle.lexer.specs.Lexer.{Token, join}
 use Rattle.lexer.specs.Outcome.{maxText, recordCount}
 use Rattle.lexer.specs.Answers.{Holds, Held}
-use Rattle.lexer.proofs.Outcomes.{loaded-rules}
+use Rattle.lexer.proofs.Outcomes.{loaded-rules, loaded-refused}
 use Rattle.printer.specs.declared.PrintAnswer.{PrintAnswer}
 use Rattle.printer.specs.declared.PrintAnswer.the-variants as print
 use Rattle.printer.specs.declared.lists.Measured.the-variants as measure
@@ -135,18 +134,6 @@ module _ {bytes hs ss es : List ℕ} {b : BookAnswer} {n : ℕ} (l : Loaded byte
   answered-book records pool out exit r h = let k = loaded-rules l a in rw (k .1 .0) (h (k .0) (k .1 .1))
 
 module _ {bytes hs ss es : List ℕ} {b : BookAnswer} {f : Refusal} (l : Loaded bytes b hs ss es) (a : b ≡ book.Refused f) where
-  pub loaded-refused : readBook bytes ≡ refused (f .number) (f .place)
-  loaded-refused = go (readBook bytes) refl
-    where
-      go : (o : Reading) → readBook bytes ≡ o → readBook bytes ≡ refused (f .number) (f .place)
-      go (accepted rules) e =
-          let q : book.Refused f ≡ book.Accepted (length rules) = sym a ∙ l .answered ∙ ap answer e in
-          let z : _≡_ {A = ℕ} 0 1 = cc in absurd (omega arith)
-      go (refused number place) e =
-          let q : book.Refused f ≡ book.Refused (record { number = number; place = place }) = sym a ∙ l .answered ∙ ap answer e in
-          let y : f ≡ record { number = number; place = place } = cc in
-          rw y e
-
   pub answered-refused : (records pool out : List ℕ) → Answered (printOutcome bytes records pool out) (print.Refused f) out
   unfolding printOutcome
-  answered-refused records pool out = rw loaded-refused (record { answer = refl; out = refl })
+  answered-refused records pool out = rw (loaded-refused l a) (record { answer = refl; out = refl })

@@ -12,10 +12,10 @@ use Rattle.automaton.specs.Rule.{Rule}
 use Rattle.book.specs.declared.refusal.Refusal.{Refusal}
 use Rattle.book.specs.declared.BookAnswer.{BookAnswer}
 use Rattle.book.specs.declared.BookAnswer.the-variants as book
-use Rattle.book.specs.Reading.{Reading, accepted, refused, readBook, answer}
 use Rattle.book.specs.State.{Loaded}
 use Rattle.lexer.specs.Answers.{Holds}
 use Rattle.lexer.specs.Outcome.{maxText}
+use Rattle.lexer.proofs.Outcomes.{loaded-rules, loaded-refused}
 use Rattle.printer.specs.declared.PrintAnswer.{PrintAnswer}
 use Rattle.printer.specs.declared.PrintAnswer.the-variants as print
 use Rattle.printer.specs.declared.tokens.TokenRecord.{TokenRecord}
@@ -84,37 +84,13 @@ module _ (rules : List Rule) (sep : TokenRecord) (mode : ℕ) (records pool : Li
 -- ---- by a book
 
 module _ {bytes hs ss es : List ℕ} {b : BookAnswer} {n : ℕ} (l : Loaded bytes b hs ss es) (a : b ≡ book.Accepted n) where
-  -- the rules of an accepted book are in the tables
-  loaded-rules : (rules : List Rule) × ((readBook bytes ≡ accepted rules) × Holds hs ss es n rules)
-  loaded-rules = go (readBook bytes) refl
-    where
-      go : (o : Reading) → readBook bytes ≡ o → (rules : List Rule) × ((readBook bytes ≡ accepted rules) × Holds hs ss es n rules)
-      go (accepted rules) e =
-          let q : book.Accepted n ≡ book.Accepted (length rules) = sym a ∙ l .answered ∙ ap answer e in
-          (rules, (e, record { tables = l .tables rules e; count = cc }))
-      go (refused number place) e =
-          let q : book.Accepted n ≡ book.Refused (record { number = number; place = place }) = sym a ∙ l .answered ∙ ap answer e in
-          let z : _≡_ {A = ℕ} 0 1 = cc in absurd (omega arith)
-
   pub answered-book : (sep : TokenRecord) (mode : ℕ) (records pool out exit : List ℕ) (r : PrintAnswer)
       → ((rules : List Rule) → Holds hs ss es n rules → Answered (separatedRules rules sep mode records pool out) r exit)
       → Answered (separatedOutcome bytes sep mode records pool out) r exit
   unfolding separatedOutcome
-  answered-book sep mode records pool out exit r h = rw (loaded-rules .1 .0) (h (loaded-rules .0) (loaded-rules .1 .1))
+  answered-book sep mode records pool out exit r h = let k = loaded-rules l a in rw (k .1 .0) (h (k .0) (k .1 .1))
 
 module _ {bytes hs ss es : List ℕ} {b : BookAnswer} {f : Refusal} (l : Loaded bytes b hs ss es) (a : b ≡ book.Refused f) where
-  loaded-refused : readBook bytes ≡ refused (f .number) (f .place)
-  loaded-refused = go (readBook bytes) refl
-    where
-      go : (o : Reading) → readBook bytes ≡ o → readBook bytes ≡ refused (f .number) (f .place)
-      go (accepted rules) e =
-          let q : book.Refused f ≡ book.Accepted (length rules) = sym a ∙ l .answered ∙ ap answer e in
-          let z : _≡_ {A = ℕ} 0 1 = cc in absurd (omega arith)
-      go (refused number place) e =
-          let q : book.Refused f ≡ book.Refused (record { number = number; place = place }) = sym a ∙ l .answered ∙ ap answer e in
-          let y : f ≡ record { number = number; place = place } = cc in
-          rw y e
-
   pub answered-refused : (sep : TokenRecord) (mode : ℕ) (records pool out : List ℕ) → Answered (separatedOutcome bytes sep mode records pool out) (print.Refused f) out
   unfolding separatedOutcome
-  answered-refused sep mode records pool out = rw loaded-refused (record { answer = refl; out = refl })
+  answered-refused sep mode records pool out = rw (loaded-refused l a) (record { answer = refl; out = refl })
