@@ -1,18 +1,20 @@
 #!/bin/sh
 # Turns each conditional jump of the library round, one at a time, in a copy of build/harness, and runs the copy: it must find
 # a difference, crash or run on past its time. Prints the jumps that went unseen. CASES (default 2000) is the length of a run.
+#
+#   harness/jumps.sh [FUNCTION...]     of these functions, or of all
 set -eu
 cd "$(dirname "$0")/.."
 program=build/harness
 copy=build/harness.turned
 cases=${CASES:-2000}
 
-set -- $(objdump -h "$program" | awk '$2 == ".text" { print $4, $6 }')
-text=$((0x$1))
-offset=$((0x$2))
+[ $# -gt 0 ] || set -- $(nm build/libzagvulem.a | awk '$2 == "t" || $2 == "T" { print $3 }')
+text=$((0x$(objdump -h "$program" | awk '$2 == ".text" { print $4 }')))
+offset=$((0x$(objdump -h "$program" | awk '$2 == ".text" { print $6 }')))
 
 total=0 differ=0 crash=0 slow=0 unseen=0
-for function in $(nm build/libzagvulem.a | awk '$2 == "t" || $2 == "T" { print $3 }'); do
+for function; do
     jumps=$(objdump -d --disassemble="$function" "$program" |
         awk -F '\t' '$2 ~ /^7[0-9a-f] / { sub(":", "", $1); print $1 ":0:" substr($2, 1, 2) }
                      $2 ~ /^0f 8[0-9a-f] / { sub(":", "", $1); print $1 ":1:" substr($2, 4, 2) }' | tr -d ' ')

@@ -320,8 +320,43 @@ fn separated(add: Add) {
         let call = Call::print_separated(&book(shared).bytes(), one, 2, list, pool, out(4));
         add("a shared byte", call);
     }
+    shared_bytes(add);
     let no_separator = book(vec![letter(1, 0, b'a', false)]).bytes();
     add("no separator rule", Call::print_separated(&no_separator, record(1, 0, 1), 1, vec![], pool, out(4)));
     let list = bytes_of(&[record(1, 0, 1), record(2, 2, 1)]);
     add("a separator in the list", Call::print_separated(&bytes, one, 1, list, pool, out(8)));
+}
+
+/// For each byte: both kinds use it, or one kind uses it and the other all the rest.
+fn shared_bytes(add: Add) {
+    let rule = |tag: u16, kind: u8, ranges: &[(u8, u8)]| Rule {
+        tag,
+        kind,
+        start: 0,
+        error: 2,
+        finals: vec![1],
+        moves: ranges.iter().map(|&(low, high)| (0, low, high, 1)).collect(),
+    };
+    for byte in 0..=255u8 {
+        let only = [(byte, byte)];
+        let next = [(byte ^ 1, byte ^ 1)];
+        let mut others: Vec<(u8, u8)> = Vec::new();
+        others.extend((byte > 0).then(|| (0, byte.wrapping_sub(1))));
+        others.extend((byte < 255).then(|| (byte.wrapping_add(1), 255)));
+        let books = [
+            vec![rule(1, 0, &only), rule(3, 0, &next), rule(2, 1, &only)],
+            vec![rule(1, 0, &next), rule(2, 1, &only)],
+            vec![rule(2, 1, &others), rule(1, 0, &only)],
+            vec![rule(1, 0, &others), rule(2, 1, &only)],
+            vec![rule(1, 0, &others[..1]), rule(3, 0, &others[1..]), rule(2, 1, &only)],
+            vec![rule(1, 0, &[(0, 255)]), rule(2, 1, &[(byte, 255)])],
+            vec![rule(1, 0, &[(0, byte)]), rule(2, 1, &only)],
+        ];
+        for rules in books {
+            let token = bytes_of(&[record(1, 0, 1)]);
+            let pool = [byte, byte ^ 1];
+            let call = Call::print_separated(&book(rules).bytes(), record(2, 0, 1), 2, token, &pool, vec![0xEE; 2]);
+            add("used bytes", call);
+        }
+    }
 }
