@@ -19,7 +19,7 @@ CASES ?= 20000
 SEED ?= 1
 
 WARNINGS = -std=c99 -Wall -Wextra -Werror -pedantic
-RATTLE = crates.txt $(wildcard crates/*/src/*.rt crates/*/specs/*.antt crates/*/proofs/*.antt crates/*/proofs/*/*.antt crates/*/proofs/*/*/*.antt)
+RATTLE = crates.txt $(shell find crates -name '*.rt' -o -name '*.antt')
 PROGRAMS = build/player $(if $(wildcard crates/cutlist/src/main.rt),build/cutlist)
 
 all: build/libzagvulem.a $(PROGRAMS)

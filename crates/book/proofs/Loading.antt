@@ -1,31 +1,31 @@
 -- The loop of `load`: the rest of the book decides as the whole does. Assumes nothing.
 use mathlib.Core.Path.{_≡_, refl, sym, _∙_, ap, subst}
-use mathlib.Core.Bool.{Bool, true, false}
-use mathlib.Core.List.{List, [], _∷_}
+use mathlib.Core.List.{List, []}
 use Prim.Native.Nat.{ℕ, zero, suc, _+_, _*_, _<_, _≤_}
 use native.Mathlib.Omega.{arith}
-use lib.Dec.{ltb}
 use lib.ListN.{length}
 use borrow.Author.Tests.{lt-ltb, le-ltb}
-use Rattle.automaton.specs.Choice.{if}
 use Rattle.automaton.specs.Rule.{Rule, overlaps}
 use Rattle.automaton.specs.Tables.{Tables}
-use Rattle.book.specs.declared.cursor.Command.{Command}
-use Rattle.book.specs.declared.cursor.Cursor.{Cursor}
-use Rattle.book.specs.declared.cursor.Decoded.{Decoded}
-use Rattle.book.specs.declared.cursor.Decoded.the-variants as decoded
-use Rattle.book.specs.declared.refusal.Refusal.{Refusal}
-use Rattle.book.specs.declared.reading.Book.{Book}
-use Rattle.book.specs.declared.reading.Progress.{Progress}
-use Rattle.book.specs.declared.reading.Progress.the-variants.{On, Done, Refused}
+use Rattle.command.specs.declared.Command.{Command}
+use Rattle.command.specs.declared.Cursor.{Cursor}
+use Rattle.command.specs.declared.Decoded.{Decoded}
+use Rattle.command.specs.declared.Decoded.the-variants as decoded
+use Rattle.refusal.specs.declared.Refusal.{Refusal}
+use Rattle.reading.specs.declared.Book.{Book}
+use Rattle.reading.specs.declared.Progress.{Progress}
+use Rattle.reading.specs.declared.Progress.the-variants.{On, Done, Refused}
 use Rattle.book.specs.declared.BookAnswer.{BookAnswer}
 use Rattle.book.specs.declared.BookAnswer.the-variants as answers
-use Rattle.book.specs.Commands.{byteAt, commandAt}
-use Rattle.book.specs.Limits.{maxBytes}
-use Rattle.book.specs.Reading.{Draft, between, Verdict, goes, accepts, refuses, apply, Reading, accepted, refused, proceed, take, readFrom, readBook, answer}
-use Rattle.book.specs.State.{idle, edgeCount, Stored, Holds, Held, Follows, Takes, standsInside, adds, Fresh, Loaded}
-use Rattle.book.proofs.Accepted.{Commanded, Found, command-found, fine-start}
-use Rattle.book.proofs.Filling.{stored-fresh}
+use Rattle.command.specs.Commands.{byteAt, commandAt}
+use Rattle.reading.specs.Limits.{maxBytes}
+use Rattle.reading.specs.Draft.{Draft, between, Verdict, goes, accepts, refuses, apply}
+use Rattle.book.specs.Reading.{accepted, refused, proceed, take, readFrom, readBook, answer}
+use Rattle.reading.specs.State.{idle, edgeCount, Holds, Follows, Takes, standsInside, adds, Fresh}
+use Rattle.book.specs.Loading.{Loaded}
+use Rattle.book.proofs.Accepted.{Commanded, Found, command-found}
+use Rattle.reading.proofs.Fine.{fine-start}
+use Rattle.reading.proofs.Filling.{stored-fresh}
 
 -- ---- answers
 

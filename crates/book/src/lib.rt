@@ -1,16 +1,15 @@
-// The rule book: its commands, its limits, and the reader that checks a book and fills the tables of its rules.
-pub mod cursor;
-pub mod reading;
-pub mod refusal;
-
-use cursor::Cursor;
-use cursor::Decoded;
+// The rule book: the reader that checks it and fills the tables of its rules.
+use command::Command;
+use command::Cursor;
+use command::Decoded;
 use reading::Book;
 use reading::Progress;
 use refusal::Refusal;
 ghost use mathlib.Core.Path.{_≡_};
+ghost use Prim.Native.Nat.{_<_};
+ghost use Rattle.reading.specs.State.{Fresh, Held, Takes, standsInside, edgeCount};
 ghost use Rattle.book.specs.Reading.{readBook, answer};
-ghost use Rattle.book.specs.State.{Fresh, Loaded};
+ghost use Rattle.book.specs.Loading.{Loaded};
 
 // What reading a book answers: the number of its rules, or a refusal.
 pub enum BookAnswer {
@@ -35,7 +34,8 @@ pub fn load(book: &[u8], headers: &mut [u64], states: &mut [u16], edges: &mut [u
         match cursor.command(book, state.inside) {
             Decoded::Misplaced => return refused(Refusal::MISPLACED, at),
             Decoded::CutOff => return refused(Refusal::CUT_OFF, at),
-            Decoded::Command(command, next) => match state.apply(
+            Decoded::Command(command, next) => match apply(
+                state,
                 command,
                 at,
                 len,
@@ -53,6 +53,45 @@ pub fn load(book: &[u8], headers: &mut [u64], states: &mut [u16], edges: &mut [u
         }
     }
     refused(Refusal::CUT_OFF, len)
+}
+
+// What a command, which stands at `at` of a book of `len` bytes, makes of the book and the tables.
+fn apply(
+    state: Book,
+    command: Command,
+    at: usize,
+    len: usize,
+    headers: &mut [u64],
+    states: &mut [u16],
+    edges: &mut [u64],
+) -> Progress
+    requires { ⌜ Held state (now headers) (now states) (now edges) ⌝ }
+    requires { ⌜ (state .inside ≡ standsInside command) × (state .edges < edgeCount) × (at < len) ⌝ }
+    ensures { λ r. ⌜ Takes state command at len r (now (headers .entry)) (now (states .entry)) (now (edges .entry)) (now (headers .exit)) (now (states .exit)) (now (edges .exit)) ⌝ }
+{
+    match command {
+        Command::Rule { tag, kind } => state.open_rule(headers, tag, kind, at),
+        Command::Start(s) => state.set_start(s, at),
+        Command::Error(s) => state.set_error(s, at),
+        Command::Final(s) => state.add_final(states, s),
+        Command::Step { from, byte, to } => state.add_transition(
+            states,
+            edges,
+            from,
+            byte,
+            byte,
+            to,
+            at,
+        ),
+        Command::Span {
+            from,
+            low,
+            high,
+            to,
+        } => state.add_transition(states, edges, from, low, high, to, at),
+        Command::Close => state.close(headers, states, at),
+        Command::End => state.end(at, len),
+    }
 }
 
 fn refused(number: u8, place: usize) -> BookAnswer

@@ -1,8 +1,3 @@
--- What the proofs of this crate share, and the laws of the built-in book.
-pub mod Tests
+-- What the proofs of this crate share.
 pub mod Accepted
-pub mod Classes
-pub mod Product
-pub mod Joined
-pub mod Scanned
 pub mod Outcome

@@ -5,8 +5,10 @@ use mathlib.Core.List.{List}
 use lib.ListN.{length}
 use borrow.Author.Tests.{lt-ltb, le-ltb}
 use Rattle.automaton.specs.Rule.{Rule}
-use Rattle.lexer.specs.Lexer.{lex}
-use Rattle.lexer.specs.Outcome.{maxText, recordCount, lexRefused, lexAccepted, lexRules}
+use Rattle.cutting.specs.Lexer.{lex}
+use Rattle.reading.specs.Limits.{maxText}
+use Rattle.records.specs.Records.{recordCount}
+use Rattle.lexer.specs.Outcome.{lexRefused, lexAccepted, lexRules}
 
 module _ (rules : List Rule) (text records : List ℕ) where
   pub too-long : maxText < length text → lexRules rules text records ≡ lexRefused 14 0 records

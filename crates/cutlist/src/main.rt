@@ -4,10 +4,10 @@ ghost use mathlib.Core.Path.{_≡_};
 ghost use lib.ListN.{length};
 ghost use Rattle.io.specs.Counts.{Counts};
 ghost use Rattle.listing.specs.Lines.{recordBytes, outputBytes};
-use book::reading::Book;
 use libc::STDOUT_FILENO;
 use listing::OUTPUT_BYTES;
 use listing::RECORD_BYTES;
+use reading::Book;
 
 // The files are read one byte past their limits, so that a longer one is still refused.
 const BOOK_BYTES: usize = Book::BYTES + 1;

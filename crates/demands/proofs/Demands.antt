@@ -9,24 +9,23 @@ use lib.Seq.{take-append-seam}
 use Rattle.automaton.specs.Rule.{Rule}
 use Rattle.automaton.proofs.Tests.{clash}
 use Rattle.book.specs.Reading.{accepted, readBook}
-use Rattle.book.specs.Valid.{Valid}
+use Rattle.reading.specs.Valid.{Valid}
 use Rattle.book.proofs.Accepted.{accepted-valid}
-use Rattle.lexer.specs.Lexer.{Token, Lexed, lex}
-use Rattle.lexer.proofs.Lexing.{joins, rest-drop}
-use Rattle.lexer.proofs.Turns.{lex-nil}
-use Rattle.printer.specs.Tokens.{tokensOf}
-use Rattle.printer.specs.Checks.{aloneIn}
+use Rattle.cutting.specs.Lexer.{Token, Lexed, lex}
+use Rattle.cutting.proofs.Lexing.{joins, rest-drop}
+use Rattle.cutting.proofs.Turns.{lex-nil}
+use Rattle.pooled.specs.Tokens.{tokensOf}
+use Rattle.pooled.specs.Faults.{aloneIn}
 use Rattle.printer.proofs.Accepting.{written-joins, alone-tagged}
 use Rattle.printer.proofs.RoundTrip.{byte-below, same-rules, Cut, lexed-cut, cut-accepts, stored-say, equal-lists, accepts-printable, output-cut, cut-printed}
-use Rattle.lexer.specs.Outcome.{LexOutcome, maxText}
-use Rattle.printer.specs.declared.tokens.TokenRecord.{TokenRecord}
+use Rattle.reading.specs.Limits.{maxText}
 use Rattle.printer.specs.declared.PrintAnswer.the-variants as print
 use Rattle.printer.specs.Outcome.{PrintOutcome}
-use Rattle.separated.specs.Separators.{dropSeparators}
-use Rattle.separated.specs.Outcome.{spelled, separatedOutcome}
-use Rattle.separated.specs.Claims.{Accepts, Writes, Unrefused}
+use Rattle.spacing.specs.Separators.{spelled}
+use Rattle.separated.specs.Outcome.{separatedOutcome}
+use Rattle.separated.specs.Claims.{Accepts, Writes}
 use Rattle.separated.proofs.Claims.{accepts-unrefused, accepts-no-other, cuts-back, writes-apart}
-use Rattle.demands.specs.Words.{Book, Lexes, stored, Spaces, spaced, LongestMatch}
+use Rattle.demands.specs.Words.{Book, Lexes, stored, LongestMatch}
 use Rattle.demands.specs.Demands.{CutIsLongestMatch, StoredIsLongestMatch, TokensAndRestJoined, WritingJoins, EqualLists, AcceptedExactly, UnknownNotAlone, OutputsAreCut, CutsArePrinted, EmptyTextIsCut, SpacingAccepts, SpacingAcceptsNoOther, SpacingEqualLists, SpacingCutsBack}
 use Rattle.demands.proofs.LongestMatch.{lex-longest, longest-lex}
 use Rattle.demands.proofs.Separable.{separable-printable, printable-separable}

@@ -6,13 +6,13 @@ use mathlib.Core.List.{List, [], _∷_}
 use native.Mathlib.Omega.{arith}
 use lib.ListN.{length, take, drop, length-take}
 use Rattle.automaton.specs.Rule.{Rule}
-use Rattle.book.specs.Valid.{Distinct}
-use Rattle.lexer.specs.Lexer.{Token, Found, Lexed, firstMatch, choose, proceed, lex}
-use Rattle.lexer.proofs.Choosing.{chosen-shorter, chosen-take, chosen-drop, choose-some, choose-none}
-use Rattle.lexer.proofs.Lexing.{lex-unfolds}
-use Rattle.lexer.proofs.Picking.{within-none, within-at}
-use Rattle.lexer.proofs.Turns.{lex-stop}
-use Rattle.printer.proofs.Alone.{alone-first, first-alone}
+use Rattle.reading.specs.Valid.{Distinct}
+use Rattle.cutting.specs.Lexer.{Token, Found, Lexed, firstMatch, choose, proceed, lex}
+use Rattle.cutting.proofs.Choosing.{chosen-shorter, chosen-take, chosen-drop, choose-some, choose-none}
+use Rattle.cutting.proofs.Lexing.{lex-unfolds}
+use Rattle.cutting.proofs.Picking.{within-none, within-at}
+use Rattle.cutting.proofs.Turns.{lex-stop}
+use Rattle.pooled.proofs.Alone.{alone-first, first-alone}
 use Rattle.demands.specs.Words.{Unmatched, Longest, LongestMatch}
 
 pub unmatched-none : (rules : List Rule) (w : List ℕ) → Unmatched rules w → firstMatch rules w ≡ none

@@ -8,12 +8,12 @@ use native.Mathlib.Omega.{arith}
 use lib.ListN.{length, take, length-append}
 use lib.Seq.{take-append-seam}
 use Rattle.automaton.specs.Rule.{Rule}
-use Rattle.book.specs.Valid.{Distinct}
-use Rattle.lexer.specs.Lexer.{Token, firstMatch, extends, join, Printable}
+use Rattle.reading.specs.Valid.{Distinct}
+use Rattle.cutting.specs.Lexer.{Token, firstMatch, extends, join, Printable}
 use Rattle.automaton.proofs.Tests.{clash}
-use Rattle.lexer.proofs.First.{unmatched}
-use Rattle.lexer.proofs.Choosing.{Longer, extends-false, extends-true}
-use Rattle.printer.proofs.Alone.{alone-first, first-alone}
+use Rattle.cutting.proofs.First.{unmatched}
+use Rattle.cutting.proofs.Choosing.{Longer, extends-false, extends-true}
+use Rattle.pooled.proofs.Alone.{alone-first, first-alone}
 use Rattle.demands.specs.Words.{Unmatched, Separable}
 use Rattle.demands.proofs.LongestMatch.{unmatched-none}
 

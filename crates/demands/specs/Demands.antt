@@ -1,4 +1,4 @@
--- The customer's sentences, each with what it says of the outcomes. The contracts of `lexer::operation::lex`, `printer::print` and
+-- The customer's sentences, each with what it says of the outcomes. The contracts of `lexer::lex`, `printer::print` and
 -- `separated::print_separated` equate their answers and every byte lent to them with `lexOutcome`, `printOutcome` and `separatedOutcome`.
 use mathlib.Core.Path.{_≡_}
 use mathlib.Core.Logic.{_↔_}
@@ -7,15 +7,13 @@ use mathlib.Core.Bool.{false}
 use mathlib.Core.List.{List, [], _++_}
 use lib.ListN.{length, drop}
 use Rattle.automaton.specs.Rule.{Rule}
-use Rattle.book.specs.Reading.{tagged}
-use Rattle.lexer.specs.Lexer.{Token, lex, join}
-use Rattle.lexer.specs.Outcome.{recordCount}
-use Rattle.printer.specs.Tokens.{tokensOf}
-use Rattle.printer.specs.Checks.{aloneIn}
-use Rattle.printer.specs.declared.tokens.TokenRecord.{TokenRecord}
-use Rattle.printer.specs.Tokens.{tokenIn}
-use Rattle.separated.specs.Separators.{dropSeparators}
-use Rattle.separated.specs.Outcome.{spelled}
+use Rattle.reading.specs.Draft.{tagged}
+use Rattle.cutting.specs.Lexer.{Token, lex, join}
+use Rattle.records.specs.Records.{recordCount}
+use Rattle.pooled.specs.Tokens.{tokensOf, tokenIn}
+use Rattle.pooled.specs.Faults.{aloneIn}
+use Rattle.pooled.specs.declared.TokenRecord.{TokenRecord}
+use Rattle.spacing.specs.Separators.{dropSeparators, spelled}
 use Rattle.separated.specs.Claims.{Unrefused}
 use Rattle.demands.specs.Words.{Spaces, spaced, Book, Lexes, stored, Prints, written, Unlimited, LongestMatch, Separable}
 

@@ -8,14 +8,16 @@ use Rattle.automaton.specs.Choice.{All}
 use Rattle.automaton.specs.Rule.{Rule, matches}
 use Rattle.book.specs.Reading.{accepted, readBook}
 use Rattle.lexer.specs.declared.LexAnswer.the-variants as lexed
-use Rattle.lexer.specs.Lexer.{Token, join}
-use Rattle.lexer.specs.Outcome.{maxText, recordCount, lexOutcome}
+use Rattle.cutting.specs.Lexer.{Token, join}
+use Rattle.reading.specs.Limits.{maxText, maxTokens}
+use Rattle.records.specs.Records.{recordCount}
+use Rattle.lexer.specs.Outcome.{lexOutcome}
 use Rattle.printer.specs.declared.PrintAnswer.the-variants as print
-use Rattle.printer.specs.Tokens.{recordsOf, tokensOf}
-use Rattle.printer.specs.Checks.{aloneIn}
-use Rattle.printer.specs.Outcome.{maxTokens, printOutcome}
-use Rattle.printer.specs.Answers.{InPool}
-use Rattle.printer.specs.declared.tokens.TokenRecord.{TokenRecord}
+use Rattle.pooled.specs.Tokens.{recordsOf, tokensOf}
+use Rattle.pooled.specs.Faults.{aloneIn}
+use Rattle.printer.specs.Outcome.{printOutcome}
+use Rattle.pooled.specs.Answers.{InPool}
+use Rattle.pooled.specs.declared.TokenRecord.{TokenRecord}
 use Rattle.separated.specs.Outcome.{separatedOutcome}
 
 -- ---- the operations

@@ -1,19 +1,21 @@
 -- Every example of the table is right, by computation. Assumes nothing.
 use mathlib.Core.Path.{refl}
-use Rattle.automaton.specs.Rule.{target, walk, matches, overlaps}
-use Rattle.book.specs.Commands.{placed, operandsOf, decode, commandAt}
-use Rattle.book.specs.Reading.{check, move, apply, readFrom, readBook}
-use Rattle.lexer.specs.Lexer.{firstMatch, chooseWithin, choose, lexFor, lex}
-use Rattle.lexer.specs.Records.{recordsAt}
+use Rattle.automaton.specs.Rule.{target, walk, matches, overlaps, used}
+use Rattle.command.specs.Commands.{placed, operandsOf, decode, commandAt}
+use Rattle.reading.specs.Draft.{check, move, apply}
+use Rattle.book.specs.Reading.{readFrom, readBook}
+use Rattle.cutting.specs.Lexer.{firstMatch, chooseWithin, choose, lexFor, lex, extends}
+use Rattle.records.specs.Records.{recordsAt}
 use Rattle.lexer.specs.Outcome.{lexRules, lexOutcome}
-use Rattle.lexer.specs.Lexer.{extends}
-use Rattle.printer.specs.Tokens.{recordAt, recordsFrom, recordsOf, tokensIn}
-use Rattle.printer.specs.Checks.{aloneIn, faultOf, refuse, firstFault, firstExtended}
+use Rattle.pooled.specs.Tokens.{recordAt, recordsFrom, recordsOf, tokensIn}
+use Rattle.pooled.specs.Faults.{aloneIn, faultOf}
+use Rattle.lists.specs.Checks.{refuse, firstFault, firstExtended}
 use Rattle.printer.specs.Outcome as print
-use Rattle.automaton.specs.Rule.{used}
-use Rattle.separated.specs.Bytes.{usedByKind, shared, lowestFrom, sharedByte}
-use Rattle.separated.specs.Separators.{separates, meaning, follows, separated}
-use Rattle.separated.specs.Outcome.{orElse, separatorFault, plainFault, sharing, listRefusal, separatedRefusal, writing, separatedRules, separatedOutcome}
+use Rattle.used.specs.Bytes.{usedByKind, shared, lowestFrom, sharedByte}
+use Rattle.used.specs.Kinds.{separates}
+use Rattle.spacing.specs.Separators.{meaning, follows, separated}
+use Rattle.checks.specs.Refusals.{orElse, separatorFault, plainFault, sharing, listRefusal, separatedRefusal}
+use Rattle.separated.specs.Outcome.{writing, separatedRules, separatedOutcome}
 use Rattle.listing.specs.Lines.{decimalFor, decimal, lastTwo, tokenLine, restLine, refusedLine, recordLine, recordLines, listing}
 use Rattle.examples.specs.Table.{table, Examples}
 

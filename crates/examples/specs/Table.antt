@@ -5,8 +5,8 @@ use mathlib.Core.List.{List, [], _∷_, _++_}
 use lib.ListN.{length, take, replicate}
 use Rattle.automaton.specs.Choice.{All}
 use Rattle.book.specs.Reading.{Reading, accepted, refused, readBook}
-use Rattle.lexer.specs.Lexer.{Token, Lexed, lex, join}
-use Rattle.lexer.specs.Records.{recordsAt}
+use Rattle.cutting.specs.Lexer.{Token, Lexed, lex, join}
+use Rattle.records.specs.Records.{recordsAt}
 use Rattle.printer.specs.declared.PrintAnswer.{PrintAnswer}
 use Rattle.printer.specs.declared.PrintAnswer.the-variants as answer
 use Rattle.printer.specs.Outcome.{PrintOutcome, printOutcome}

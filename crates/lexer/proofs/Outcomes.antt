@@ -10,17 +10,20 @@ use lib.Seq.{take-all}
 use borrow.Author.Tests.{lt-ltb, le-ltb}
 use Rattle.automaton.specs.Choice.{if}
 use Rattle.automaton.specs.Rule.{Rule}
-use Rattle.book.specs.declared.refusal.Refusal.{Refusal}
+use Rattle.refusal.specs.declared.Refusal.{Refusal}
 use Rattle.book.specs.declared.BookAnswer.{BookAnswer}
 use Rattle.book.specs.declared.BookAnswer.the-variants as book
 use Rattle.book.specs.Reading.{Reading, accepted, refused, readBook, answer}
-use Rattle.book.specs.State.{Loaded}
+use Rattle.book.specs.Loading.{Loaded}
 use Rattle.lexer.specs.declared.LexAnswer.{LexAnswer}
 use Rattle.lexer.specs.declared.LexAnswer.the-variants as lexed
-use Rattle.lexer.specs.Lexer.{lex}
-use Rattle.lexer.specs.Answers.{Holds, Held, Cuts, Room, Fills}
-use Rattle.lexer.specs.Outcome.{maxText, recordCount, lexRefused, lexAccepted, lexRules, lexReading, lexOutcome, Answered, restRules, restReading, restOf, RestAt}
-use Rattle.lexer.proofs.Lexing.{lex-few, lex-lengths, rest-drop}
+use Rattle.cutting.specs.Lexer.{lex}
+use Rattle.cutting.specs.Answers.{Holds, Held, Cuts}
+use Rattle.records.specs.Filling.{Room, Fills}
+use Rattle.reading.specs.Limits.{maxText}
+use Rattle.records.specs.Records.{recordCount}
+use Rattle.lexer.specs.Outcome.{lexRefused, lexAccepted, lexRules, lexReading, lexOutcome, Answered, restRules, restReading, restOf, RestAt}
+use Rattle.cutting.proofs.Lexing.{lex-few, lex-lengths, rest-drop}
 
 -- ---- by rules
 

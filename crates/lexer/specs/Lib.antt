@@ -1,5 +1,2 @@
--- What lexing a text by a list of rules gives, its records, and what the code answers.
-pub mod Lexer
-pub mod Records
-pub mod Answers
+-- What lexing a text by a book's bytes answers and leaves.
 pub mod Outcome

@@ -1,6 +1,6 @@
 -- The paper's cutting, as a whole: from the book's bytes, the text and the lent records to the answer and what the records hold afterwards.
 use mathlib.Core.Path.{_≡_}
-use Prim.Native.Nat.{ℕ, _-_, _*_, _/_, _≤_}
+use Prim.Native.Nat.{ℕ, _-_, _*_, _≤_}
 use mathlib.Core.List.{List, _++_}
 use lib.Dec.{ltb}
 use lib.ListN.{length, drop}
@@ -9,16 +9,9 @@ use Rattle.automaton.specs.Rule.{Rule}
 use Rattle.book.specs.Reading.{Reading, accepted, refused, readBook}
 use Rattle.lexer.specs.declared.LexAnswer.{LexAnswer}
 use Rattle.lexer.specs.declared.LexAnswer.the-variants as answer
-use Rattle.lexer.specs.Lexer.{Lexed, lex}
-use Rattle.lexer.specs.Records.{recordsAt}
-
--- "A text has at most 65,536 bytes"
-abbrev pub maxText : ℕ
-maxText = 65536
-
--- a byte buffer counts as so many records; leftover bytes play no part
-abbrev pub recordCount : List ℕ → ℕ
-recordCount records = length records / 10
+use Rattle.cutting.specs.Lexer.{Lexed, lex}
+use Rattle.records.specs.Records.{recordsAt, recordCount}
+use Rattle.reading.specs.Limits.{maxText}
 
 pub record LexOutcome : Type 0 where
   pub answer : LexAnswer

@@ -1,15 +1,14 @@
-// Lexing a text by the rules that the tables hold: at each place the longest match, by the earliest rule.
-// A token costs one walk for each rule.
-pub mod operation;
-
+// Lexing by a book's bytes, open to every caller: it asks nothing and refuses what is unfit.
+// The tables are locals of the call, lent as arrays to a function that passes them on as slices.
+use book::BookAnswer;
+use reading::Book;
+use refusal::Refusal;
 ghost use mathlib.Core.Path.{_≡_};
-ghost use mathlib.Core.List.{List, _++_};
-ghost use Prim.Native.Nat.{_+_, _≤_};
-ghost use lib.ListN.{length, take, drop};
+ghost use mathlib.Core.List.{List};
 ghost use Rattle.automaton.specs.Rule.{Rule};
-ghost use Rattle.lexer.specs.Records.{recordOf};
-ghost use Rattle.lexer.specs.Answers.{Holds, Held, Chooses, Cuts, Room, Fills};
-use book::refusal::Refusal;
+ghost use Rattle.reading.specs.State.{Fresh};
+ghost use Rattle.cutting.specs.Answers.{Holds, Held};
+ghost use Rattle.lexer.specs.Outcome.{lexRules, lexOutcome, Answered, restRules, restOf, RestAt};
 
 // What lexing a text by a book answers: the number of tokens and the place of the rest, or a refusal.
 pub enum LexAnswer {
@@ -17,121 +16,143 @@ pub enum LexAnswer {
     Refused(Refusal),
 }
 
-// What is chosen at the start of a text: the number of the rule and how many bytes it takes; both 0 for no rule.
-pub struct Choice {
-    pub rule: usize,
-    pub len: usize,
-}
-
-// The rule that matches the longest prefix of `text`, the earliest of them on a tie.
-pub fn choose(headers: &[u64], states: &[u16], edges: &[u64], rules: usize, text: &[u8]) -> Choice
-    requires { ⌜ Held (now headers) (now states) (now edges) rules ⌝ }
-    ensures { λ r. ⌜ ((rs : List Rule) → Holds (now (headers .entry)) (now (states .entry)) (now (edges .entry)) rules rs → Chooses rs (now (text .entry)) (r .rule) (r .len)) ⌝ }
+// Cuts `text` by the rules of a book: the number of tokens and the place of the rest, or the refusal of document 01.
+// A record of each token stands from the start of `records`; every other byte stays as it was.
+pub fn lex(book: &[u8], text: &[u8], records: &mut [u8]) -> LexAnswer
+    ensures { λ r. ⌜ r ≡ (lexOutcome (now (book .entry)) (now (text .entry)) (now (records .entry))) .answer ⌝ }
+    ensures { λ r. ⌜ now (records .exit) ≡ (lexOutcome (now (book .entry)) (now (text .entry)) (now (records .entry))) .records ⌝ }
 {
-    let mut rule = 0;
-    let mut len = 0;
-    let mut next = 0;
-    while next < rules {
-        let k = next;
-        next += 1;
-        let n = automaton::longest_prefix(headers, states, edges, k, text);
-        if len < n {
-            rule = k;
-            len = n;
-        }
-    }
-    Choice { rule, len }
+    let mut headers = [0u64; Book::RULES];
+    let mut states = [0u16; Book::CELLS];
+    let mut edges = [0u64; Book::EDGES];
+    lex_arrays(book, &mut headers, &mut states, &mut edges, text, records)
 }
 
-// The same from a place of a text.
-pub fn choose_at(
-    headers: &[u64],
-    states: &[u16],
-    edges: &[u64],
-    rules: usize,
+fn lex_arrays(
+    book: &[u8],
+    headers: &mut [u64; Book::RULES],
+    states: &mut [u16; Book::CELLS],
+    edges: &mut [u64; Book::EDGES],
     text: &[u8],
-    at: usize,
-) -> Choice
-    requires { ⌜ Held (now headers) (now states) (now edges) rules ⌝ }
-    requires { ⌜ at ≤ length (now text) ⌝ }
-    ensures { λ r. ⌜ ((rs : List Rule) → Holds (now (headers .entry)) (now (states .entry)) (now (edges .entry)) rules rs → Chooses rs (drop at (now (text .entry))) (r .rule) (r .len)) ⌝ }
+    records: &mut [u8],
+) -> LexAnswer
+    requires { ⌜ Fresh (now headers) (now states) (now edges) ⌝ }
+    ensures { λ r. ⌜ Answered (lexOutcome (now (book .entry)) (now (text .entry)) (now (records .entry))) r (now (records .exit)) ⌝ }
 {
-    choose(headers, states, edges, rules, &text[at..])
+    lex_book(book, headers, states, edges, text, records)
 }
 
-// A cut of a text: how many tokens it has, and the place of the rest.
-pub struct Cut {
-    pub tokens: usize,
-    pub rest: usize,
-}
-
-// How `text` is cut, with nothing written.
-pub fn count(headers: &[u64], states: &[u16], edges: &[u64], rules: usize, text: &[u8]) -> Cut
-    requires { ⌜ Held (now headers) (now states) (now edges) rules ⌝ }
-    ensures { λ r. ⌜ ((rs : List Rule) → Holds (now (headers .entry)) (now (states .entry)) (now (edges .entry)) rules rs → Cuts rs (now (text .entry)) (r .tokens) (r .rest)) ⌝ }
+fn lex_book(
+    book: &[u8],
+    headers: &mut [u64],
+    states: &mut [u16],
+    edges: &mut [u64],
+    text: &[u8],
+    records: &mut [u8],
+) -> LexAnswer
+    requires { ⌜ Fresh (now headers) (now states) (now edges) ⌝ }
+    ensures { λ r. ⌜ Answered (lexOutcome (now (book .entry)) (now (text .entry)) (now (records .entry))) r (now (records .exit)) ⌝ }
 {
-    let mut tokens = 0;
-    let mut at = 0;
-    while at < text.len() {
-        let c = choose_at(headers, states, edges, rules, text, at);
-        if c.len == 0 {
-            return Cut { tokens, rest: at };
-        }
-        tokens += 1;
-        at += c.len;
+    match book::load(book, headers, states, edges) {
+        BookAnswer::Accepted(rules) => lex_rules(headers, states, edges, rules, text, records),
+        BookAnswer::Refused(refusal) => LexAnswer::Refused(refusal),
     }
-    Cut { tokens, rest: at }
 }
 
-// Stores a record's ten bytes from `offset` on.
-pub fn put_record(records: &mut [u8], offset: usize, tag: u64, place: usize, len: usize)
-    requires { ⌜ offset + 10 ≤ length (now records) ⌝ }
-    ensures { λ r. ⌜ now (records .exit) ≡ take offset (now (records .entry)) ++ recordOf tag place len ++ drop (offset + 10) (now (records .entry)) ⌝ }
-{
-    records[offset] = (tag / 256 % 256) as u8;
-    records[offset + 1] = (tag % 256) as u8;
-    records[offset + 2] = (place / 16777216 % 256) as u8;
-    records[offset + 3] = (place / 65536 % 256) as u8;
-    records[offset + 4] = (place / 256 % 256) as u8;
-    records[offset + 5] = (place % 256) as u8;
-    records[offset + 6] = (len / 16777216 % 256) as u8;
-    records[offset + 7] = (len / 65536 % 256) as u8;
-    records[offset + 8] = (len / 256 % 256) as u8;
-    records[offset + 9] = (len % 256) as u8;
-}
-
-// How `text` is cut, with a record of each token stored from the start of `records`.
-pub fn fill(
+// Lexing by the rules that the tables hold. Every token has a byte, so that as many records as the text has bytes are surely
+// enough, and the text is walked once; else the tokens are counted before the first record is written.
+pub fn lex_rules(
     headers: &[u64],
     states: &[u16],
     edges: &[u64],
     rules: usize,
     text: &[u8],
     records: &mut [u8],
-) -> Cut
-    requires { ⌜ Room (now headers) (now states) (now edges) rules (now text) (now records) ⌝ }
-    ensures { λ r. ⌜ ((rs : List Rule) → Holds (now (headers .entry)) (now (states .entry)) (now (edges .entry)) rules rs → Cuts rs (now (text .entry)) (r .tokens) (r .rest)) ⌝ }
-    ensures { λ r. ⌜ ((rs : List Rule) → Holds (now (headers .entry)) (now (states .entry)) (now (edges .entry)) rules rs → Fills rs (now (text .entry)) (now (records .entry)) (now (records .exit))) ⌝ }
+) -> LexAnswer
+    requires { ⌜ Held (now headers) (now states) (now edges) rules ⌝ }
+    ensures { λ r. ⌜ ((rs : List Rule) → Holds (now (headers .entry)) (now (states .entry)) (now (edges .entry)) rules rs
+        → Answered (lexRules rs (now (text .entry)) (now (records .entry))) r (now (records .exit))) ⌝ }
 {
-    let mut tokens = 0;
-    let mut place = 0;
-    while place < text.len() {
-        let c = choose_at(headers, states, edges, rules, text, place);
-        if c.len == 0 {
-            return Cut {
-                tokens,
-                rest: place,
-            };
-        }
-        let rule = c.rule;
-        let len = c.len;
-        let header = headers[rule];
-        put_record(records, 10 * tokens, automaton::tag_of(header), place, len);
-        tokens += 1;
-        place += len;
+    if Book::TEXT < text.len() {
+        return LexAnswer::Refused(Refusal {
+            number: Refusal::TEXT_TOO_LONG,
+            place: 0,
+        });
     }
-    Cut {
-        tokens,
-        rest: place,
+    let room = records.len() / 10;
+    if room < text.len() {
+        let needed = cutting::count(headers, states, edges, rules, text);
+        if room < needed.tokens {
+            return LexAnswer::Refused(Refusal {
+                number: Refusal::TOO_FEW_RECORDS,
+                place: needed.tokens,
+            });
+        }
+    }
+    let cut = records::fill(headers, states, edges, rules, text, records);
+    LexAnswer::Lexed {
+        tokens: cut.tokens,
+        rest: cut.rest,
+    }
+}
+
+// The rest of `text`, as a part of it: its bytes from the first place at which no rule of the book matches. Where `lex`
+// refuses the book or the text, the rest is the whole text.
+pub fn rest<'a>(book: &[u8], text: &'a [u8]) -> &'a [u8]
+    ensures { λ r. ⌜ now r ≡ restOf (now (book .entry)) (now (text .entry)) ⌝ }
+{
+    let at = rest_place(book, text);
+    &text[at..]
+}
+
+// The place of the rest.
+fn rest_place(book: &[u8], text: &[u8]) -> usize
+    ensures { λ r. ⌜ RestAt (now (text .entry)) r (restOf (now (book .entry)) (now (text .entry))) ⌝ }
+{
+    let mut headers = [0u64; Book::RULES];
+    let mut states = [0u16; Book::CELLS];
+    let mut edges = [0u64; Book::EDGES];
+    rest_arrays(book, &mut headers, &mut states, &mut edges, text)
+}
+
+fn rest_arrays(
+    book: &[u8],
+    headers: &mut [u64; Book::RULES],
+    states: &mut [u16; Book::CELLS],
+    edges: &mut [u64; Book::EDGES],
+    text: &[u8],
+) -> usize
+    requires { ⌜ Fresh (now headers) (now states) (now edges) ⌝ }
+    ensures { λ r. ⌜ RestAt (now (text .entry)) r (restOf (now (book .entry)) (now (text .entry))) ⌝ }
+{
+    rest_book(book, headers, states, edges, text)
+}
+
+fn rest_book(
+    book: &[u8],
+    headers: &mut [u64],
+    states: &mut [u16],
+    edges: &mut [u64],
+    text: &[u8],
+) -> usize
+    requires { ⌜ Fresh (now headers) (now states) (now edges) ⌝ }
+    ensures { λ r. ⌜ RestAt (now (text .entry)) r (restOf (now (book .entry)) (now (text .entry))) ⌝ }
+{
+    match book::load(book, headers, states, edges) {
+        BookAnswer::Accepted(rules) => rest_rules(headers, states, edges, rules, text),
+        BookAnswer::Refused(_) => 0,
+    }
+}
+
+fn rest_rules(headers: &[u64], states: &[u16], edges: &[u64], rules: usize, text: &[u8]) -> usize
+    requires { ⌜ Held (now headers) (now states) (now edges) rules ⌝ }
+    ensures { λ r. ⌜ ((rs : List Rule) → Holds (now (headers .entry)) (now (states .entry)) (now (edges .entry)) rules rs
+        → RestAt (now (text .entry)) r (restRules rs (now (text .entry)))) ⌝ }
+{
+    if text.len() <= Book::TEXT {
+        let cut = cutting::count(headers, states, edges, rules, text);
+        cut.rest
+    } else {
+        0
     }
 }

@@ -13,12 +13,13 @@ use Rattle.automaton.specs.Choice.{if}
 use Rattle.automaton.specs.Rule.{Rule}
 use Rattle.book.specs.Reading.{Reading, accepted, refused, readBook}
 use Rattle.lexer.specs.declared.LexAnswer.{LexAnswer}
-use Rattle.lexer.specs.Lexer.{Token, lex}
-use Rattle.lexer.specs.Records.{recordOf, recordsAt}
-use Rattle.lexer.specs.Outcome.{maxText, recordCount, lexRefused, lexAccepted, lexRules, lexReading, lexOutcome}
-use Rattle.lexer.proofs.Lexing.{lex-lengths}
-use Rattle.lexer.proofs.Records.{length-records, tokenAt, placeAt, records-at, laid-within, four-value}
-use Rattle.printer.specs.Tokens.{twoAt, fourAt, recordAt}
+use Rattle.cutting.specs.Lexer.{Token, lex}
+use Rattle.records.specs.Records.{recordOf, recordsAt, recordCount}
+use Rattle.reading.specs.Limits.{maxText}
+use Rattle.lexer.specs.Outcome.{lexRefused, lexAccepted, lexRules, lexReading, lexOutcome}
+use Rattle.cutting.proofs.Lexing.{lex-lengths}
+use Rattle.records.proofs.Records.{length-records, tokenAt, placeAt, records-at, laid-within, four-value}
+use Rattle.pooled.specs.Tokens.{twoAt, fourAt, recordAt}
 use Rattle.listing.specs.Lines.{decimal, field, blank, lineEnd, lastTwo, tokenLine, restWord, restLine, recordLine, recordLines, recordBytes, outputBytes, linesOf, listing, Fit, Puts}
 use Rattle.listing.proofs.Putting.{digits}
 

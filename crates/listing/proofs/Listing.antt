@@ -8,11 +8,11 @@ use lib.Dec.{ltb}
 use borrow.Author.Tests.{ltb-true, ltb-false}
 use native.Mathlib.Numerals.{add-one}
 use lib.ListN.{length, length-append}
-use Rattle.book.specs.declared.refusal.Refusal.{Refusal}
+use Rattle.refusal.specs.declared.Refusal.{Refusal}
 use Rattle.lexer.specs.declared.LexAnswer.{LexAnswer}
 use Rattle.lexer.specs.declared.LexAnswer.the-variants.{Lexed, Refused}
-use Rattle.printer.specs.declared.tokens.TokenRecord.{TokenRecord}
-use Rattle.printer.specs.Tokens.{recordAt}
+use Rattle.pooled.specs.declared.TokenRecord.{TokenRecord}
+use Rattle.pooled.specs.Tokens.{recordAt}
 use Rattle.listing.specs.Lines.{decimal, field, blank, lineEnd, lastTwo, tokenLine, restLine, refusedWord, refusedLine, refusedBytes, recordLine, recordLines, Fit, linesOf, Room, Puts}
 use Rattle.listing.proofs.Putting.{puts-nothing, puts-then, room-second, digits}
 

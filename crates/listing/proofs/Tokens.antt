@@ -10,17 +10,18 @@ use lib.Seq.{take-suc, take-length, length-take-le}
 use borrow.Author.Tests.{le-ltb}
 use Rattle.automaton.specs.Choice.{All}
 use Rattle.automaton.specs.Rule.{Rule}
-use Rattle.book.specs.Commands.{byteAt}
+use Rattle.command.specs.Commands.{byteAt}
 use Rattle.book.specs.Reading.{accepted, readBook}
-use Rattle.book.specs.Valid.{ValidRule}
+use Rattle.reading.specs.Valid.{ValidRule}
 use Rattle.book.proofs.Accepted.{accepted-valid}
-use Rattle.lexer.specs.Lexer.{Token, Found, Lexed, choose, proceed, lexFor, lex, join}
-use Rattle.lexer.specs.Records.{recordsAt}
-use Rattle.lexer.specs.Outcome.{maxText, recordCount, lexRules, lexOutcome}
-use Rattle.lexer.proofs.Choosing.{choose-some}
-use Rattle.lexer.proofs.Lexing.{lex-lengths}
-use Rattle.lexer.proofs.Records.{tokenAt, placeAt, laid-within, two-value}
-use Rattle.printer.specs.Tokens.{twoAt, recordAt}
+use Rattle.cutting.specs.Lexer.{Token, Found, Lexed, choose, proceed, lexFor, lex, join}
+use Rattle.records.specs.Records.{recordsAt, recordCount}
+use Rattle.reading.specs.Limits.{maxText}
+use Rattle.lexer.specs.Outcome.{lexRules, lexOutcome}
+use Rattle.cutting.proofs.Choosing.{choose-some}
+use Rattle.cutting.proofs.Lexing.{lex-lengths}
+use Rattle.records.proofs.Records.{tokenAt, placeAt, laid-within, two-value}
+use Rattle.pooled.specs.Tokens.{twoAt, recordAt}
 use Rattle.listing.specs.Lines.{tokenLine, tokenLines, restLine, recordLine, recordLines, listing}
 use Rattle.listing.proofs.Bounds.{byte-at, place-is, length-is}
 

@@ -4,12 +4,12 @@ use mathlib.Core.Path.{_≡_}
 use Prim.Native.Nat.{ℕ, zero, suc, _+_, _-_, _*_, _/_, _%_, _≤_}
 use mathlib.Core.List.{List, [], _∷_, _++_}
 use lib.Dec.{ltb}
-use lib.ListN.{length, take, drop, getD}
+use lib.ListN.{length, take, drop}
 use Rattle.automaton.specs.Choice.{if}
 use Rattle.lexer.specs.declared.LexAnswer.{LexAnswer}
 use Rattle.lexer.specs.declared.LexAnswer.the-variants.{Lexed, Refused}
-use Rattle.lexer.specs.Lexer.{Token}
-use Rattle.printer.specs.Tokens.{recordAt}
+use Rattle.cutting.specs.Lexer.{Token}
+use Rattle.pooled.specs.Tokens.{recordAt}
 use Rattle.lexer.specs.Outcome.{lexOutcome}
 
 -- ---- numbers

@@ -106,7 +106,7 @@ fn put_record(out: &mut [u8], at: usize, records: &[u8], k: usize) -> usize
     requires { ⌜ Room at (recordLine (now records) k) (now out) ⌝ }
     ensures { λ r. ⌜ Puts (now (out .entry)) at (recordLine (now (records .entry)) k) r (now (out .exit)) ⌝ }
 {
-    let r = printer::tokens::read_record(records, k);
+    let r = pooled::read_record(records, k);
     put_token(out, at, k, r.tag as usize, r.place, r.len)
 }
 
@@ -147,6 +147,6 @@ pub fn list(book: &[u8], text: &[u8], records: &mut [u8], out: &mut [u8]) -> usi
     ensures { λ r. ⌜ now (records .exit) ≡ (lexOutcome (now (book .entry)) (now (text .entry)) (now (records .entry))) .records ⌝ }
     ensures { λ r. ⌜ now (out .exit) ≡ listing (now (book .entry)) (now (text .entry)) (now (records .entry)) ++ drop r (now (out .entry)) ⌝ }
 {
-    let answer = lexer::operation::lex(book, text, records);
+    let answer = lexer::lex(book, text, records);
     put_lines(out, answer, records, text.len())
 }

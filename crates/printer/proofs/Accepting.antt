@@ -12,21 +12,24 @@ use borrow.Author.Tests.{le-ltb, ltb-false}
 use Rattle.automaton.specs.Choice.{if, All}
 use Rattle.automaton.specs.Rule.{Rule, matches}
 use Rattle.automaton.proofs.Tests.{clash}
-use Rattle.book.specs.declared.refusal.Refusal.{Refusal}
-use Rattle.book.specs.Reading.{Reading, accepted, refused, readBook, tagged}
-use Rattle.book.specs.Valid.{Distinct}
-use Rattle.lexer.specs.Lexer.{Token, extends, join, Alone, Printable}
-use Rattle.lexer.specs.Outcome.{maxText, recordCount}
-use Rattle.lexer.proofs.First.{nothing}
+use Rattle.refusal.specs.declared.Refusal.{Refusal}
+use Rattle.book.specs.Reading.{Reading, accepted, refused, readBook}
+use Rattle.reading.specs.Draft.{tagged}
+use Rattle.reading.specs.Valid.{Distinct}
+use Rattle.cutting.specs.Lexer.{Token, extends, join, Alone, Printable}
+use Rattle.reading.specs.Limits.{maxText, maxTokens}
+use Rattle.records.specs.Records.{recordCount}
+use Rattle.cutting.proofs.First.{nothing}
 use Rattle.printer.specs.declared.PrintAnswer.the-variants as print
-use Rattle.printer.specs.declared.tokens.TokenRecord.{TokenRecord}
-use Rattle.printer.specs.Tokens.{recordsOf, bytesIn, tokensIn, tokensOf}
-use Rattle.printer.specs.Checks.{aloneIn, faultOf, refuse, firstFault, firstExtended}
-use Rattle.printer.specs.Outcome.{maxTokens, PrintOutcome, printAccepted, check, unless, printChecked, printRules, printReading, printOutcome}
-use Rattle.printer.specs.Answers.{InPool}
-use Rattle.printer.proofs.Alone.{alone-first, first-alone}
-use Rattle.printer.proofs.Faults.{fault-none, faultless}
-use Rattle.printer.proofs.Passes.{faultless-front}
+use Rattle.pooled.specs.declared.TokenRecord.{TokenRecord}
+use Rattle.pooled.specs.Tokens.{recordsOf, bytesIn, tokensIn, tokensOf}
+use Rattle.pooled.specs.Faults.{aloneIn, faultOf}
+use Rattle.lists.specs.Checks.{refuse, firstFault, firstExtended}
+use Rattle.printer.specs.Outcome.{PrintOutcome, printAccepted, check, unless, printChecked, printRules, printReading, printOutcome}
+use Rattle.pooled.specs.Answers.{InPool}
+use Rattle.pooled.proofs.Alone.{alone-first, first-alone}
+use Rattle.pooled.proofs.Faults.{fault-none, faultless}
+use Rattle.lists.proofs.Passes.{faultless-front}
 
 -- ---- an accepted outcome passes each check
 

@@ -1,8 +1,4 @@
 -- What the proofs of this crate share, and the laws for the layers above.
-pub mod Alone
-pub mod Faults
-pub mod Extended
-pub mod Passes
 pub mod Outcomes
 pub mod Accepting
 pub mod ReadBack

@@ -1,5 +1,5 @@
 -- How the answers of the code come to the outcome of document 01. Assumes nothing.
-use mathlib.Core.Path.{_≡_, refl, sym, ap, _∙_}
+use mathlib.Core.Path.{_≡_, refl, ap, _∙_}
 use Prim.Native.Nat.{ℕ, suc, _<_, _≤_}
 use mathlib.Core.Option.{Option, none, some}
 use mathlib.Core.List.{List, [], _∷_}
@@ -10,24 +10,27 @@ use lib.Seq.{paste, take-append-seam}
 use borrow.Author.Tests.{lt-ltb, le-ltb}
 use Rattle.automaton.specs.Choice.{All}
 use Rattle.automaton.specs.Rule.{Rule}
-use Rattle.book.specs.declared.refusal.Refusal.{Refusal}
+use Rattle.refusal.specs.declared.Refusal.{Refusal}
 use Rattle.book.specs.declared.BookAnswer.{BookAnswer}
 use Rattle.book.specs.declared.BookAnswer.the-variants as book
-use Rattle.book.specs.State.{Loaded}
-use Rattle.lexer.specs.Lexer.{Token, join}
-use Rattle.lexer.specs.Outcome.{maxText, recordCount}
-use Rattle.lexer.specs.Answers.{Holds, Held}
+use Rattle.book.specs.Loading.{Loaded}
+use Rattle.cutting.specs.Lexer.{Token, join}
+use Rattle.reading.specs.Limits.{maxText, maxTokens}
+use Rattle.records.specs.Records.{recordCount}
+use Rattle.cutting.specs.Answers.{Holds, Held}
 use Rattle.lexer.proofs.Outcomes.{loaded-rules, loaded-refused}
 use Rattle.printer.specs.declared.PrintAnswer.{PrintAnswer}
 use Rattle.printer.specs.declared.PrintAnswer.the-variants as print
-use Rattle.printer.specs.declared.lists.Measured.the-variants as measure
-use Rattle.printer.specs.declared.tokens.TokenRecord.{TokenRecord}
-use Rattle.printer.specs.Tokens.{recordsOf, tokensOf}
-use Rattle.printer.specs.Checks.{faultOf, refuse, firstFault, firstExtended}
-use Rattle.printer.specs.Outcome.{maxTokens, check, unless, printChecked, printRules, printOutcome, Answered}
-use Rattle.printer.specs.Answers.{measured, InPool, Fitting, Joined, Laid, Readable, Checked, extendedAt}
-use Rattle.printer.proofs.Faults.{faultless}
-use Rattle.printer.proofs.Passes.{faultless-front}
+use Rattle.lists.specs.declared.Measured.the-variants as measure
+use Rattle.pooled.specs.declared.TokenRecord.{TokenRecord}
+use Rattle.pooled.specs.Tokens.{recordsOf, tokensOf}
+use Rattle.pooled.specs.Faults.{faultOf}
+use Rattle.lists.specs.Checks.{refuse, firstFault, firstExtended}
+use Rattle.printer.specs.Outcome.{check, unless, printChecked, printRules, printOutcome, Answered}
+use Rattle.lists.specs.Answers.{measured, Fitting, Joined, Laid, Readable, Checked, extendedAt}
+use Rattle.pooled.specs.Answers.{InPool}
+use Rattle.pooled.proofs.Faults.{faultless}
+use Rattle.lists.proofs.Passes.{faultless-front}
 
 -- ---- tokens without fault
 

@@ -10,13 +10,13 @@ use lib.ListN.{length, getD, take, drop, length-append}
 use lib.Seq.{getD-take, getD-drop}
 use Rattle.automaton.specs.Choice.{if, All}
 use Rattle.automaton.specs.Rule.{Rule, matches}
-use Rattle.lexer.specs.Lexer.{Token, firstMatch, join}
-use Rattle.lexer.specs.Outcome.{maxText, recordCount}
-use Rattle.lexer.specs.Records.{recordOf, recordsAt}
-use Rattle.lexer.proofs.First.{nothing}
-use Rattle.lexer.proofs.Records.{length-records, tokenAt, placeAt, records-at, token-laid, laid-within, two-value, four-value}
-use Rattle.printer.specs.Tokens.{twoAt, fourAt, recordAt, recordsFrom, recordsOf, tokenIn, tokensIn, tokensOf}
-use Rattle.printer.specs.Answers.{InPool}
+use Rattle.cutting.specs.Lexer.{Token, firstMatch, join}
+use Rattle.reading.specs.Limits.{maxText}
+use Rattle.records.specs.Records.{recordCount, recordOf, recordsAt}
+use Rattle.cutting.proofs.First.{nothing}
+use Rattle.records.proofs.Records.{length-records, tokenAt, placeAt, records-at, token-laid, laid-within, two-value, four-value}
+use Rattle.pooled.specs.Tokens.{twoAt, fourAt, recordAt, recordsFrom, recordsOf, tokenIn, tokensIn, tokensOf}
+use Rattle.pooled.specs.Answers.{InPool}
 
 -- ---- the tokens by their numbers
 

@@ -9,17 +9,15 @@ use lib.Dec.{ltb}
 use lib.ListN.{length, drop}
 use Rattle.automaton.specs.Rule.{Rule}
 use Rattle.book.specs.Reading.{Reading, accepted, refused, readBook}
-use Rattle.book.specs.declared.refusal.Refusal.{Refusal}
-use Rattle.lexer.specs.Lexer.{Token, join}
-use Rattle.lexer.specs.Outcome.{maxText, recordCount}
+use Rattle.refusal.specs.declared.Refusal.{Refusal}
+use Rattle.cutting.specs.Lexer.{Token, join}
+use Rattle.reading.specs.Limits.{maxText, maxTokens}
+use Rattle.records.specs.Records.{recordCount}
 use Rattle.printer.specs.declared.PrintAnswer.{PrintAnswer}
 use Rattle.printer.specs.declared.PrintAnswer.the-variants as answer
-use Rattle.printer.specs.Tokens.{recordsOf, tokensOf}
-use Rattle.printer.specs.Checks.{faultOf, firstFault, firstExtended}
-
--- "a list at most 65,536 tokens"
-abbrev pub maxTokens : ℕ
-maxTokens = 65536
+use Rattle.pooled.specs.Tokens.{recordsOf, tokensOf}
+use Rattle.pooled.specs.Faults.{faultOf}
+use Rattle.lists.specs.Checks.{firstFault, firstExtended}
 
 pub record PrintOutcome : Type 0 where
   pub answer : PrintAnswer

@@ -1,24 +1,19 @@
 // Printing a list of tokens, the paper's plain writing: their bytes one behind the other, if lexing them again gives the list back.
 // The bytes are joined in a scratch of the call's own, so that the output stands as it was where the list is refused.
-pub mod lists;
-pub mod tokens;
-
 use book::BookAnswer;
-use book::reading::Book;
-use book::refusal::Refusal;
 use lists::Measured;
+use reading::Book;
+use refusal::Refusal;
 ghost use mathlib.Core.Path.{_≡_};
 ghost use mathlib.Core.List.{List};
-ghost use Prim.Native.Nat.{ℕ, _≤_};
-ghost use lib.ListN.{length, take};
+ghost use lib.ListN.{length};
 ghost use Rattle.automaton.specs.Rule.{Rule};
-ghost use Rattle.book.specs.State.{Fresh};
-ghost use Rattle.lexer.specs.Outcome.{recordCount, maxText};
-ghost use Rattle.lexer.specs.Answers.{Holds, Held};
-ghost use Rattle.printer.specs.Tokens.{tokensOf};
-ghost use Rattle.printer.specs.Checks.{firstExtended};
+ghost use Rattle.reading.specs.State.{Fresh};
+ghost use Rattle.reading.specs.Limits.{maxText};
+ghost use Rattle.cutting.specs.Answers.{Holds, Held};
+ghost use Rattle.pooled.specs.Tokens.{tokensOf};
 ghost use Rattle.printer.specs.Outcome.{printChecked, printRules, printOutcome, Answered};
-ghost use Rattle.printer.specs.Answers.{Laid, Readable, Checked, extendedAt};
+ghost use Rattle.lists.specs.Answers.{Checked};
 
 // What printing answers: the number of bytes written, or a refusal.
 pub enum PrintAnswer {
@@ -150,7 +145,7 @@ fn print_checked(
         return refused(Refusal::OUTPUT_TOO_LONG, 0);
     }
     lists::join_tokens(records, pool, scratch);
-    let k = extended_within(headers, states, edges, rules, records, scratch, total);
+    let k = lists::extended_within(headers, states, edges, rules, records, scratch, total);
     if k < records.len() / 10 {
         return refused(Refusal::READ_ON, k);
     }
@@ -159,25 +154,6 @@ fn print_checked(
     }
     lists::copy(scratch, 0, total, out, 0);
     PrintAnswer::Printed(total)
-}
-
-// `first_extended` in the first `total` bytes of the scratch.
-fn extended_within(
-    headers: &[u64],
-    states: &[u16],
-    edges: &[u64],
-    rules: usize,
-    records: &[u8],
-    scratch: &[u8],
-    total: usize,
-) -> usize
-    requires { ⌜ total ≤ length (now scratch) ⌝ }
-    requires { ⌜ Readable (now headers) (now states) (now edges) rules (now records) (take total (now scratch)) ⌝ }
-    ensures { λ r. ⌜ ((rs : List Rule) (pool : List ℕ) → Holds (now (headers .entry)) (now (states .entry)) (now (edges .entry)) rules rs
-        → Laid rs (now (records .entry)) pool (take total (now (scratch .entry)))
-        → firstExtended rs (tokensOf (now (records .entry)) pool) 0 ≡ extendedAt r (recordCount (now (records .entry)))) ⌝ }
-{
-    lists::first_extended(headers, states, edges, rules, records, &scratch[..total])
 }
 
 fn refused(number: u8, place: usize) -> PrintAnswer

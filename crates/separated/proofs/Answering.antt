@@ -1,5 +1,5 @@
 -- What the code answers is the outcome. Assumes nothing.
-use mathlib.Core.Path.{_≡_, refl, sym, ap, _∙_, subst}
+use mathlib.Core.Path.{_≡_, refl, ap, _∙_, subst}
 use Prim.Native.Nat.{ℕ, _<_, _≤_}
 use mathlib.Core.Option.{Option, none, some}
 use mathlib.Core.List.{List}
@@ -9,22 +9,32 @@ use lib.ListN.{length, take, drop}
 use lib.Seq.{paste, take-length}
 use borrow.Author.Tests.{lt-ltb, le-ltb}
 use Rattle.automaton.specs.Rule.{Rule}
-use Rattle.book.specs.declared.refusal.Refusal.{Refusal}
+use Rattle.refusal.specs.declared.Refusal.{Refusal}
 use Rattle.book.specs.declared.BookAnswer.{BookAnswer}
 use Rattle.book.specs.declared.BookAnswer.the-variants as book
-use Rattle.book.specs.State.{Loaded}
-use Rattle.lexer.specs.Answers.{Holds}
-use Rattle.lexer.specs.Outcome.{maxText}
+use Rattle.book.specs.Loading.{Loaded}
+use Rattle.cutting.specs.Answers.{Holds}
+use Rattle.reading.specs.Limits.{maxText}
 use Rattle.lexer.proofs.Outcomes.{loaded-rules, loaded-refused}
 use Rattle.printer.specs.declared.PrintAnswer.{PrintAnswer}
 use Rattle.printer.specs.declared.PrintAnswer.the-variants as print
-use Rattle.printer.specs.declared.tokens.TokenRecord.{TokenRecord}
+use Rattle.pooled.specs.declared.TokenRecord.{TokenRecord}
 use Rattle.printer.specs.Outcome.{check, unless, Answered}
-use Rattle.separated.specs.declared.checks.Checked.the-variants as checked
-use Rattle.separated.specs.declared.spacing.Placed.{Placed}
-use Rattle.separated.specs.declared.spacing.Placed.the-variants as placed
-use Rattle.separated.specs.Outcome.{separatedRefusal, writing, spelled, separatedRules, separatedOutcome}
-use Rattle.separated.specs.Answers.{checkedOf, Stands, Passed}
+use Rattle.checks.specs.declared.Checked.the-variants as checked
+use Rattle.spacing.specs.declared.Placed.{Placed}
+use Rattle.spacing.specs.declared.Placed.the-variants as placed
+use Rattle.checks.specs.Refusals.{separatedRefusal, checkedOf}
+use Rattle.separated.specs.Outcome.{writing, separatedRules, separatedOutcome}
+use Rattle.spacing.specs.Separators.{spelled}
+use Rattle.spacing.specs.Answers.{Stands, Spaceable}
+use Rattle.separated.specs.Answers.{Passed}
+use Rattle.cutting.specs.Lexer.{Alone}
+use Rattle.pooled.specs.Answers.{InPool}
+use Rattle.pooled.specs.Tokens.{recordsOf, tokenIn}
+use Rattle.pooled.proofs.Alone.{alone-first}
+use Rattle.separated.specs.Claims.{FitPlain}
+use Rattle.separated.proofs.Sides.{all-map}
+use Rattle.separated.proofs.Unrefused.{Passes, passes}
 
 -- ---- what is written
 
@@ -94,3 +104,19 @@ module _ {bytes hs ss es : List ℕ} {b : BookAnswer} {f : Refusal} (l : Loaded 
   pub answered-refused : (sep : TokenRecord) (mode : ℕ) (records pool out : List ℕ) → Answered (separatedOutcome bytes sep mode records pool out) (print.Refused f) out
   unfolding separatedOutcome
   answered-refused sep mode records pool out = rw (loaded-refused l a) (record { answer = refl; out = refl })
+
+-- ---- what is put together
+
+-- a call that is not refused can be put together
+pub passed-spaceable : {hs ss es : List ℕ} {n : ℕ} {sep : TokenRecord} {mode : ℕ} {records pool : List ℕ} → Passed hs ss es n sep mode records pool
+    → Spaceable hs ss es n sep records pool
+passed-spaceable {hs} {ss} {es} {n} {sep} {mode} {records} {pool} p =
+    record {
+      held = p .held;
+      separator = record { in-pool = fine (p .held .holds) .separator .fit .not-17 };
+      inside = all-map (FitPlain (p .held .rules) pool) (InPool pool) (λ r f. record { in-pool = f .fit .not-17 }) (recordsOf records) (fine (p .held .holds) .tokens);
+      alone = λ rules h. all-map (FitPlain rules pool) (λ (r : TokenRecord). Alone rules (tokenIn pool r)) (λ r f. alone-first rules (r .tag) _ (f .fit .not-19)) (recordsOf records) (fine h .tokens);
+    }
+  where
+    fine : {rules : List Rule} → Holds hs ss es n rules → Passes rules sep mode records pool
+    fine {rules} h = passes rules sep mode records pool (p .unrefused rules h)

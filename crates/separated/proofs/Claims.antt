@@ -6,16 +6,16 @@ use lib.ListN.{length, drop}
 use lib.Seq.{take-append-seam}
 use Rattle.automaton.specs.Choice.{All}
 use Rattle.automaton.specs.Rule.{Rule}
-use Rattle.book.specs.Valid.{ValidRules}
+use Rattle.reading.specs.Valid.{ValidRules}
 use Rattle.book.proofs.Accepted.{accepted-valid}
-use Rattle.lexer.specs.Lexer.{Token, Lexed, join}
+use Rattle.cutting.specs.Lexer.{Token, Lexed, join}
 use Rattle.printer.specs.declared.PrintAnswer.the-variants as answer
-use Rattle.printer.specs.declared.tokens.TokenRecord.{TokenRecord}
-use Rattle.printer.specs.Tokens.{recordsOf, tokenIn, tokensIn, tokensOf}
+use Rattle.pooled.specs.declared.TokenRecord.{TokenRecord}
+use Rattle.pooled.specs.Tokens.{recordsOf, tokenIn, tokensIn, tokensOf}
 use Rattle.printer.specs.Outcome.{PrintOutcome}
-use Rattle.printer.proofs.Alone.{alone-first}
-use Rattle.separated.specs.Separators.{separated}
-use Rattle.separated.specs.Outcome.{spelled, separatedRules, separatedOutcome}
+use Rattle.pooled.proofs.Alone.{alone-first}
+use Rattle.spacing.specs.Separators.{separated, spelled}
+use Rattle.separated.specs.Outcome.{separatedRules, separatedOutcome}
 use Rattle.separated.specs.Claims.{Accepts, FitPlain, Unrefused, AcceptsUnrefused, AcceptsNoOther, WritesApart, CutsBack}
 use Rattle.separated.proofs.Sides.{Disjoint}
 use Rattle.separated.proofs.RoundTrip.{Plain, Separator, separated-lexes, separated-back, separated-injective}

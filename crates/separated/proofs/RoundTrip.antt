@@ -8,12 +8,13 @@ use lib.Dec.{eqb}
 use Rattle.automaton.specs.Choice.{All}
 use Rattle.automaton.specs.Rule.{Rule}
 use Rattle.automaton.proofs.Tests.{clash, or-false}
-use Rattle.book.specs.Valid.{ValidRules}
-use Rattle.lexer.specs.Lexer.{Token, firstMatch, extends, lex, join, Alone, Printable}
-use Rattle.lexer.proofs.First.{nothing}
-use Rattle.lexer.proofs.Choosing.{extends-true}
-use Rattle.lexer.proofs.Lexing.{printed-lexes}
-use Rattle.separated.specs.Separators.{separates, dropSeparators, meaning, follows, put, separated}
+use Rattle.reading.specs.Valid.{ValidRules}
+use Rattle.cutting.specs.Lexer.{Token, firstMatch, extends, lex, join, Alone, Printable}
+use Rattle.cutting.proofs.First.{nothing}
+use Rattle.cutting.proofs.Choosing.{extends-true}
+use Rattle.cutting.proofs.Lexing.{printed-lexes}
+use Rattle.used.specs.Kinds.{separates}
+use Rattle.spacing.specs.Separators.{dropSeparators, meaning, follows, put, separated}
 use Rattle.separated.proofs.Sides.{all-right, Side, Disjoint, side-unique, token-side, match-side, valid-empty}
 
 -- the tokens that the printer takes, and the separator that it puts in

@@ -13,11 +13,11 @@ use Rattle.automaton.specs.Tables.{stateCount}
 use Rattle.automaton.proofs.Tests.{clash, or-none, or-true, and-true}
 use Rattle.automaton.proofs.Walks.{target-stays}
 use Rattle.automaton.proofs.Used.{uses-all}
-use Rattle.book.specs.Valid.{ValidRule, Distinct, ValidRules}
-use Rattle.lexer.specs.Lexer.{Token, isSome, firstMatch, Alone}
-use Rattle.lexer.proofs.First.{some-of, Earliest, earliest, nothing-empty}
-use Rattle.separated.specs.Bytes.{plainKind, separatorKind, usedByKind, shared}
-use Rattle.separated.specs.Separators.{separates}
+use Rattle.reading.specs.Valid.{ValidRule, Distinct, ValidRules}
+use Rattle.cutting.specs.Lexer.{Token, isSome, firstMatch, Alone}
+use Rattle.cutting.proofs.First.{some-of, Earliest, earliest, nothing-empty}
+use Rattle.used.specs.Kinds.{plainKind, separatorKind, separates}
+use Rattle.used.specs.Bytes.{usedByKind, shared}
 
 -- ---- lists
 

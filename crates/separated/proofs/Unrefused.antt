@@ -11,19 +11,23 @@ use borrow.Author.Tests.{le-ltb, ltb-false, eqb-true, eqb-false, eq-eqb}
 use Rattle.automaton.specs.Choice.{if, All}
 use Rattle.automaton.specs.Rule.{Rule}
 use Rattle.automaton.proofs.Tests.{clash}
-use Rattle.book.specs.declared.refusal.Refusal.{Refusal}
-use Rattle.lexer.specs.Lexer.{or}
-use Rattle.lexer.specs.Outcome.{maxText, recordCount}
-use Rattle.lexer.proofs.First.{nothing}
+use Rattle.refusal.specs.declared.Refusal.{Refusal}
+use Rattle.cutting.specs.Lexer.{or}
+use Rattle.reading.specs.Limits.{maxText, maxTokens}
+use Rattle.records.specs.Records.{recordCount}
+use Rattle.cutting.proofs.First.{nothing}
 use Rattle.printer.specs.declared.PrintAnswer.the-variants as answer
-use Rattle.printer.specs.declared.tokens.TokenRecord.{TokenRecord}
-use Rattle.printer.specs.Tokens.{recordsOf}
-use Rattle.printer.specs.Checks.{faultOf, refuse, firstFault}
-use Rattle.printer.specs.Outcome.{maxTokens, PrintOutcome, printAccepted, check, unless}
-use Rattle.printer.proofs.Faults.{faultless, fault-none}
-use Rattle.separated.specs.Bytes.{plainKind, separatorKind, usedByKind, shared, lowestFrom, sharedByte}
-use Rattle.separated.specs.Separators.{separates}
-use Rattle.separated.specs.Outcome.{orElse, separatorFault, plainFault, sharing, listRefusal, separatedRefusal, writing, spelled, separatedRules}
+use Rattle.pooled.specs.declared.TokenRecord.{TokenRecord}
+use Rattle.pooled.specs.Tokens.{recordsOf}
+use Rattle.pooled.specs.Faults.{faultOf}
+use Rattle.lists.specs.Checks.{refuse, firstFault}
+use Rattle.printer.specs.Outcome.{PrintOutcome, printAccepted, check, unless}
+use Rattle.pooled.proofs.Faults.{faultless, fault-none}
+use Rattle.used.specs.Kinds.{plainKind, separatorKind, separates}
+use Rattle.used.specs.Bytes.{usedByKind, shared, lowestFrom, sharedByte}
+use Rattle.checks.specs.Refusals.{orElse, separatorFault, plainFault, sharing, listRefusal, separatedRefusal}
+use Rattle.separated.specs.Outcome.{writing, separatedRules}
+use Rattle.spacing.specs.Separators.{spelled}
 use Rattle.separated.specs.Claims.{Fit, FitSeparator, FitPlain, Unrefused}
 use Rattle.separated.proofs.Sides.{all-map}
 

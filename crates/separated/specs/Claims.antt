@@ -7,18 +7,21 @@ use mathlib.Core.List.{List, []}
 use lib.ListN.{length, take}
 use Rattle.automaton.specs.Choice.{All}
 use Rattle.automaton.specs.Rule.{Rule}
-use Rattle.book.specs.Commands.{byteAt}
-use Rattle.book.specs.Reading.{accepted, readBook, tagged}
-use Rattle.lexer.specs.Lexer.{lex}
-use Rattle.lexer.specs.Outcome.{maxText, recordCount}
+use Rattle.command.specs.Commands.{byteAt}
+use Rattle.book.specs.Reading.{accepted, readBook}
+use Rattle.reading.specs.Draft.{tagged}
+use Rattle.cutting.specs.Lexer.{lex}
+use Rattle.reading.specs.Limits.{maxText, maxTokens}
+use Rattle.records.specs.Records.{recordCount}
 use Rattle.printer.specs.declared.PrintAnswer.the-variants as answer
-use Rattle.printer.specs.declared.tokens.TokenRecord.{TokenRecord}
-use Rattle.printer.specs.Tokens.{recordsOf, bytesIn, tokenIn, tokensOf}
-use Rattle.printer.specs.Checks.{aloneIn}
-use Rattle.printer.specs.Outcome.{maxTokens, PrintOutcome, printAccepted}
-use Rattle.separated.specs.Bytes.{plainKind, separatorKind, usedByKind}
-use Rattle.separated.specs.Separators.{separates, dropSeparators}
-use Rattle.separated.specs.Outcome.{spelled, separatedOutcome}
+use Rattle.pooled.specs.declared.TokenRecord.{TokenRecord}
+use Rattle.pooled.specs.Tokens.{recordsOf, bytesIn, tokenIn, tokensOf}
+use Rattle.pooled.specs.Faults.{aloneIn}
+use Rattle.printer.specs.Outcome.{PrintOutcome, printAccepted}
+use Rattle.used.specs.Kinds.{plainKind, separatorKind, separates}
+use Rattle.used.specs.Bytes.{usedByKind}
+use Rattle.spacing.specs.Separators.{dropSeparators, spelled}
+use Rattle.separated.specs.Outcome.{separatedOutcome}
 
 -- an accepted book; a lent book is a run of bytes
 pub record Accepts (book : List ℕ) (rules : List Rule) : Type 0 where

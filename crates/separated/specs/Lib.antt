@@ -1,7 +1,4 @@
--- Used bytes, kinds and separators, and the outcome of printing with separators.
-pub mod Bytes
-pub mod Marks
-pub mod Separators
+-- The outcome of printing with separators, and the sentences of demand 3 about it.
 pub mod Outcome
 pub mod Answers
 pub mod Claims

@@ -1,28 +1,23 @@
 // Printing a list of plain tokens with separators between them, the paper's spacing writing. Tokens and separators are put together in
 // a scratch of the call's own, so that the output stands as it was where the list is refused.
-pub mod bytes;
-pub mod checks;
-pub mod spacing;
-pub mod used;
-
 use book::BookAnswer;
-use book::reading::Book;
-use book::refusal::Refusal;
 use checks::Checked;
+use pooled::TokenRecord;
 use printer::PrintAnswer;
-use printer::lists;
-use printer::tokens::TokenRecord;
+use reading::Book;
+use refusal::Refusal;
 use spacing::Placed;
 ghost use mathlib.Core.Path.{_≡_};
 ghost use mathlib.Core.List.{List};
 ghost use Prim.Native.Nat.{_≤_};
 ghost use lib.ListN.{length, drop};
 ghost use Rattle.automaton.specs.Rule.{Rule};
-ghost use Rattle.book.specs.State.{Fresh};
-ghost use Rattle.lexer.specs.Outcome.{maxText};
-ghost use Rattle.lexer.specs.Answers.{Holds, Held};
+ghost use Rattle.reading.specs.State.{Fresh};
+ghost use Rattle.reading.specs.Limits.{maxText};
+ghost use Rattle.cutting.specs.Answers.{Holds, Held};
 ghost use Rattle.printer.specs.Outcome.{Answered};
-ghost use Rattle.separated.specs.Outcome.{writing, spelled, separatedRules, separatedOutcome};
+ghost use Rattle.separated.specs.Outcome.{writing, separatedRules, separatedOutcome};
+ghost use Rattle.spacing.specs.Separators.{spelled};
 ghost use Rattle.separated.specs.Answers.{Passed};
 
 // Prints the tokens that `records` say with `pool`, by the rules of a book, with the separator token between neighbours: in mode 1, and

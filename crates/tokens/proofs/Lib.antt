@@ -1,7 +1,4 @@
--- What the proofs of this crate share, and the laws of the encoding.
-pub mod Encoding
-pub mod Turning
-pub mod Opening
-pub mod Staging
+-- What the proofs of this crate share.
 pub mod Tests
 pub mod Arrays
+pub mod Turning

@@ -10,15 +10,17 @@ use Rattle.automaton.specs.Tables.{ruleAt}
 use Rattle.automaton.proofs.Tests.{clash}
 use Rattle.book.specs.Reading.{readBook, accepted}
 use Rattle.lexer.specs.declared.LexAnswer.the-variants as answer
-use Rattle.lexer.specs.Lexer.{lex}
-use Rattle.lexer.specs.Records.{recordOf}
-use Rattle.lexer.specs.Answers.{Holds}
-use Rattle.lexer.specs.Outcome.{maxText, recordCount, lexOutcome, Answered}
-use Rattle.lexer.proofs.Turns.{cutting-within, cutting-stop, Filling, filling-start, filling-room, filling-next, filling-stop, lex-stop}
+use Rattle.cutting.specs.Lexer.{lex}
+use Rattle.records.specs.Records.{recordOf, recordCount}
+use Rattle.cutting.specs.Answers.{Holds}
+use Rattle.reading.specs.Limits.{maxText}
+use Rattle.lexer.specs.Outcome.{lexOutcome, Answered}
+use Rattle.cutting.proofs.Turns.{cutting-within, cutting-stop, lex-stop}
+use Rattle.records.proofs.Filling.{Filling, filling-start, filling-room, filling-next, filling-stop}
 use Rattle.lexer.proofs.Outcomes.{answered-lexed}
-use Rattle.tokens.specs.declared.lexing.Turn.{Turn}
-use Rattle.tokens.specs.Turns.{answerOf, refusalOf, Chosen, Turns, Ready, Begun}
-use Rattle.tokens.proofs.Encoding.{tenBytes, two-bytes}
+use Rattle.turns.specs.declared.Turn.{Turn}
+use Rattle.turns.specs.Turns.{answerOf, refusalOf, Chosen, Turns, Ready, Begun}
+use Rattle.token.proofs.Encoding.{tenBytes, two-bytes}
 
 -- the turn t stands after t .index tokens of the text, which are in the records; at most `left` turns follow
 pub record Standing (book text entry hs ss es records : List ℕ) (left : ℕ) (t : Turn) (rules : List Rule) : Type 0 where

@@ -2,12 +2,12 @@
 -- the first value, bits 0 to 27 the second. A value that has more bits than its part is answered as the largest of the part: no
 -- buffer that a machine can lend has such a place, and no accepted call such a value.
 use Prim.Native.Nat.{ℕ, _+_, _*_, min}
-use Rattle.book.specs.declared.refusal.Refusal.{Refusal}
+use Rattle.refusal.specs.declared.Refusal.{Refusal}
 use Rattle.book.specs.declared.BookAnswer.{BookAnswer}
 use Rattle.book.specs.declared.BookAnswer.the-variants as book
 use Rattle.lexer.specs.declared.LexAnswer.{LexAnswer}
 use Rattle.lexer.specs.declared.LexAnswer.the-variants as lexer
-use Rattle.printer.specs.declared.tokens.TokenRecord.{TokenRecord}
+use Rattle.pooled.specs.declared.TokenRecord.{TokenRecord}
 use Rattle.printer.specs.declared.PrintAnswer.{PrintAnswer}
 use Rattle.printer.specs.declared.PrintAnswer.the-variants as printer
 

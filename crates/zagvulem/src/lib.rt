@@ -1,14 +1,14 @@
 // The library as C calls it: numbers and byte slices, answers in 64 bits. include/zagvulem.h declares these functions.
 use book::BookAnswer;
-use book::refusal::Refusal;
 use lexer::LexAnswer;
+use pooled::TokenRecord;
 use printer::PrintAnswer;
-use printer::tokens::TokenRecord;
+use refusal::Refusal;
 ghost use mathlib.Core.Path.{_≡_};
 ghost use Prim.Native.Nat.{min};
 ghost use Rattle.book.specs.Reading.{readBook, answer};
 ghost use Rattle.lexer.specs.Outcome.{lexOutcome};
-ghost use Rattle.builtin.specs.Book.{builtinBytes};
+ghost use Rattle.scanner.specs.Book.{builtinBytes};
 ghost use Rattle.printer.specs.Outcome.{printOutcome};
 ghost use Rattle.separated.specs.Outcome.{separatedOutcome};
 ghost use Rattle.zagvulem.specs.Words.{refusalWord, acceptedWord, bookWord, lexWord, printWord, separator};
@@ -30,7 +30,7 @@ pub extern "C" fn zgv_lex(book: &[u8], text: &[u8], records: &mut [u8]) -> u64
     ensures { λ r. ⌜ r ≡ lexWord ((lexOutcome (now (book .entry)) (now (text .entry)) (now (records .entry))) .answer) ⌝ }
     ensures { λ r. ⌜ now (records .exit) ≡ (lexOutcome (now (book .entry)) (now (text .entry)) (now (records .entry))) .records ⌝ }
 {
-    lexed(lexer::operation::lex(book, text, records))
+    lexed(lexer::lex(book, text, records))
 }
 
 // Lexes a text by the built-in book, through its byte classes: as `zgv_lex` with the book's command bytes.

@@ -4,11 +4,9 @@ use Rattle.automaton.proofs.covers.Tie as tie
 use Rattle.automaton.proofs.covers.Reads as reads
 use Rattle.automaton.proofs.covers.Lts as lts
 
--- src/lib.rt:35:1
 returns : tie.Need-returns
 returns c = simp (le-leb _ _ (c .if1 .taken))
 
--- src/lib.rt:35:1
 returns-2 : tie.Need-returns-2
 returns-2 c = simp (lt-leb _ _ (c .if1 .left))
 

@@ -30,89 +30,68 @@ walked c = c .loop .inv (some c .rule) (some c .table)
 after : (c : tie.After-step Inv-loop μ-loop) → c .step .result < stateCount
 after c = next-inside (some (c .before .before .before .before) .table) (walked (c .before .before .before .before)) (c .before .before .before .loop-test .taken) (c .step .ensures)
 
--- src/lib.rt:87:18
 mul-header : tie.Need-mul-header Inv-loop μ-loop
 mul-header c = omega (arith, c .before .before .before .before .pre .table .room, c .before .before .before .before .good .0 .1)
 
--- src/lib.rt:87:18
 shared-slice-read-header : tie.Need-shared-slice-read-header Inv-loop μ-loop
 shared-slice-read-header c = c .before .before .before .before .before .pre .table .room
 
--- src/lib.rt:88:16
 mul-base : tie.Need-mul-base Inv-loop μ-loop
 mul-base c = omega (arith, c .before .before .before .before .before .pre .table .cells .room, c .before .before .before .before .before .good .1 .0 .0)
 
--- src/lib.rt:93:5
 loop-holds : tie.Need-loop-holds Inv-loop μ-loop
 loop-holds c = λ m t. walk-start m _ _ (t .sound) (header-start t)
 
--- src/lib.rt:94:27
 add-cell : tie.Need-add-cell Inv-loop μ-loop
 add-cell c = let w = walked (c .before) in omega (arith, w .inside, some (c .before) .table .cells .room, c .before .before .before .before .before .before .before .good .1 .0 .0)
 
--- src/lib.rt:94:20
 mul-cell : tie.Need-mul-cell Inv-loop μ-loop
 mul-cell c = let w = walked (c .before) in omega (arith, w .inside, some (c .before) .table .cells .room, c .before .before .before .before .before .before .before .good .1 .0 .1)
 
--- src/lib.rt:94:20
 shared-slice-read-cell : tie.Need-shared-slice-read-cell Inv-loop μ-loop
 shared-slice-read-cell c = let w = walked (c .before .before) in omega (arith, w .inside, some (c .before .before) .table .cells .room)
 
--- src/lib.rt:95:25
 cast-step : tie.Need-cast-step Inv-loop μ-loop
 cast-step c = omega (arith, c .shared-slice-known6 .given (c .before .before .before .before .before .before .before .before .args .rule * 256 + c .before .before .loop .s))
 
--- src/lib.rt:95:46
 shared-slice-read-step : tie.Need-shared-slice-read-step Inv-loop μ-loop
 shared-slice-read-step c = search needs
 
--- src/lib.rt:95:46
 cast-step-2 : tie.Need-cast-step-2 Inv-loop μ-loop
 cast-step-2 c = omega (arith, c .shared-slice-known7 .given (c .before .before .before .loop .i))
 
--- src/lib.rt:95:9
 step-requires : tie.Need-step-requires Inv-loop μ-loop
 step-requires c κs =
     let w = walked (c .before .before .before) in
     record { transitions = leaving (c .before .before .before .loop .s) (some (c .before .before .before) .rule .transitions); chain = some (c .before .before .before) .table .cells .chains (c .before .before .before .loop .s) (w .inside) }
 
--- src/lib.rt:97:13
 returns : tie.Need-returns Inv-loop μ-loop
 returns c = λ m t. walk-error t (c .before .before .before .before .before .loop .inv m t) (c .before .before .before .before .loop-test .taken) (c .before .step .ensures) (c .if1 .taken)
 
--- src/lib.rt:99:9
 add-i : tie.Need-add-i Inv-loop μ-loop
 add-i c = omega (arith, c .before .before .before .before .loop-test .taken)
 
--- src/lib.rt:100:30
 add-reached : tie.Need-add-reached Inv-loop μ-loop
 add-reached c = let h = after (c .before) in omega (arith, h, c .before .before .before .before .before .before .before .before .before .before .before .pre .table .cells .room, c .before .before .before .before .before .before .before .before .before .before .before .good .1 .0 .0)
 
--- src/lib.rt:100:23
 mul-reached : tie.Need-mul-reached Inv-loop μ-loop
 mul-reached c = let h = after (c .before) in omega (arith, h, c .before .before .before .before .before .before .before .before .before .before .before .pre .table .cells .room, c .before .before .before .before .before .before .before .before .before .before .before .good .1 .0 .1)
 
--- src/lib.rt:100:23
 shared-slice-read-reached : tie.Need-shared-slice-read-reached Inv-loop μ-loop
 shared-slice-read-reached c = let h = after (c .before .before) in omega (arith, h, c .before .before .before .before .before .before .before .before .before .before .before .before .pre .table .cells .room)
 
--- src/lib.rt:93:5
 loop-less : tie.Need-loop-less Inv-loop μ-loop
 loop-less c = omega (arith, c .before .before .before .before .before .before .loop-test .taken)
 
--- src/lib.rt:93:5
 loop-again : tie.Need-loop-again Inv-loop μ-loop
 loop-again c = λ m t. walk-final t (c .before .before .before .before .before .before .before .loop .inv m t) (c .before .before .before .before .before .before .loop-test .taken) (c .before .before .before .step .ensures) (c .if2 .taken)
 
--- src/lib.rt:93:5
 loop-less-2 : tie.Need-loop-less-2 Inv-loop μ-loop
 loop-less-2 c = omega (arith, c .before .before .before .before .before .before .loop-test .taken)
 
--- src/lib.rt:93:5
 loop-again-2 : tie.Need-loop-again-2 Inv-loop μ-loop
 loop-again-2 c = λ m t. walk-other t (c .before .before .before .before .before .before .before .loop .inv m t) (c .before .before .before .before .before .before .loop-test .taken) (c .before .before .before .step .ensures) (c .if2 .left)
 
--- src/lib.rt:83:1
 returns-2 : tie.Need-returns-2 Inv-loop μ-loop
 returns-2 c = λ m t. walk-end (c .before .loop .inv m t) (c .loop-test .left)
 

@@ -5,35 +5,27 @@ use Rattle.automaton.proofs.mark_final.Tie as tie
 use Rattle.automaton.proofs.mark_final.Reads as reads
 use Rattle.automaton.proofs.mark_final.Lts as lts
 
--- src/lib.rt:130:15
 mul-old : tie.Need-mul-old
 mul-old c = search needs
 
--- src/lib.rt:130:15
 slice-read-old : tie.Need-slice-read-old
 slice-read-old c = search needs
 
--- src/lib.rt:131:20
 mul-states : tie.Need-mul-states
 mul-states c = omega (arith, c .slice-known .given (c .before .args .cell))
 
--- src/lib.rt:131:20
 add-states : tie.Need-add-states
 add-states c = omega (arith, c .slice-known .given (c .before .args .cell))
 
--- src/lib.rt:131:5
 mul-states-2 : tie.Need-mul-states-2
 mul-states-2 c = search needs
 
--- src/lib.rt:131:5
 slice-write-states : tie.Need-slice-write-states
 slice-write-states c = search needs
 
--- src/lib.rt:126:1
 same-length : tie.Need-same-length
 same-length c = search needs
 
--- src/lib.rt:126:1
 returns : tie.Need-returns
 returns c = search needs
 

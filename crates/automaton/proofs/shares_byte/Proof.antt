@@ -26,35 +26,27 @@ pos c = omega arith
 inside : (c : tie.In-loop Inv-loop μ-loop) → At (now (c .before .before .args .edges)) (c .before .loop .h)
 inside c = along-at (c .before .loop .inv) (c .before .before .pre) (pos c)
 
--- src/lib.rt:69:5
 loop-holds : tie.Need-loop-holds Inv-loop μ-loop
 loop-holds c = along-start _ _ _
 
--- src/lib.rt:70:23
 sub-e : tie.Need-sub-e Inv-loop μ-loop
 sub-e c = search needs
 
--- src/lib.rt:70:17
 mul-e : tie.Need-mul-e Inv-loop μ-loop
 mul-e c = let i = inside c in omega (arith, i .link .room, c .before .before .good .0 .1)
 
--- src/lib.rt:70:17
 shared-slice-read-e : tie.Need-shared-slice-read-e Inv-loop μ-loop
 shared-slice-read-e c = let i = inside (c .before) in omega (arith, i .link .room)
 
--- src/lib.rt:73:17
 returns : tie.Need-returns Inv-loop μ-loop
 returns c = along-hit (c .before .before .before .before .loop .inv) (pos (c .before .before .before)) (λ t us l. share-hit _ _ us l (c .before .if1 .taken) (c .if2 .taken))
 
--- src/lib.rt:69:5
 loop-less : tie.Need-loop-less Inv-loop μ-loop
 loop-less c = let i = inside (c .before .before) in i .link .back
 
--- src/lib.rt:69:5
 loop-again : tie.Need-loop-again Inv-loop μ-loop
 loop-again c = along-next (c .before .before .before .loop .inv) (pos (c .before .before)) (λ t us l. share-miss _ _ us l (⊎-elim (λ w. inr (w .1 .left)) (λ w. inl (w .left)) (c .if1 .came))) refl
 
--- src/lib.rt:62:1
 returns-2 : tie.Need-returns-2 Inv-loop μ-loop
 returns-2 c = along-end (c .before .loop .inv) (c .loop-test .left) refl
 

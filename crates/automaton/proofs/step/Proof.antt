@@ -26,39 +26,30 @@ pos c = omega arith
 inside : (c : tie.In-loop Inv-loop μ-loop) → At (now (c .before .before .before .args .edges)) (c .before .loop .h)
 inside c = along-at (c .before .loop .inv) (c .before .before .before .pre) (pos c)
 
--- src/lib.rt:51:5
 loop-holds : tie.Need-loop-holds Inv-loop μ-loop
 loop-holds c = along-start _ _ _
 
--- src/lib.rt:52:23
 sub-e : tie.Need-sub-e Inv-loop μ-loop
 sub-e c = search needs
 
--- src/lib.rt:52:17
 mul-e : tie.Need-mul-e Inv-loop μ-loop
 mul-e c = let i = inside c in omega (arith, i .link .room, c .before .before .before .good .0 .1)
 
--- src/lib.rt:52:17
 shared-slice-read-e : tie.Need-shared-slice-read-e Inv-loop μ-loop
 shared-slice-read-e c = let i = inside (c .before) in omega (arith, i .link .room)
 
--- src/lib.rt:53:12
 covers-requires : tie.Need-covers-requires Inv-loop μ-loop
 covers-requires c κs = search needs
 
--- src/lib.rt:54:13
 returns : tie.Need-returns Inv-loop μ-loop
 returns c = along-hit (c .before .before .before .before .loop .inv) (pos (c .before .before .before)) (λ t us l. pick-hit _ _ us l (sym (c .before .covers .ensures) ∙ c .if1 .taken))
 
--- src/lib.rt:51:5
 loop-less : tie.Need-loop-less Inv-loop μ-loop
 loop-less c = let i = inside (c .before .before .before) in i .link .back
 
--- src/lib.rt:51:5
 loop-again : tie.Need-loop-again Inv-loop μ-loop
 loop-again c = along-next (c .before .before .before .before .loop .inv) (pos (c .before .before .before)) (λ t us l. pick-miss _ _ us l (sym (c .before .covers .ensures) ∙ c .if1 .left)) refl
 
--- src/lib.rt:46:1
 returns-2 : tie.Need-returns-2 Inv-loop μ-loop
 returns-2 c = along-end (c .before .loop .inv) (c .loop-test .left) (pick-none _ _)
 

@@ -1,8 +1,8 @@
 use denote.Ref.{now}
-use Rattle.book.specs.declared.cursor.Command.{Command}
-use Rattle.book.specs.declared.cursor.Cursor.{Cursor}
-use Rattle.book.specs.declared.cursor.Decoded.the-variants as decoded
-use Rattle.book.specs.Commands.{byteAt, commandAt}
+use Rattle.command.specs.declared.Command.{Command}
+use Rattle.command.specs.declared.Cursor.{Cursor}
+use Rattle.command.specs.declared.Decoded.the-variants as decoded
+use Rattle.command.specs.Commands.{byteAt, commandAt}
 use mathlib.Core.Path.{_≡_, refl, sym, _∙_, ap}
 use Prim.Native.Nat.{ℕ, _-_, _<_, _≤_}
 use native.Mathlib.Omega.{arith}
@@ -13,10 +13,10 @@ use Rattle.book.proofs.load.Statement.{statement}
 use Rattle.book.proofs.load.Tie as tie
 use Rattle.book.proofs.load.Reads as reads
 use Rattle.book.proofs.load.Lts as lts
-use Rattle.book.proofs.cursor.Cursor.command.Reads as command-reads
-use Rattle.book.proofs.cursor.Cursor.new.Reads as cursor-Cursor-new-reads
-use Rattle.book.proofs.reading.Book.apply.Reads as apply-reads
-use Rattle.book.proofs.reading.Book.new.Reads as reading-Book-new-reads
+use Rattle.command.proofs.Cursor.command.Reads as command-reads
+use Rattle.command.proofs.Cursor.new.Reads as cursor-Cursor-new-reads
+use Rattle.book.proofs.apply.Reads as apply-reads
+use Rattle.reading.proofs.Book.new.Reads as reading-Book-new-reads
 use Rattle.book.proofs.refused.Reads as refused-reads
 
 abbrev Inv-loop : tie.InvT-loop
@@ -57,83 +57,63 @@ kept-cells c = c .loop .inv .holds .stored .sized .cells ∙ sym (c .before .bef
 kept-edges : (c : Loop) → length (c .loop .edges) ≡ length (now (c .before .before .before .before .before .before .before .before .args .edges))
 kept-edges c = c .loop .inv .holds .stored .sized .edges ∙ sym (c .before .before .before .before .before .before .before .before .pre .sized .edges)
 
--- src/lib.rt:27:9
 refused-requires : tie.Need-refused-requires Inv-loop μ-loop
 refused-requires c κs = search needs
 
--- src/lib.rt:27:9
 returns : tie.Need-returns Inv-loop μ-loop
 returns c = loaded-refused (read-too-long _ (c .before .if1 .taken)) (c .refused .ensures)
 
--- src/lib.rt:29:9
 new-requires : tie.Need-new-requires Inv-loop μ-loop
 new-requires c κs = search needs
 
--- src/lib.rt:30:9
 new-requires-2 : tie.Need-new-requires-2 Inv-loop μ-loop
 new-requires-2 c κs = search needs
 
--- src/lib.rt:31:5
 loop-holds : tie.Need-loop-holds Inv-loop μ-loop
 loop-holds c = going-start (c .before .before .before .before .before .before .before .pre) (c .before .before .if1 .left) (c .new2 .ensures) (c .before .new .ensures)
 
--- src/lib.rt:33:15
 command-requires : tie.Need-command-requires Inv-loop μ-loop
 command-requires c κs = c .if2 .taken
 
--- src/lib.rt:34:35
 enum-told : tie.Need-enum-told Inv-loop μ-loop
 enum-told c = search needs
 
--- src/lib.rt:34:35
 refused-requires-2 : tie.Need-refused-requires-2 Inv-loop μ-loop
 refused-requires-2 c κs = search needs
 
--- src/lib.rt:34:35
 same-length : tie.Need-same-length Inv-loop μ-loop
 same-length c = kept-headers (c .before .before .before .before .before .before)
 
--- src/lib.rt:34:35
 same-length-2 : tie.Need-same-length-2 Inv-loop μ-loop
 same-length-2 c = kept-cells (c .before .before .before .before .before .before)
 
--- src/lib.rt:34:35
 same-length-3 : tie.Need-same-length-3 Inv-loop μ-loop
 same-length-3 c = kept-edges (c .before .before .before .before .before .before)
 
--- src/lib.rt:34:35
 returns-2 : tie.Need-returns-2 Inv-loop μ-loop
 returns-2 c = loaded-refused (going-takes (c .before .before .before .before .before .before .loop .inv) (c .before .before .before .before .if2 .taken) _ (sym (c .before .enum-told .given .1) ∙ c .before .before .before .command .ensures) .same) (c .refused2 .ensures)
 
--- src/lib.rt:35:32
 enum-told-2 : tie.Need-enum-told-2 Inv-loop μ-loop
 enum-told-2 c = search needs
 
--- src/lib.rt:35:32
 refused-requires-3 : tie.Need-refused-requires-3 Inv-loop μ-loop
 refused-requires-3 c κs = search needs
 
--- src/lib.rt:35:32
 same-length-4 : tie.Need-same-length-4 Inv-loop μ-loop
 same-length-4 c = kept-headers (c .before .before .before .before .before .before)
 
--- src/lib.rt:35:32
 same-length-5 : tie.Need-same-length-5 Inv-loop μ-loop
 same-length-5 c = kept-cells (c .before .before .before .before .before .before)
 
--- src/lib.rt:35:32
 same-length-6 : tie.Need-same-length-6 Inv-loop μ-loop
 same-length-6 c = kept-edges (c .before .before .before .before .before .before)
 
--- src/lib.rt:35:32
 returns-3 : tie.Need-returns-3 Inv-loop μ-loop
 returns-3 c = loaded-refused (going-takes (c .before .before .before .before .before .before .loop .inv) (c .before .before .before .before .if2 .taken) _ (sym (c .before .enum-told2 .given .1) ∙ c .before .before .before .command .ensures) .same) (c .refused3 .ensures)
 
--- src/lib.rt:36:30
 enum-known-command : tie.Need-enum-known-command Inv-loop μ-loop
 enum-known-command c = search needs
 
--- src/lib.rt:36:54
 apply-requires : tie.Need-apply-requires Inv-loop μ-loop
 apply-requires c κs =
     let k = c .before .before .before in
@@ -141,11 +121,9 @@ apply-requires c κs =
     let w = commanded g (k .before .before .before .before .if2 .taken) (bytes k) (cmd k) (cur k) (found k) in
     (record { draft = g .draft; holds = g .holds }, (sym (w .stands), edges-left g (k .before .before .before .before .if2 .taken) (bytes k) (cmd k) (cur k) (found k), k .before .before .before .before .if2 .taken))
 
--- src/lib.rt:37:30
 enum-known-on : tie.Need-enum-known-on Inv-loop μ-loop
 enum-known-on c = search needs
 
--- src/lib.rt:31:5
 loop-less : tie.Need-loop-less Inv-loop μ-loop
 loop-less c =
     let k = c .before .before .before .before .before .before .before .before .before .before .before .before .before in
@@ -154,67 +132,51 @@ loop-less c =
     let l = k .before .before .before .before .if2 .taken in
     falls _ _ _ l f
 
--- src/lib.rt:31:5
 loop-again : tie.Need-loop-again Inv-loop μ-loop
 loop-again c = let k = c .before .before .before .before .before .before .before .before .before .before .before .before .before in going-on (k .before .before .before .before .before .before .loop .inv) (k .before .before .before .before .if2 .taken) (bytes k) (cmd k) (cur k) (found k) _ _ _ _ (c .before .before .before .before .before .before .before .before .before .apply .ensures) _ (c .before .on .given .1)
 
--- src/lib.rt:41:32
 enum-known-rules : tie.Need-enum-known-rules Inv-loop μ-loop
 enum-known-rules c = search needs
 
--- src/lib.rt:41:42
 same-length-7 : tie.Need-same-length-7 Inv-loop μ-loop
 same-length-7 c = c .before .before .before .before .before .before .before .before .before .apply .kept .1 .1 .1 .1 .0 ∙ kept-headers (c .before .before .before .before .before .before .before .before .before .before .before .before .before .before .before .before .before .before .before)
 
--- src/lib.rt:41:42
 same-length-8 : tie.Need-same-length-8 Inv-loop μ-loop
 same-length-8 c = c .before .before .before .before .before .before .before .before .before .apply .kept .1 .1 .1 .1 .1 .0 ∙ kept-cells (c .before .before .before .before .before .before .before .before .before .before .before .before .before .before .before .before .before .before .before)
 
--- src/lib.rt:41:42
 same-length-9 : tie.Need-same-length-9 Inv-loop μ-loop
 same-length-9 c = c .before .before .before .before .before .before .before .before .before .apply .kept .1 .1 .1 .1 .1 .1 .0 ∙ kept-edges (c .before .before .before .before .before .before .before .before .before .before .before .before .before .before .before .before .before .before .before)
 
--- src/lib.rt:41:42
 returns-4 : tie.Need-returns-4 Inv-loop μ-loop
 returns-4 c = let k = c .before .before .before .before .before .before .before .before .before .before .before .before .before in going-done (k .before .before .before .before .before .before .loop .inv) (k .before .before .before .before .if2 .taken) (bytes k) (cmd k) (cur k) (found k) _ _ _ _ (c .before .before .before .before .before .before .before .before .before .apply .ensures) _ (c .before .rules .given .1)
 
--- src/lib.rt:42:35
 enum-known-refusal : tie.Need-enum-known-refusal Inv-loop μ-loop
 enum-known-refusal c = search needs
 
--- src/lib.rt:42:47
 same-length-10 : tie.Need-same-length-10 Inv-loop μ-loop
 same-length-10 c = c .before .before .before .before .before .before .before .before .before .apply .kept .1 .1 .1 .1 .0 ∙ kept-headers (c .before .before .before .before .before .before .before .before .before .before .before .before .before .before .before .before .before .before .before)
 
--- src/lib.rt:42:47
 same-length-11 : tie.Need-same-length-11 Inv-loop μ-loop
 same-length-11 c = c .before .before .before .before .before .before .before .before .before .apply .kept .1 .1 .1 .1 .1 .0 ∙ kept-cells (c .before .before .before .before .before .before .before .before .before .before .before .before .before .before .before .before .before .before .before)
 
--- src/lib.rt:42:47
 same-length-12 : tie.Need-same-length-12 Inv-loop μ-loop
 same-length-12 c = c .before .before .before .before .before .before .before .before .before .apply .kept .1 .1 .1 .1 .1 .1 .0 ∙ kept-edges (c .before .before .before .before .before .before .before .before .before .before .before .before .before .before .before .before .before .before .before)
 
--- src/lib.rt:42:47
 returns-5 : tie.Need-returns-5 Inv-loop μ-loop
 returns-5 c = let k = c .before .before .before .before .before .before .before .before .before .before .before .before .before in going-refused (k .before .before .before .before .before .before .loop .inv) (k .before .before .before .before .if2 .taken) (bytes k) (cmd k) (cur k) (found k) _ _ _ _ (c .before .before .before .before .before .before .before .before .before .apply .ensures) _ (c .before .refusal .given .1)
 
--- src/lib.rt:46:5
 refused-requires-4 : tie.Need-refused-requires-4 Inv-loop μ-loop
 refused-requires-4 c κs = search needs
 
--- src/lib.rt:21:1
 same-length-13 : tie.Need-same-length-13 Inv-loop μ-loop
 same-length-13 c = kept-headers (c .before .before .before)
 
--- src/lib.rt:21:1
 same-length-14 : tie.Need-same-length-14 Inv-loop μ-loop
 same-length-14 c = kept-cells (c .before .before .before)
 
--- src/lib.rt:21:1
 same-length-15 : tie.Need-same-length-15 Inv-loop μ-loop
 same-length-15 c = kept-edges (c .before .before .before)
 
--- src/lib.rt:21:1
 returns-6 : tie.Need-returns-6 Inv-loop μ-loop
 returns-6 c = loaded-refused (going-stops (c .before .before .before .loop .inv) (c .before .if2 .left)) (c .refused4 .ensures)
 

@@ -1,4 +1,4 @@
-use Rattle.book.proofs.Filling.{fresh-zeros}
+use Rattle.reading.proofs.Filling.{fresh-zeros}
 use borrow.Author.Needs.{needs}
 use Rattle.book.proofs.read.Statement.{statement}
 use Rattle.book.proofs.read.Tie as tie
@@ -6,11 +6,9 @@ use Rattle.book.proofs.read.Reads as reads
 use Rattle.book.proofs.read.Lts as lts
 use Rattle.book.proofs.load_arrays.Reads as load-arrays-reads
 
--- src/lib.rt:70:5
 load-arrays-requires : tie.Need-load-arrays-requires
 load-arrays-requires c κs = fresh-zeros
 
--- src/lib.rt:64:1
 returns : tie.Need-returns
 returns c = search needs
 

@@ -9,19 +9,15 @@ use Rattle.book_cases.proofs.show_front.Reads as reads
 use Rattle.book_cases.proofs.show_front.Lts as lts
 use Rattle.book_cases.proofs.show.Reads as show-reads
 
--- src/main.rt:139:20
 slice-aggregate-show : tie.Need-slice-aggregate-show
 slice-aggregate-show c = simp length-take (omega arith)
 
--- src/main.rt:139:9
 show-requires : tie.Need-show-requires
 show-requires c κs = search needs
 
--- src/main.rt:137:1
 returns : tie.Need-returns
 returns c = search needs
 
--- src/main.rt:137:1
 returns-2 : tie.Need-returns-2
 returns-2 c = search needs
 

@@ -17,67 +17,51 @@ Inv-loop name room₀ moves at₀ i₀ room at i = (i ≤ moves) × (length room
 abbrev μ-loop : tie.MeasureT-loop
 μ-loop name room₀ moves at₀ i₀ room at i = moves - i
 
--- src/main.rt:104:9
 begin-requires : tie.Need-begin-requires Inv-loop μ-loop
 begin-requires c κs = search needs
 
--- src/main.rt:105:5
 loop-holds : tie.Need-loop-holds Inv-loop μ-loop
 loop-holds c = (omega arith, refl)
 
--- src/main.rt:106:9
 put-requires : tie.Need-put-requires Inv-loop μ-loop
 put-requires c κs = search needs
 
--- src/main.rt:107:28
 cast-put : tie.Need-cast-put Inv-loop μ-loop
 cast-put c = search needs
 
--- src/main.rt:107:9
 put-requires-2 : tie.Need-put-requires-2 Inv-loop μ-loop
 put-requires-2 c κs = search needs
 
--- src/main.rt:108:28
 cast-put-2 : tie.Need-cast-put-2 Inv-loop μ-loop
 cast-put-2 c = search needs
 
--- src/main.rt:108:9
 put-requires-3 : tie.Need-put-requires-3 Inv-loop μ-loop
 put-requires-3 c κs = search needs
 
--- src/main.rt:109:9
 put-requires-4 : tie.Need-put-requires-4 Inv-loop μ-loop
 put-requires-4 c κs = search needs
 
--- src/main.rt:105:9
 add-i : tie.Need-add-i Inv-loop μ-loop
 add-i c = omega (arith, c .before .before .before .before .before .before .before .before .before .before .before .before .before .before .before .before .loop-test .taken, c .before .before .before .before .before .before .before .before .before .before .before .before .before .before .before .before .before .before .before .before .before .before .before .before .fits .moves)
 
--- src/main.rt:105:5
 loop-less : tie.Need-loop-less Inv-loop μ-loop
 loop-less c = omega (arith, c .before .before .before .before .before .before .before .before .before .before .before .before .before .before .before .before .loop-test .taken)
 
--- src/main.rt:105:5
 loop-again : tie.Need-loop-again Inv-loop μ-loop
 loop-again c = (omega (arith, c .before .before .before .before .before .before .before .before .before .before .before .before .before .before .before .before .loop-test .taken), c .before .before .put4 .kept .0 ∙ c .before .before .before .before .before .before .put3 .kept .0 ∙ c .before .before .before .before .before .before .before .before .before .before .put2 .kept .0 ∙ c .before .before .before .before .before .before .before .before .before .before .before .before .before .before .put .kept .0 ∙ c .before .before .before .before .before .before .before .before .before .before .before .before .before .before .before .before .before .loop .inv .1)
 
--- src/main.rt:111:5
 put-requires-5 : tie.Need-put-requires-5 Inv-loop μ-loop
 put-requires-5 c κs = search needs
 
--- src/main.rt:112:5
 put-requires-6 : tie.Need-put-requires-6 Inv-loop μ-loop
 put-requires-6 c κs = search needs
 
--- src/main.rt:113:5
 show-front-requires : tie.Need-show-front-requires Inv-loop μ-loop
 show-front-requires c κs = search needs
 
--- src/main.rt:103:1
 same-length : tie.Need-same-length Inv-loop μ-loop
 same-length c = c .before .before .before .before .put6 .kept .0 ∙ c .before .before .before .before .before .before .before .before .put5 .kept .0 ∙ c .before .before .before .before .before .before .before .before .before .before .before .loop .inv .1 ∙ c .before .before .before .before .before .before .before .before .before .before .before .before .before .before .begin .kept .0
 
--- src/main.rt:103:1
 returns : tie.Need-returns Inv-loop μ-loop
 returns c = search needs
 

@@ -17,47 +17,36 @@ Inv-loop name room₀ rules at₀ k₀ room at k = (k ≤ rules) × (length room
 abbrev μ-loop : tie.MeasureT-loop
 μ-loop name room₀ rules at₀ k₀ room at k = rules - k
 
--- src/main.rt:95:5
 loop-holds : tie.Need-loop-holds Inv-loop μ-loop
 loop-holds c = (omega arith, refl)
 
--- src/main.rt:96:30
 add-begin : tie.Need-add-begin Inv-loop μ-loop
 add-begin c = search needs
 
--- src/main.rt:96:9
 begin-requires : tie.Need-begin-requires Inv-loop μ-loop
 begin-requires c κs = search needs
 
--- src/main.rt:97:9
 put-requires : tie.Need-put-requires Inv-loop μ-loop
 put-requires c κs = search needs
 
--- src/main.rt:95:9
 add-k : tie.Need-add-k Inv-loop μ-loop
 add-k c = omega (arith, c .before .before .before .before .before .before .before .before .loop-test .taken, c .before .before .before .before .before .before .before .before .before .before .before .before .fits .rules)
 
--- src/main.rt:95:5
 loop-less : tie.Need-loop-less Inv-loop μ-loop
 loop-less c = omega (arith, c .before .before .before .before .before .before .before .before .loop-test .taken)
 
--- src/main.rt:95:5
 loop-again : tie.Need-loop-again Inv-loop μ-loop
 loop-again c = (omega (arith, c .before .before .before .before .before .before .before .before .loop-test .taken), c .before .before .put .kept .0 ∙ c .before .before .before .before .before .before .begin .kept .0 ∙ c .before .before .before .before .before .before .before .before .before .loop .inv .1)
 
--- src/main.rt:99:5
 put-requires-2 : tie.Need-put-requires-2 Inv-loop μ-loop
 put-requires-2 c κs = search needs
 
--- src/main.rt:100:5
 show-front-requires : tie.Need-show-front-requires Inv-loop μ-loop
 show-front-requires c κs = search needs
 
--- src/main.rt:93:1
 same-length : tie.Need-same-length Inv-loop μ-loop
 same-length c = c .before .before .before .before .put2 .kept .0 ∙ c .before .before .before .before .before .before .before .loop .inv .1
 
--- src/main.rt:93:1
 returns : tie.Need-returns Inv-loop μ-loop
 returns c = search needs
 

@@ -3,9 +3,10 @@ use Prim.Native.Nat.{_+_, _-_, _*_, _≤_}
 use native.Mathlib.Omega.{arith}
 use lib.ListN.{length, drop}
 use denote.Ref.{now}
-use Rattle.builtin.specs.Book.{builtinRules}
-use Rattle.builtin.proofs.Scanned.{Picked, picked}
-use Rattle.lexer.proofs.Turns.{cutting-within, cutting-stop, Filling, filling-start, filling-room, filling-next, filling-stop, lex-stop, lex-end}
+use Rattle.scanner.specs.Book.{builtinRules}
+use Rattle.scanner.proofs.Scanned.{Picked, picked}
+use Rattle.cutting.proofs.Turns.{cutting-within, cutting-stop, lex-stop, lex-end}
+use Rattle.records.proofs.Filling.{Filling, filling-start, filling-room, filling-next, filling-stop}
 use Rattle.builtin.proofs.fill.Statement.{statement}
 use Rattle.builtin.proofs.fill.Tie as tie
 

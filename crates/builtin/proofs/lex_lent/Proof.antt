@@ -4,10 +4,10 @@ use Prim.Native.Nat.{_≤_}
 use native.Mathlib.Omega.{arith}
 use lib.ListN.{length}
 use denote.Ref.{now}
-use Rattle.lexer.specs.Lexer.{lex}
-use Rattle.lexer.specs.Outcome.{recordCount}
-use Rattle.lexer.proofs.Lexing.{lex-few}
-use Rattle.builtin.specs.Book.{builtinRules}
+use Rattle.cutting.specs.Lexer.{lex}
+use Rattle.records.specs.Records.{recordCount}
+use Rattle.cutting.proofs.Lexing.{lex-few}
+use Rattle.scanner.specs.Book.{builtinRules}
 use Rattle.builtin.proofs.Outcome.{too-long, too-few, enough}
 use borrow.Author.Needs.{needs}
 use Rattle.builtin.proofs.lex_lent.Statement.{statement}

@@ -6,21 +6,17 @@ use Rattle.listing.proofs.put_record.Tie as tie
 use Rattle.listing.proofs.put_record.Reads as reads
 use Rattle.listing.proofs.put_record.Lts as lts
 use Rattle.listing.proofs.put_token.Reads as put-token-reads
-use Rattle.printer.proofs.tokens.read_record.Reads as read-record-reads
+use Rattle.pooled.proofs.read_record.Reads as read-record-reads
 
--- src/lib.rt:109:9
 read-record-requires : tie.Need-read-record-requires
 read-record-requires c κs = search needs
 
--- src/lib.rt:110:5
 put-token-requires : tie.Need-put-token-requires
 put-token-requires c κs = room-record _ _ (c .before .read-record .ensures .0) (c .before .before .before .before .pre .1)
 
--- src/lib.rt:104:1
 same-length : tie.Need-same-length
 same-length c = search needs
 
--- src/lib.rt:104:1
 returns : tie.Need-returns
 returns c = puts-record _ _ (c .before .before .before .before .read-record .ensures .0) (c .before .before .put-token .ensures)
 

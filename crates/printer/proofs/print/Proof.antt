@@ -1,6 +1,6 @@
 -- `print`: fresh tables and a scratch. Assumes nothing.
 use Prim.Native.Nat.{ℕ}
-use Rattle.book.proofs.Filling.{fresh-zeros}
+use Rattle.reading.proofs.Filling.{fresh-zeros}
 use lib.ListN.{length-replicate}
 use borrow.Author.Needs.{needs}
 use Rattle.printer.proofs.print.Statement.{statement}

@@ -6,9 +6,9 @@ use Rattle.printer.proofs.print_checked.Statement.{statement}
 use Rattle.printer.proofs.print_checked.Tie as tie
 use Rattle.printer.proofs.print_checked.Reads as reads
 use Rattle.printer.proofs.print_checked.Lts as lts
-use Rattle.printer.proofs.extended_within.Reads as extended-within-reads
-use Rattle.printer.proofs.lists.copy.Reads as copy-reads
-use Rattle.printer.proofs.lists.join_tokens.Reads as join-tokens-reads
+use Rattle.lists.proofs.extended_within.Reads as extended-within-reads
+use Rattle.lists.proofs.copy.Reads as copy-reads
+use Rattle.lists.proofs.join_tokens.Reads as join-tokens-reads
 use Rattle.printer.proofs.refused.Reads as refused-reads
 
 refused-requires : tie.Need-refused-requires

@@ -6,7 +6,7 @@ use Rattle.printer.proofs.print_rules.Statement.{statement}
 use Rattle.printer.proofs.print_rules.Tie as tie
 use Rattle.printer.proofs.print_rules.Reads as reads
 use Rattle.printer.proofs.print_rules.Lts as lts
-use Rattle.printer.proofs.lists.measure.Reads as measure-reads
+use Rattle.lists.proofs.measure.Reads as measure-reads
 use Rattle.printer.proofs.print_checked.Reads as print-checked-reads
 use Rattle.printer.proofs.refused.Reads as refused-reads
 

@@ -1,19 +1,19 @@
 -- `print_passed` writes what is put together. Assumes nothing.
 use mathlib.Core.Path.{_∙_}
 use denote.Ref.{now}
-use Rattle.separated.specs.Outcome.{spelled}
-use Rattle.separated.proofs.Answering.{answered-full, answered-at}
+use Rattle.spacing.specs.Separators.{spelled}
+use Rattle.separated.proofs.Answering.{passed-spaceable, answered-full, answered-at}
 use borrow.Author.Needs.{needs}
 use Rattle.separated.proofs.print_passed.Statement.{statement}
 use Rattle.separated.proofs.print_passed.Tie as tie
 use Rattle.separated.proofs.print_passed.Reads as reads
 use Rattle.separated.proofs.print_passed.Lts as lts
 use Rattle.separated.proofs.refused.Reads as refused-reads
-use Rattle.separated.proofs.spacing.put_list.Reads as put-list-reads
+use Rattle.spacing.proofs.put_list.Reads as put-list-reads
 use Rattle.separated.proofs.write_from.Reads as write-from-reads
 
 put-list-requires : tie.Need-put-list-requires
-put-list-requires c κs = search needs
+put-list-requires c κs = passed-spaceable (c .before .before .before .before .before .before .before .before .pre .0)
 
 enum-known-at : tie.Need-enum-known-at
 enum-known-at c = search needs

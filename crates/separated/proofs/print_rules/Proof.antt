@@ -7,7 +7,7 @@ use Rattle.separated.proofs.print_rules.Statement.{statement}
 use Rattle.separated.proofs.print_rules.Tie as tie
 use Rattle.separated.proofs.print_rules.Reads as reads
 use Rattle.separated.proofs.print_rules.Lts as lts
-use Rattle.separated.proofs.checks.check_call.Reads as check-call-reads
+use Rattle.checks.proofs.check_call.Reads as check-call-reads
 use Rattle.separated.proofs.print_passed.Reads as print-passed-reads
 
 check-call-requires : tie.Need-check-call-requires

@@ -1,6 +1,6 @@
 -- `print_separated` answers `separatedOutcome`: its arrays are fresh. Assumes nothing.
 use Prim.Native.Nat.{ℕ}
-use Rattle.book.proofs.Filling.{fresh-zeros}
+use Rattle.reading.proofs.Filling.{fresh-zeros}
 use lib.ListN.{length-replicate}
 use borrow.Author.Needs.{needs}
 use Rattle.separated.proofs.print_separated.Statement.{statement}

@@ -8,27 +8,21 @@ use Rattle.zagvulem.proofs.lexed.Lts as lts
 use Rattle.zagvulem.proofs.accepted.Reads as accepted-reads
 use Rattle.zagvulem.proofs.refused.Reads as refused-reads
 
--- src/lib.rt:35:28
 enum-known-answer : tie.Need-enum-known-answer
 enum-known-answer c = search needs
 
--- src/lib.rt:35:46
 accepted-requires : tie.Need-accepted-requires
 accepted-requires c κs = search needs
 
--- src/lib.rt:36:28
 enum-known-answer-2 : tie.Need-enum-known-answer-2
 enum-known-answer-2 c = search needs
 
--- src/lib.rt:36:40
 refused-requires : tie.Need-refused-requires
 refused-requires c κs = search needs
 
--- src/lib.rt:31:1
 returns : tie.Need-returns
 returns c = c .accepted .ensures ∙ ap lexWord (sym (c .before .before .answer .given .1))
 
--- src/lib.rt:31:1
 returns-2 : tie.Need-returns-2
 returns-2 c = c .refused .ensures ∙ ap lexWord (sym (c .before .before .answer2 .given .1))
 

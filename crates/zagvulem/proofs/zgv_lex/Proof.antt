@@ -5,22 +5,18 @@ use Rattle.zagvulem.proofs.zgv_lex.Statement.{statement}
 use Rattle.zagvulem.proofs.zgv_lex.Tie as tie
 use Rattle.zagvulem.proofs.zgv_lex.Reads as reads
 use Rattle.zagvulem.proofs.zgv_lex.Lts as lts
-use Rattle.lexer.proofs.operation.lex.Reads as lex-reads
+use Rattle.lexer.proofs.lex.Reads as lex-reads
 use Rattle.zagvulem.proofs.lexed.Reads as lexed-reads
 
--- src/lib.rt:28:11
 lex-requires : tie.Need-lex-requires
 lex-requires c κs = search needs
 
--- src/lib.rt:28:5
 lexed-requires : tie.Need-lexed-requires
 lexed-requires c κs = search needs
 
--- src/lib.rt:23:1
 same-length : tie.Need-same-length
 same-length c = search needs
 
--- src/lib.rt:23:1
 returns : tie.Need-returns
 returns c = (c .lexed .ensures ∙ ap lexWord (c .before .before .before .lex .ensures .0), c .before .before .before .lex .ensures .1)
 

@@ -8,19 +8,15 @@ use Rattle.zagvulem.proofs.zgv_lex_builtin.Lts as lts
 use Rattle.builtin.proofs.lex_builtin.Reads as lex-builtin-reads
 use Rattle.zagvulem.proofs.lexed.Reads as lexed-reads
 
--- src/lib.rt:40:11
 lex-builtin-requires : tie.Need-lex-builtin-requires
 lex-builtin-requires c κs = search needs
 
--- src/lib.rt:40:5
 lexed-requires : tie.Need-lexed-requires
 lexed-requires c κs = search needs
 
--- src/lib.rt:35:1
 same-length : tie.Need-same-length
 same-length c = search needs
 
--- src/lib.rt:35:1
 returns : tie.Need-returns
 returns c = (c .lexed .ensures ∙ ap lexWord (c .before .before .before .lex-builtin .ensures .0), c .before .before .before .lex-builtin .ensures .1)
 

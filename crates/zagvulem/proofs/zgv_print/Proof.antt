@@ -8,19 +8,15 @@ use Rattle.zagvulem.proofs.zgv_print.Lts as lts
 use Rattle.printer.proofs.print.Reads as print-reads
 use Rattle.zagvulem.proofs.printed.Reads as printed-reads
 
--- src/lib.rt:49:13
 print-requires : tie.Need-print-requires
 print-requires c κs = search needs
 
--- src/lib.rt:49:5
 printed-requires : tie.Need-printed-requires
 printed-requires c κs = search needs
 
--- src/lib.rt:44:1
 same-length : tie.Need-same-length
 same-length c = search needs
 
--- src/lib.rt:44:1
 returns : tie.Need-returns
 returns c = (c .printed .ensures ∙ ap printWord (c .before .before .before .print .ensures .0), c .before .before .before .print .ensures .1)
 

@@ -8,19 +8,15 @@ use Rattle.zagvulem.proofs.zgv_print_separated.Lts as lts
 use Rattle.separated.proofs.print_separated.Reads as print-separated-reads
 use Rattle.zagvulem.proofs.printed.Reads as printed-reads
 
--- src/lib.rt:74:13
 print-separated-requires : tie.Need-print-separated-requires
 print-separated-requires c κs = search needs
 
--- src/lib.rt:74:5
 printed-requires : tie.Need-printed-requires
 printed-requires c κs = search needs
 
--- src/lib.rt:55:1
 same-length : tie.Need-same-length
 same-length c = search needs
 
--- src/lib.rt:55:1
 returns : tie.Need-returns
 returns c = (c .printed .ensures ∙ ap printWord (c .before .before .before .print-separated .ensures .0), c .before .before .before .print-separated .ensures .1)
 

@@ -9,31 +9,24 @@ use Rattle.book.proofs.read.Reads as read-reads
 use Rattle.zagvulem.proofs.accepted.Reads as accepted-reads
 use Rattle.zagvulem.proofs.refused.Reads as refused-reads
 
--- src/lib.rt:14:11
 read-requires : tie.Need-read-requires
 read-requires c κs = search needs
 
--- src/lib.rt:15:30
 enum-known-rules : tie.Need-enum-known-rules
 enum-known-rules c = search needs
 
--- src/lib.rt:15:40
 accepted-requires : tie.Need-accepted-requires
 accepted-requires c κs = search needs
 
--- src/lib.rt:16:29
 enum-known-refusal : tie.Need-enum-known-refusal
 enum-known-refusal c = search needs
 
--- src/lib.rt:16:41
 refused-requires : tie.Need-refused-requires
 refused-requires c κs = search needs
 
--- src/lib.rt:10:1
 returns : tie.Need-returns
 returns c = c .accepted .ensures ∙ ap bookWord (sym (c .before .before .rules .given .1) ∙ c .before .before .before .before .read .ensures)
 
--- src/lib.rt:10:1
 returns-2 : tie.Need-returns-2
 returns-2 c = c .refused .ensures ∙ ap bookWord (sym (c .before .before .refusal .given .1) ∙ c .before .before .before .before .read .ensures)
 

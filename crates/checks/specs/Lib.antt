@@ -1,0 +1,2 @@
+-- What a call is refused for before anything is put together.
+pub mod Refusals

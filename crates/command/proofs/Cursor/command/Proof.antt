@@ -1,0 +1,60 @@
+use borrow.Author.Tests.{eq-eqb, ne-eqb, le-leb, lt-leb, not-true, not-false}
+use mathlib.Core.Path.{_≡_, refl, sym, _∙_, ap}
+use native.Mathlib.Omega.{arith}
+use denote.Ref.{now}
+use lib.ListN.{getD}
+use Prim.Native.Nat.{_+_}
+use Rattle.command.specs.Commands.{commandAt, operandsOf, placed}
+use Rattle.command.proofs.Commands.{operands-le}
+use borrow.Author.Needs.{needs}
+use Rattle.command.proofs.Cursor.command.Statement.{statement}
+use Rattle.command.proofs.Cursor.command.Tie as tie
+use Rattle.command.proofs.Cursor.command.Reads as reads
+use Rattle.command.proofs.Cursor.command.Lts as lts
+use Rattle.command.proofs.command_of.Reads as command-of-reads
+use Rattle.command.proofs.is_placed.Reads as is-placed-reads
+use Rattle.command.proofs.operands.Reads as operands-reads
+
+shared-slice-read-code : tie.Need-shared-slice-read-code
+shared-slice-read-code c = search needs
+
+is-placed-requires : tie.Need-is-placed-requires
+is-placed-requires c κs = search needs
+
+returns : tie.Need-returns
+unfolding commandAt
+returns c = rw (sym (c .before .is-placed .ensures) ∙ not-true _ (c .if1 .taken))
+
+add-next : tie.Need-add-next
+add-next c = search needs
+
+operands-requires : tie.Need-operands-requires
+operands-requires c κs = search needs
+
+add-next-2 : tie.Need-add-next-2
+add-next-2 c = omega (arith, c .operands .ensures, operands-le (getD (now (c .before .before .before .before .before .args .book)) (c .before .before .before .before .before .args .self .at) 0))
+
+returns-2 : tie.Need-returns-2
+unfolding commandAt
+returns-2 c = let h : _ ≡ _ = c .before .operands .ensures in rw (sym (c .before .before .before .is-placed .ensures) ∙ not-false _ (c .before .before .if1 .left), ← h, lt-leb _ _ (c .if2 .taken))
+
+command-of-requires : tie.Need-command-of-requires
+command-of-requires c κs = search needs
+
+returns-3 : tie.Need-returns-3
+unfolding commandAt
+returns-3 c = let h : _ ≡ _ = c .before .before .operands .ensures in rw (sym (c .before .before .before .before .is-placed .ensures) ∙ not-false _ (c .before .before .before .if1 .left), ← h, le-leb _ _ (c .before .if2 .left), c .command-of .ensures)
+
+pub command-spec : {M : Type 1} → statement M
+command-spec =
+    tie.close
+    (tie.spec
+    shared-slice-read-code
+    is-placed-requires
+    returns
+    add-next
+    operands-requires
+    add-next-2
+    returns-2
+    command-of-requires
+    returns-3)

@@ -1,0 +1,47 @@
+-- The commands of a book, as they stand in its bytes.
+use Prim.Native.Nat.{ℕ, _+_, _*_}
+use mathlib.Core.Bool.{Bool, true, false, not, _&&_, _||_}
+use mathlib.Core.List.{List}
+use lib.Dec.{leb, eqb}
+use lib.ListN.{length, getD}
+use Rattle.automaton.specs.Choice.{if}
+use Rattle.command.specs.declared.Command.{Command}
+use Rattle.command.specs.declared.Command.the-variants as command
+use Rattle.command.specs.declared.Decoded.{Decoded}
+use Rattle.command.specs.declared.Decoded.the-variants as decoded
+
+abbrev pub byteAt : List ℕ → ℕ → ℕ
+byteAt bytes i = getD bytes i 0
+
+-- a two-byte number, high byte first
+abbrev pub pairAt : List ℕ → ℕ → ℕ
+pairAt bytes i = byteAt bytes i * 256 + byteAt bytes (i + 1)
+
+-- RULE (1) and END (8) stand only outside a rule, 2 to 7 only inside one; nothing else is a command
+unfoldable pub placed : ℕ → Bool → Bool
+placed code inside = if (eqb code 1 || eqb code 8) (not inside) (if (leb 2 code && leb code 7) inside false)
+
+-- operand bytes
+unfoldable pub operandsOf : ℕ → ℕ
+operandsOf code =
+    if (eqb code 1) 3 (if (eqb code 2 || (eqb code 3 || eqb code 4)) 1 (if (eqb code 5) 3 (if (eqb code 6) 4 0)))
+
+-- the command that stands at `at`, with its operands behind it
+unfoldable pub decode : List ℕ → ℕ → ℕ → Command
+decode bytes at code =
+    if (eqb code 1) (command.Rule (pairAt bytes (at + 1)) (byteAt bytes (at + 3)))
+    (if (eqb code 2) (command.Start (byteAt bytes (at + 1)))
+    (if (eqb code 3) (command.Error (byteAt bytes (at + 1)))
+    (if (eqb code 4) (command.Final (byteAt bytes (at + 1)))
+    (if (eqb code 5) (command.Step (byteAt bytes (at + 1)) (byteAt bytes (at + 2)) (byteAt bytes (at + 3)))
+    (if (eqb code 6) (command.Span (byteAt bytes (at + 1)) (byteAt bytes (at + 2)) (byteAt bytes (at + 3)) (byteAt bytes (at + 4)))
+    (if (eqb code 7) command.Close command.End))))))
+
+-- Refusal 3 comes before 2: whether the command may stand here, then whether its operands are there.
+unfoldable pub commandAt : List ℕ → ℕ → Bool → Decoded
+commandAt bytes at inside =
+    if (placed (byteAt bytes at) inside)
+    (if (leb (at + 1 + operandsOf (byteAt bytes at)) (length bytes))
+    (decoded.Command (decode bytes at (byteAt bytes at)) (record { at = at + 1 + operandsOf (byteAt bytes at) }))
+    decoded.CutOff)
+    decoded.Misplaced

@@ -1,0 +1,2 @@
+-- The commands of a book.
+pub mod Commands

@@ -1,0 +1,127 @@
+// The commands of a book, and the cursor that reads them.
+ghost use mathlib.Core.Path.{_≡_};
+ghost use mathlib.Core.Bool.{true};
+ghost use Prim.Native.Nat.{_+_, _≤_, _<_};
+ghost use lib.ListN.{length};
+ghost use Rattle.command.specs.Commands.{placed, operandsOf, decode, commandAt};
+
+// A command with its operands, under the names of document 01.
+pub enum Command {
+    Rule { tag: u16, kind: u8 },
+    Start(u8),
+    Error(u8),
+    Final(u8),
+    Step { from: u8, byte: u8, to: u8 },
+    Span { from: u8, low: u8, high: u8, to: u8 },
+    Close,
+    End,
+}
+
+// What stands at a cursor: a command and the cursor past it, a byte that is no command or not one for this place, or a
+// command whose operands run past the end.
+pub enum Decoded {
+    Command(Command, Cursor),
+    Misplaced,
+    CutOff,
+}
+
+// A place in a book at which a command begins. Reading hands it back moved.
+pub struct Cursor {
+    pub at: usize,
+}
+
+impl Cursor {
+    pub fn new() -> Cursor
+        ensures { λ r. ⌜ r .at ≡ 0 ⌝ }
+    {
+        Cursor { at: 0 }
+    }
+
+    // The command at the cursor; `inside`: it stands inside a rule.
+    pub fn command(self, book: &[u8], inside: bool) -> Decoded
+        requires { ⌜ self .at < length (now book) ⌝ }
+        ensures { λ r. ⌜ r ≡ commandAt (now (book .entry)) (self .at) inside ⌝ }
+    {
+        let at = self.at;
+        let code = book[at];
+        if !is_placed(code, inside) {
+            return Decoded::Misplaced;
+        }
+        let next = at + 1 + operands(code);
+        if book.len() < next {
+            return Decoded::CutOff;
+        }
+        Decoded::Command(command_of(book, at, code), Cursor { at: next })
+    }
+}
+
+// Whether `code` is a command that may stand inside a rule, or outside one.
+fn is_placed(code: u8, inside: bool) -> bool
+    ensures { λ r. ⌜ r ≡ placed code inside ⌝ }
+{
+    if code == 1 {
+        return !inside;
+    }
+    if code == 8 {
+        return !inside;
+    }
+    if code < 2 {
+        return false;
+    }
+    if 7 < code {
+        return false;
+    }
+    inside
+}
+
+// The number of operand bytes of a command.
+fn operands(code: u8) -> usize
+    ensures { λ r. ⌜ r ≡ operandsOf code ⌝ }
+{
+    match code {
+        1 => 3,
+        2 => 1,
+        3 => 1,
+        4 => 1,
+        5 => 3,
+        6 => 4,
+        _ => 0,
+    }
+}
+
+// The command `code` whose operands begin after `at`.
+fn command_of(book: &[u8], at: usize, code: u8) -> Command
+    requires { ⌜ at + 1 + operandsOf code ≤ length (now book) ⌝ }
+    ensures { λ r. ⌜ r ≡ decode (now (book .entry)) at code ⌝ }
+{
+    match code {
+        1 => Command::Rule {
+            tag: pair(book, at + 1),
+            kind: book[at + 3],
+        },
+        2 => Command::Start(book[at + 1]),
+        3 => Command::Error(book[at + 1]),
+        4 => Command::Final(book[at + 1]),
+        5 => Command::Step {
+            from: book[at + 1],
+            byte: book[at + 2],
+            to: book[at + 3],
+        },
+        6 => Command::Span {
+            from: book[at + 1],
+            low: book[at + 2],
+            high: book[at + 3],
+            to: book[at + 4],
+        },
+        7 => Command::Close,
+        _ => Command::End,
+    }
+}
+
+// The two-byte number at `at`, high byte first.
+fn pair(book: &[u8], at: usize) -> u16
+    requires { ⌜ at + 1 < length (now book) ⌝ }
+    ensures { λ r. ⌜ r ≡ Rattle.command.specs.Commands.pairAt (now (book .entry)) at ⌝ }
+{
+    (book[at] as u16) * 256 + (book[at + 1] as u16)
+}

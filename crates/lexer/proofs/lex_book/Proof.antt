@@ -1,0 +1,62 @@
+-- `lex_book`: the tables hold the rules of an accepted book. Assumes nothing.
+use Rattle.lexer.proofs.Outcomes.{loaded-held, answered-book, answered-refused}
+use borrow.Author.Needs.{needs}
+use Rattle.lexer.proofs.lex_book.Statement.{statement}
+use Rattle.lexer.proofs.lex_book.Tie as tie
+
+load-requires : tie.Need-load-requires
+load-requires c κs = search needs
+
+enum-known-rules : tie.Need-enum-known-rules
+enum-known-rules c = search needs
+
+lex-rules-requires : tie.Need-lex-rules-requires
+lex-rules-requires c κs = loaded-held (c .before .before .before .before .before .before .before .before .before .before .before .before .before .load .ensures) (c .before .before .before .before .before .rules .given .1)
+
+enum-known-refusal : tie.Need-enum-known-refusal
+enum-known-refusal c = search needs
+
+same-length : tie.Need-same-length
+same-length c = search needs
+
+same-length-2 : tie.Need-same-length-2
+same-length-2 c = search needs
+
+same-length-3 : tie.Need-same-length-3
+same-length-3 c = search needs
+
+same-length-4 : tie.Need-same-length-4
+same-length-4 c = search needs
+
+returns : tie.Need-returns
+returns c = answered-book (c .before .before .before .before .before .before .before .before .before .before .before .before .before .before .before .before .load .ensures) (c .before .before .before .before .before .before .before .before .rules .given .1) _ _ _ _ (c .before .before .lex-rules .ensures)
+
+same-length-5 : tie.Need-same-length-5
+same-length-5 c = search needs
+
+same-length-6 : tie.Need-same-length-6
+same-length-6 c = search needs
+
+same-length-7 : tie.Need-same-length-7
+same-length-7 c = search needs
+
+returns-2 : tie.Need-returns-2
+returns-2 c = answered-refused (c .before .before .before .before .before .before .before .before .before .load .ensures) (c .before .refusal .given .1) _ _
+
+pub lex-book-spec : {M : Type 1} → statement M
+lex-book-spec =
+    tie.close
+    (tie.spec
+    load-requires
+    enum-known-rules
+    lex-rules-requires
+    enum-known-refusal
+    same-length
+    same-length-2
+    same-length-3
+    same-length-4
+    returns
+    same-length-5
+    same-length-6
+    same-length-7
+    returns-2)

@@ -1,0 +1,3 @@
+-- What a printer asks of a list of tokens, and what the code answers.
+pub mod Checks
+pub mod Answers

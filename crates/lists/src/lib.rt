@@ -1,0 +1,130 @@
+// A list of tokens as a whole, one pass for each question: its first fault, its bytes joined, the first token that is read on.
+use refusal::Refusal;
+ghost use mathlib.Core.Path.{_≡_};
+ghost use mathlib.Core.List.{List};
+ghost use Prim.Native.Nat.{ℕ, _+_, _≤_};
+ghost use lib.ListN.{length, take, drop};
+ghost use lib.Seq.{paste};
+ghost use Rattle.automaton.specs.Rule.{Rule};
+ghost use Rattle.cutting.specs.Lexer.{join};
+ghost use Rattle.records.specs.Records.{recordCount};
+ghost use Rattle.cutting.specs.Answers.{Holds, Held};
+ghost use Rattle.pooled.specs.Tokens.{recordsOf, tokensOf};
+ghost use Rattle.pooled.specs.Faults.{faultOf};
+ghost use Rattle.lists.specs.Checks.{firstFault, firstExtended};
+ghost use Rattle.reading.specs.Limits.{maxTokens};
+ghost use Rattle.lists.specs.Answers.{measured, Fitting, Joined, Laid, Readable, extendedAt};
+
+// What the tokens come to: so many bytes, or the first refusal of one of them.
+pub enum Measured {
+    Bytes(usize),
+    Refused(Refusal),
+}
+
+// Checks each token, and adds up their bytes.
+pub fn measure(
+    headers: &[u64],
+    states: &[u16],
+    edges: &[u64],
+    rules: usize,
+    records: &[u8],
+    pool: &[u8],
+) -> Measured
+    requires { ⌜ Held (now headers) (now states) (now edges) rules ⌝ }
+    requires { ⌜ recordCount (now records) ≤ maxTokens ⌝ }
+    ensures { λ r. ⌜ ((rs : List Rule) → Holds (now (headers .entry)) (now (states .entry)) (now (edges .entry)) rules rs
+        → r ≡ measured (firstFault (faultOf rs (now (pool .entry))) (recordsOf (now (records .entry))) 0) (length (join (tokensOf (now (records .entry)) (now (pool .entry)))))) ⌝ }
+{
+    let count = records.len() / 10;
+    let mut total = 0;
+    let mut k = 0;
+    while k < count {
+        let token = pooled::read_record(records, k);
+        let len = token.len;
+        let number = pooled::token_fault(headers, states, edges, rules, pool, token);
+        if number != 0 {
+            return Measured::Refused(Refusal { number, place: k });
+        }
+        total += len;
+        k += 1;
+    }
+    Measured::Bytes(total)
+}
+
+// Copies `len` bytes of `from`, from `place` on, to `to` from `at` on.
+pub fn copy(from: &[u8], place: usize, len: usize, to: &mut [u8], at: usize)
+    requires { ⌜ (place + len ≤ length (now from)) × (at + len ≤ length (now to)) ⌝ }
+    ensures { λ r. ⌜ now (to .exit) ≡ paste (now (to .entry)) at (drop place (now (from .entry))) len ⌝ }
+{
+    let mut i = 0;
+    while i < len {
+        to[at + i] = from[place + i];
+        i += 1;
+    }
+}
+
+// Puts the bytes of the tokens one behind the other, from the start of `out`.
+pub fn join_tokens(records: &[u8], pool: &[u8], out: &mut [u8])
+    requires { ⌜ Fitting (now records) (now pool) (now out) ⌝ }
+    ensures { λ r. ⌜ Joined (join (tokensOf (now (records .entry)) (now (pool .entry)))) (now (out .entry)) (now (out .exit)) ⌝ }
+{
+    let count = records.len() / 10;
+    let mut at = 0;
+    let mut k = 0;
+    while k < count {
+        let token = pooled::read_record(records, k);
+        copy(pool, token.place, token.len, out, at);
+        at += token.len;
+        k += 1;
+    }
+}
+
+// The number of the first token of which some rule matches more of the joined bytes than the token has; the number of tokens where
+// there is none. Each token is alone, so that at its place at least its own bytes are chosen.
+pub fn first_extended(
+    headers: &[u64],
+    states: &[u16],
+    edges: &[u64],
+    rules: usize,
+    records: &[u8],
+    text: &[u8],
+) -> usize
+    requires { ⌜ Readable (now headers) (now states) (now edges) rules (now records) (now text) ⌝ }
+    ensures { λ r. ⌜ ((rs : List Rule) (pool : List ℕ) → Holds (now (headers .entry)) (now (states .entry)) (now (edges .entry)) rules rs
+        → Laid rs (now (records .entry)) pool (now (text .entry))
+        → firstExtended rs (tokensOf (now (records .entry)) pool) 0 ≡ extendedAt r (recordCount (now (records .entry)))) ⌝ }
+{
+    let count = records.len() / 10;
+    let mut at = 0;
+    let mut k = 0;
+    while k < count {
+        let token = pooled::read_record(records, k);
+        let len = token.len;
+        let chosen = cutting::choose_at(headers, states, edges, rules, text, at);
+        if chosen.len != len {
+            return k;
+        }
+        at += len;
+        k += 1;
+    }
+    k
+}
+
+// `first_extended` in the first `total` bytes of the scratch.
+pub fn extended_within(
+    headers: &[u64],
+    states: &[u16],
+    edges: &[u64],
+    rules: usize,
+    records: &[u8],
+    scratch: &[u8],
+    total: usize,
+) -> usize
+    requires { ⌜ total ≤ length (now scratch) ⌝ }
+    requires { ⌜ Readable (now headers) (now states) (now edges) rules (now records) (take total (now scratch)) ⌝ }
+    ensures { λ r. ⌜ ((rs : List Rule) (pool : List ℕ) → Holds (now (headers .entry)) (now (states .entry)) (now (edges .entry)) rules rs
+        → Laid rs (now (records .entry)) pool (take total (now (scratch .entry)))
+        → firstExtended rs (tokensOf (now (records .entry)) pool) 0 ≡ extendedAt r (recordCount (now (records .entry)))) ⌝ }
+{
+    first_extended(headers, states, edges, rules, records, &scratch[..total])
+}

@@ -1,0 +1,4 @@
+-- What the proofs of this crate share, and the laws for the layers above.
+pub mod Fine
+pub mod Filling
+pub mod Steps

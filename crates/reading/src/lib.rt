@@ -1,0 +1,256 @@
+// What has been read of a book, and what each command makes of it.
+use automaton::STATES;
+use command::Command;
+use refusal::Refusal;
+ghost use mathlib.Core.Path.{_≡_};
+ghost use mathlib.Core.Bool.{true, false};
+ghost use mathlib.Core.List.{List};
+ghost use Prim.Native.Nat.{ℕ, _+_, _*_, _≤_, _<_};
+ghost use lib.ListN.{length};
+ghost use Rattle.automaton.specs.Rule.{Rule};
+ghost use Rattle.automaton.specs.Tables.{stateCount, headAt, Tables, Chained};
+ghost use Rattle.reading.specs.Limits.{maxRules};
+ghost use Rattle.reading.specs.Draft.{Draft, tagged, move};
+ghost use Rattle.automaton.specs.Choice.{if};
+ghost use Rattle.reading.specs.State.{edgeCount, idle, Holds, Follows, Takes};
+
+// A book that is being read: how many rules are closed, how many transitions they and the open rule have, and the rest of
+// the open rule, whose final states and transitions are in the tables already.
+pub struct Book {
+    pub rules: usize,
+    pub edges: usize,
+    pub inside: bool,
+    pub tag: u16,
+    pub kind: u8,
+    pub started: bool,
+    pub start: u8,
+    pub erring: bool,
+    pub error: u8,
+    // transitions of the open rule, and whether two of them leave one state at one byte
+    pub count: usize,
+    pub overlap: bool,
+}
+
+// What a command comes to.
+pub enum Progress {
+    On(Book),
+    Done(usize),
+    Refused(Refusal),
+}
+
+impl Book {
+    // The limits of a book.
+    pub const BYTES: usize = 32768;
+
+    pub const RULES: usize = 32;
+    // transitions of one rule
+    pub const TRANSITIONS: usize = 512;
+
+    // Bytes of a text, tokens of a list, bytes that a printer writes.
+    pub const TEXT: usize = 65536;
+
+    pub const TOKENS: usize = 65536;
+
+    // What a book that is accepted may need of the tables.
+    pub const CELLS: usize = 8192;
+
+    pub const EDGES: usize = 8192;
+
+    // Nothing read yet.
+    pub fn new() -> Book
+        ensures { λ r. ⌜ r ≡ idle 0 0 ⌝ }
+    {
+        Book::between(0, 0)
+    }
+
+    // Between two rules, or before the first.
+    fn between(rules: usize, edges: usize) -> Book
+        ensures { λ r. ⌜ r ≡ idle rules edges ⌝ }
+    {
+        Book {
+            rules,
+            edges,
+            inside: false,
+            tag: 0,
+            kind: 0,
+            started: false,
+            start: 0,
+            erring: false,
+            error: 0,
+            count: 0,
+            overlap: false,
+        }
+    }
+
+    // RULE.
+    pub fn open_rule(self, headers: &[u64], tag: u16, kind: u8, at: usize) -> Progress
+        requires { ⌜ self .rules ≤ length (now headers) ⌝ }
+        ensures { λ r. ⌜ ((ss es : List ℕ) (len : ℕ) → Takes self (Command.Rule tag kind) at len r (now (headers .entry)) ss es (now (headers .entry)) ss es) ⌝ }
+    {
+        let rules = self.rules;
+        if Book::RULES <= rules {
+            return refused(Refusal::TOO_MANY, at);
+        }
+        if tag == 0 {
+            return refused(Refusal::OUT_OF_RANGE, at);
+        }
+        if 1 < kind {
+            return refused(Refusal::OUT_OF_RANGE, at);
+        }
+        if is_taken(headers, rules, tag) {
+            return refused(Refusal::TAG_TAKEN, at);
+        }
+        let mut next = Book::between(rules, self.edges);
+        next.inside = true;
+        next.tag = tag;
+        next.kind = kind;
+        Progress::On(next)
+    }
+
+    // START.
+    pub fn set_start(mut self, s: u8, at: usize) -> Progress
+        ensures { λ r. ⌜ ((hs ss es : List ℕ) (len : ℕ) → Takes self (Command.Start s) at len r hs ss es hs ss es) ⌝ }
+    {
+        if self.started {
+            return refused(Refusal::TWICE_OR_MISSING, at);
+        }
+        self.started = true;
+        self.start = s;
+        Progress::On(self)
+    }
+
+    // ERROR.
+    pub fn set_error(mut self, s: u8, at: usize) -> Progress
+        ensures { λ r. ⌜ ((hs ss es : List ℕ) (len : ℕ) → Takes self (Command.Error s) at len r hs ss es hs ss es) ⌝ }
+    {
+        if self.erring {
+            return refused(Refusal::TWICE_OR_MISSING, at);
+        }
+        self.erring = true;
+        self.error = s;
+        Progress::On(self)
+    }
+
+    // FINAL.
+    pub fn add_final(self, states: &mut [u16], s: u8) -> Progress
+        requires { ⌜ self .rules * stateCount + stateCount ≤ length (now states) ⌝ }
+        ensures { λ r. ⌜ ((hs es : List ℕ) (at len : ℕ) → Takes self (Command.Final s) at len r hs (now (states .entry)) es hs (now (states .exit)) es) ⌝ }
+    {
+        let rules = self.rules;
+        automaton::mark_final(states, rules * STATES + (s as usize));
+        Progress::On(self)
+    }
+
+    // STEP and SPAN.
+    pub fn add_transition(
+        mut self,
+        states: &mut [u16],
+        edges: &mut [u64],
+        from: u8,
+        low: u8,
+        high: u8,
+        to: u8,
+        at: usize,
+    ) -> Progress
+        requires { ⌜ (self .rules * stateCount + stateCount ≤ length (now states)) × (self .edges < length (now edges)) × (length (now edges) ≡ edgeCount) ⌝ }
+        requires { ⌜ Chained (now edges) (headAt (now states) (self .rules * stateCount + from)) ⌝ }
+        ensures { λ r. ⌜ ((hs : List ℕ) (d : Draft) → Holds self hs (now (states .entry)) (now (edges .entry)) d → d .inside ≡ true
+            → Follows (move d at from low high to) r hs (now (states .exit)) (now (edges .exit)) (self .edges + 1)) ⌝ }
+    {
+        let count = self.count;
+        if Book::TRANSITIONS <= count {
+            return refused(Refusal::TOO_MANY, at);
+        }
+        if high < low {
+            return refused(Refusal::OUT_OF_RANGE, at);
+        }
+        let rules = self.rules;
+        let number = self.edges;
+        let cell = rules * STATES + (from as usize);
+        let head = (states[cell] / 2) as usize;
+        self.overlap = either(automaton::shares_byte(edges, head, low, high), self.overlap);
+        automaton::add_edge(states, edges, cell, number, low, high, to as u16);
+        self.count = count + 1;
+        self.edges = number + 1;
+        Progress::On(self)
+    }
+
+    // CLOSE.
+    pub fn close(self, headers: &mut [u64], states: &[u16], at: usize) -> Progress
+        requires { ⌜ (self .rules < length (now headers)) × (self .rules * stateCount + stateCount ≤ length (now states)) × (self .rules < maxRules) ⌝ }
+        ensures { λ r. ⌜ ((es : List ℕ) (len : ℕ) → Takes self Command.Close at len r (now (headers .entry)) (now (states .entry)) es (now (headers .exit)) (now (states .entry)) es) ⌝ }
+    {
+        if !self.started {
+            return refused(Refusal::TWICE_OR_MISSING, at);
+        }
+        if !self.erring {
+            return refused(Refusal::TWICE_OR_MISSING, at);
+        }
+        if self.overlap {
+            return refused(Refusal::OVERLAP, at);
+        }
+        let rules = self.rules;
+        let base = rules * STATES;
+        let error = states[base + (self.error as usize)];
+        if error / 2 != 0 {
+            return refused(Refusal::LEAVES_ERROR, at);
+        }
+        if error % 2 == 1 {
+            return refused(Refusal::ERROR_FINAL, at);
+        }
+        let start = states[base + (self.start as usize)];
+        if start % 2 == 1 {
+            return refused(Refusal::START_FINAL, at);
+        }
+        headers[rules] = automaton::header(
+            self.tag,
+            self.kind,
+            self.start as u16,
+            self.error as u16,
+        );
+        Progress::On(Book::between(rules + 1, self.edges))
+    }
+
+    // END; `len` is the book's length.
+    pub fn end(self, at: usize, len: usize) -> Progress
+        requires { ⌜ at < len ⌝ }
+        ensures { λ r. ⌜ ((hs ss es : List ℕ) → Takes self Command.End at len r hs ss es hs ss es) ⌝ }
+    {
+        if self.rules == 0 {
+            return refused(Refusal::NO_RULE, at);
+        }
+        if at + 1 < len {
+            return refused(Refusal::BYTES_AFTER_END, at + 1);
+        }
+        Progress::Done(self.rules)
+    }
+}
+
+fn refused(number: u8, place: usize) -> Progress
+    ensures { λ r. ⌜ r ≡ Progress.Refused (record { number = number; place = place }) ⌝ }
+{
+    Progress::Refused(Refusal { number, place })
+}
+
+fn either(a: bool, b: bool) -> bool
+    ensures { λ r. ⌜ r ≡ if a true b ⌝ }
+{
+    if a { true } else { b }
+}
+
+// Whether one of the first `rules` rules has this tag.
+fn is_taken(headers: &[u64], rules: usize, tag: u16) -> bool
+    requires { ⌜ rules ≤ length (now headers) ⌝ }
+    ensures { λ r. ⌜ ((ss es : List ℕ) (rs : List Rule) → Tables (now (headers .entry)) ss es rs → rules ≡ length rs → r ≡ tagged tag rs) ⌝ }
+{
+    let wanted = tag as u64;
+    let mut k = 0;
+    while k < rules {
+        let h = headers[k];
+        if automaton::tag_of(h) == wanted {
+            return true;
+        }
+        k += 1;
+    }
+    false
+}

@@ -1,0 +1,86 @@
+-- Ten-byte records: stored byte by byte, counted, and read back. Assumes nothing.
+use mathlib.Core.Path.{_≡_, refl, sym, _∙_, ap}
+use Prim.Native.Nat.{ℕ, zero, suc, _+_, _*_, _/_, _%_, _<_, _≤_}
+use mathlib.Core.List.{List, [], _∷_, _++_, append-assoc}
+use native.Mathlib.Omega.{arith}
+use native.Mathlib.Nat.{add-zero, add-assoc, div-add-mod', div-div-eq-div-mul}
+use native.Mathlib.Numerals.{add-one, add-two, add-three, add-four, add-five, add-six, add-seven, add-eight}
+use lib.ListN.{length, getD, take, drop, set, length-append}
+use lib.Seq.{sets, sets-eq, take-append-seam, drop-append-add}
+use Rattle.automaton.specs.Rule.{Rule}
+use Rattle.cutting.specs.Lexer.{Token, lex, join}
+use Rattle.records.specs.Records.{recordOf, recordsAt}
+use Rattle.cutting.proofs.Lexing.{joins}
+
+-- ---- stored
+
+pub stored : (l : List ℕ) (i a b c d e f g h j k : ℕ)
+    → set (set (set (set (set (set (set (set (set (set l i a) (i + 1) b) (i + 2) c) (i + 3) d) (i + 4) e) (i + 5) f) (i + 6) g) (i + 7) h) (i + 8) j) (i + 9) k
+    ≡ sets l i (a ∷ b ∷ c ∷ d ∷ e ∷ f ∷ g ∷ h ∷ j ∷ k ∷ [])
+stored l i a b c d e f g h j k =
+    let nine : i + 9 ≡ suc (suc (suc (suc (suc (suc (suc (suc (suc i)))))))) = omega arith in
+    rw (add-one, add-two, add-three, add-four, add-five, add-six, add-seven, add-eight, nine)
+
+pub record-stored : (l : List ℕ) (i tag place len : ℕ) → i + 10 ≤ length l
+    → sets l i (recordOf tag place len) ≡ take i l ++ recordOf tag place len ++ drop (i + 10) l
+record-stored l i tag place len h = sets-eq (recordOf tag place len) l i h
+
+-- ---- counted
+
+pub length-records : (ts : List Token) (place : ℕ) → length (recordsAt place ts) ≡ 10 * length ts
+unfolding recordsAt
+length-records [] place = refl
+length-records (t ∷ ts) place = omega (arith, length-records ts (place + length t.bytes))
+
+-- ---- read back
+
+-- token number k, and its place among tokens that lie one behind the other
+abbrev pub tokenAt : List Token → ℕ → Token
+tokenAt ts k = getD ts k (record { tag = 0; bytes = [] })
+
+abbrev pub placeAt : List Token → ℕ → ℕ
+placeAt ts k = length (join (take k ts))
+
+-- record number k is that of token number k
+pub records-at : (ts : List Token) (place k : ℕ) → k < length ts
+    → take 10 (drop (10 * k) (recordsAt place ts)) ≡ recordOf ((tokenAt ts k) .tag) (place + placeAt ts k) (length ((tokenAt ts k) .bytes))
+unfolding recordsAt
+records-at [] place k l = absurd (omega arith)
+records-at (t ∷ ts) place zero l = rw add-zero
+records-at (t ∷ ts) place (suc k) l =
+    let q : 10 * suc k ≡ suc (suc (suc (suc (suc (suc (suc (suc (suc (suc (10 * k)))))))))) = omega arith in
+    rw (q, records-at ts (place + length t.bytes) k (omega arith), length-append, add-assoc)
+
+-- and the text has the token's bytes there
+pub token-laid : (ts : List Token) (rest : List ℕ) (k : ℕ) → k < length ts
+    → take (length ((tokenAt ts k) .bytes)) (drop (placeAt ts k) (join ts ++ rest)) ≡ (tokenAt ts k) .bytes
+token-laid [] rest k l = absurd (omega arith)
+token-laid (t ∷ ts) rest zero l = rw (append-assoc, take-append-seam)
+token-laid (t ∷ ts) rest (suc k) l = rw (append-assoc, length-append, drop-append-add) (token-laid ts rest k (omega arith))
+
+pub laid-within : (ts : List Token) (k : ℕ) → k < length ts → placeAt ts k + length ((tokenAt ts k) .bytes) ≤ length (join ts)
+laid-within [] k l = absurd (omega arith)
+laid-within (t ∷ ts) zero l = omega (arith, length-append t.bytes (join ts))
+laid-within (t ∷ ts) (suc k) l =
+    omega (arith, laid-within ts k (omega arith), length-append t.bytes (join ts), length-append t.bytes (join (take k ts)))
+
+pub lexed-laid : (rules : List Rule) (text : List ℕ) (k : ℕ) → k < length ((lex rules text) .tokens)
+    → take (length ((tokenAt ((lex rules text) .tokens) k) .bytes)) (drop (placeAt ((lex rules text) .tokens) k) text) ≡ (tokenAt ((lex rules text) .tokens) k) .bytes
+lexed-laid rules text k l =
+    ap (λ (x : List ℕ). take (length ((tokenAt ((lex rules text) .tokens) k) .bytes)) (drop (placeAt ((lex rules text) .tokens) k) x)) (sym (joins rules text))
+    ∙ token-laid ((lex rules text) .tokens) ((lex rules text) .rest) k l
+
+-- the numbers of a record from their bytes
+pub two-value : (n : ℕ) → n < 65536 → n / 256 % 256 * 256 + n % 256 ≡ n
+two-value n l = omega arith
+
+pub four-value : (n : ℕ) → n < 4294967296 → ((n / 16777216 % 256 * 256 + n / 65536 % 256) * 256 + n / 256 % 256) * 256 + n % 256 ≡ n
+four-value n l =
+    let z : n / 16777216 % 256 ≡ n / 16777216 = omega arith in
+    rw (z, upper, middle) (div-add-mod' n 256)
+  where
+    upper : n / 16777216 * 256 + n / 65536 % 256 ≡ n / 65536
+    upper = rw (div-div-eq-div-mul n 65536 256) at (div-add-mod' (n / 65536) 256)
+
+    middle : n / 65536 * 256 + n / 256 % 256 ≡ n / 256
+    middle = rw (div-div-eq-div-mul n 256 256) at (div-add-mod' (n / 256) 256)

@@ -1,0 +1,141 @@
+-- `put_record`: ten stores are one run of stores. Assumes nothing.
+use mathlib.Core.Path.{_∙_}
+use native.Mathlib.Omega.{arith}
+use lib.ListN.{length-set}
+use denote.Ref.{now}
+use Rattle.records.proofs.Records.{stored, record-stored}
+use borrow.Author.Needs.{needs}
+use Rattle.records.proofs.put_record.Statement.{statement}
+use Rattle.records.proofs.put_record.Tie as tie
+use Rattle.records.proofs.put_record.Reads as reads
+use Rattle.records.proofs.put_record.Lts as lts
+
+cast-records : tie.Need-cast-records
+cast-records c = search needs
+
+slice-write-records : tie.Need-slice-write-records
+slice-write-records c = search needs
+
+cast-records-2 : tie.Need-cast-records-2
+cast-records-2 c = search needs
+
+add-records : tie.Need-add-records
+add-records c = search needs
+
+slice-write-records-2 : tie.Need-slice-write-records-2
+slice-write-records-2 c = simp length-set (omega arith)
+
+cast-records-3 : tie.Need-cast-records-3
+cast-records-3 c = search needs
+
+add-records-2 : tie.Need-add-records-2
+add-records-2 c = search needs
+
+slice-write-records-3 : tie.Need-slice-write-records-3
+slice-write-records-3 c = simp length-set (omega arith)
+
+cast-records-4 : tie.Need-cast-records-4
+cast-records-4 c = search needs
+
+add-records-3 : tie.Need-add-records-3
+add-records-3 c = search needs
+
+slice-write-records-4 : tie.Need-slice-write-records-4
+slice-write-records-4 c = simp length-set (omega arith)
+
+cast-records-5 : tie.Need-cast-records-5
+cast-records-5 c = search needs
+
+add-records-4 : tie.Need-add-records-4
+add-records-4 c = search needs
+
+slice-write-records-5 : tie.Need-slice-write-records-5
+slice-write-records-5 c = simp length-set (omega arith)
+
+cast-records-6 : tie.Need-cast-records-6
+cast-records-6 c = search needs
+
+add-records-5 : tie.Need-add-records-5
+add-records-5 c = search needs
+
+slice-write-records-6 : tie.Need-slice-write-records-6
+slice-write-records-6 c = simp length-set (omega arith)
+
+cast-records-7 : tie.Need-cast-records-7
+cast-records-7 c = search needs
+
+add-records-6 : tie.Need-add-records-6
+add-records-6 c = search needs
+
+slice-write-records-7 : tie.Need-slice-write-records-7
+slice-write-records-7 c = simp length-set (omega arith)
+
+cast-records-8 : tie.Need-cast-records-8
+cast-records-8 c = search needs
+
+add-records-7 : tie.Need-add-records-7
+add-records-7 c = search needs
+
+slice-write-records-8 : tie.Need-slice-write-records-8
+slice-write-records-8 c = simp length-set (omega arith)
+
+cast-records-9 : tie.Need-cast-records-9
+cast-records-9 c = search needs
+
+add-records-8 : tie.Need-add-records-8
+add-records-8 c = search needs
+
+slice-write-records-9 : tie.Need-slice-write-records-9
+slice-write-records-9 c = simp length-set (omega arith)
+
+cast-records-10 : tie.Need-cast-records-10
+cast-records-10 c = search needs
+
+add-records-9 : tie.Need-add-records-9
+add-records-9 c = search needs
+
+slice-write-records-10 : tie.Need-slice-write-records-10
+slice-write-records-10 c = simp length-set (omega arith)
+
+same-length : tie.Need-same-length
+same-length c = simp length-set
+
+returns : tie.Need-returns
+returns c = let a = c .args in
+    stored (now (a .records)) (a .offset) _ _ _ _ _ _ _ _ _ _ ∙ record-stored (now (a .records)) (a .offset) (a .tag) (a .place) (a .len) (c .pre)
+
+pub put-record-spec : {M : Type 1} → statement M
+put-record-spec =
+    tie.close
+    (tie.spec
+    cast-records
+    slice-write-records
+    cast-records-2
+    add-records
+    slice-write-records-2
+    cast-records-3
+    add-records-2
+    slice-write-records-3
+    cast-records-4
+    add-records-3
+    slice-write-records-4
+    cast-records-5
+    add-records-4
+    slice-write-records-5
+    cast-records-6
+    add-records-5
+    slice-write-records-6
+    cast-records-7
+    add-records-6
+    slice-write-records-7
+    cast-records-8
+    add-records-7
+    slice-write-records-8
+    cast-records-9
+    add-records-8
+    slice-write-records-9
+    cast-records-10
+    add-records-9
+    slice-write-records-10
+    same-length
+    returns)

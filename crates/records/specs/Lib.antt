@@ -1,0 +1,3 @@
+-- The records of tokens, and what filling a buffer with them leaves.
+pub mod Records
+pub mod Filling

@@ -1,0 +1,34 @@
+-- `is_due` answers `follows`, by what is chosen at the token. Assumes nothing.
+use mathlib.Core.Path.{sym, _∙_}
+use Rattle.cutting.proofs.Held.{held-empty}
+use Rattle.spacing.proofs.Putting.{due-last, due-always, due-more, due-no}
+use borrow.Author.Needs.{needs}
+use Rattle.spacing.proofs.is_due.Statement.{statement}
+use Rattle.spacing.proofs.is_due.Tie as tie
+use Rattle.spacing.proofs.is_due.Reads as reads
+use Rattle.spacing.proofs.is_due.Lts as lts
+use Rattle.cutting.proofs.choose_at.Reads as choose-at-reads
+use Rattle.spacing.proofs.meaning_of.Reads as meaning-of-reads
+
+returns : tie.Need-returns
+returns c = λ rs h t us a. due-last _ a (c .if1 .taken)
+
+meaning-of-requires : tie.Need-meaning-of-requires
+meaning-of-requires c κs = search needs
+
+returns-2 : tie.Need-returns-2
+returns-2 c = λ rs h t us a. due-always _ a (c .before .before .if1 .left) (sym (c .before .meaning-of .ensures) ∙ c .if2 .taken)
+
+choose-at-requires : tie.Need-choose-at-requires
+choose-at-requires c κs = search needs
+
+returns-3 : tie.Need-returns-3
+returns-3 c = λ rs h t us a. due-more _ a (c .before .before .before .before .before .if1 .left) (λ z. c .before .before .before .if2 .left (c .before .before .before .before .meaning-of .ensures ∙ z)) (held-empty h) (c .before .before .choose-at .ensures rs h) (c .if3 .taken)
+
+returns-4 : tie.Need-returns-4
+returns-4 c = λ rs h t us a. due-no _ a (c .before .before .before .before .before .if1 .left) (λ z. c .before .before .before .if2 .left (c .before .before .before .before .meaning-of .ensures ∙ z)) (held-empty h) (c .before .before .choose-at .ensures rs h) (c .if3 .left)
+
+pub is-due-spec : {M : Type 1} → statement M
+is-due-spec =
+    tie.close
+    (tie.spec returns meaning-of-requires returns-2 choose-at-requires returns-3 returns-4)

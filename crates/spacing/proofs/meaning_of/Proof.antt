@@ -1,0 +1,15 @@
+-- `meaning_of` answers `meaning`. Assumes nothing.
+use Rattle.spacing.proofs.Putting.{meaning-zero, meaning-other}
+use Rattle.spacing.proofs.meaning_of.Statement.{statement}
+use Rattle.spacing.proofs.meaning_of.Tie as tie
+use Rattle.spacing.proofs.meaning_of.Reads as reads
+use Rattle.spacing.proofs.meaning_of.Lts as lts
+
+returns : tie.Need-returns
+returns c = meaning-zero _ (c .if1 .taken)
+
+returns-2 : tie.Need-returns-2
+returns-2 c = meaning-other _ (c .if1 .left)
+
+pub meaning-of-spec : {M : Type 1} → statement M
+meaning-of-spec = tie.close (tie.spec returns returns-2)

@@ -1,0 +1,41 @@
+-- Where separators are put between tokens.
+use Prim.Native.Nat.{ℕ, zero, suc}
+use mathlib.Core.Bool.{Bool, true, false, _||_}
+use mathlib.Core.List.{List, [], _∷_}
+use lib.Dec.{eqb}
+use Rattle.automaton.specs.Choice.{if}
+use Rattle.automaton.specs.Rule.{Rule}
+use Rattle.cutting.specs.Lexer.{Token, join, extends}
+use Rattle.used.specs.Kinds.{separates}
+use Rattle.pooled.specs.declared.TokenRecord.{TokenRecord}
+use Rattle.pooled.specs.Tokens.{tokenIn, tokensOf}
+
+-- "Dropping separators leaves out each token whose tag belongs to a rule of separator kind"
+unfoldable pub dropSeparators : List Rule → List Token → List Token
+dropSeparators rules [] = []
+dropSeparators rules (t ∷ ts) = if (separates rules t.tag) (dropSeparators rules ts) (t ∷ dropSeparators rules ts)
+
+-- "Mode 0 is mode 1."
+unfoldable pub meaning : ℕ → ℕ
+meaning zero = 1
+meaning (suc n) = suc n
+
+-- Whether a separator follows t, before what is already put after it: "never after the last"; "Mode 1 puts it between all neighbours";
+-- in mode 2 "exactly when some rule matches the token's bytes plus a non-empty beginning of what is already written after it".
+unfoldable pub follows : List Rule → ℕ → Token → List Token → Bool
+follows rules mode t [] = false
+follows rules mode t (u ∷ us) = eqb (meaning mode) 1 || extends rules t.bytes (join (u ∷ us))
+
+abbrev pub put : Bool → Token → List Token → List Token
+put true sep ts = sep ∷ ts
+put false sep ts = ts
+
+-- the tokens with their separators, "from the last token back"
+unfoldable pub separated : List Rule → Token → ℕ → List Token → List Token
+separated rules sep mode [] = []
+separated rules sep mode (t ∷ ts) =
+    t ∷ put (follows rules mode t (separated rules sep mode ts)) sep (separated rules sep mode ts)
+
+-- the bytes of the tokens and their separators, joined
+abbrev pub spelled : List Rule → TokenRecord → ℕ → List ℕ → List ℕ → List ℕ
+spelled rules sep mode records pool = join (separated rules (tokenIn pool sep) mode (tokensOf records pool))

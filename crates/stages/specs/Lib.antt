@@ -1,0 +1,2 @@
+-- The stages of printing a slice of tokens.
+pub mod Stages

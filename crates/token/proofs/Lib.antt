@@ -1,0 +1,2 @@
+-- The laws for the layers above.
+pub mod Encoding

@@ -1,0 +1,2 @@
+-- What a slice of tokens says as ten-byte records.
+pub mod Encoding

@@ -1,0 +1,2 @@
+-- The turns of lexing into a slice of tokens.
+pub mod Turns
