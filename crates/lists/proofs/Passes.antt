@@ -1,6 +1,6 @@
 -- The passes over a list of tokens: what holds at the head of each loop, and how a turn keeps it. Assumes nothing.
 use mathlib.Core.Path.{_≡_, refl, sym, ap, _∙_, subst}
-use Prim.Native.Nat.{ℕ, suc, _+_, _-_, _*_, _<_, _≤_}
+use Prim.Native.Nat.{ℕ, zero, suc, _+_, _-_, _*_, _<_, _≤_}
 use mathlib.Core.Bool.{Bool, true, false, not}
 use mathlib.Core.Option.{none}
 use mathlib.Core.List.{List, [], _∷_, _++_, append-assoc, append-nil}
@@ -45,6 +45,16 @@ pub left-end : (records : List ℕ) (k : ℕ) → recordCount records ≤ k → 
 unfolding left recordsFrom
 left-end records k l = let q : recordCount records - k ≡ 0 = omega arith in rw q
 
+-- what holds of every record holds of record number k
+pub record-at : (P : TokenRecord → Type 0) (records : List ℕ) → All P (recordsOf records) → (k : ℕ) → k < recordCount records → P (recordAt records k)
+record-at P records h k l = (subst (All P) (left-next records k l) (from k (omega arith))) .0
+  where
+    from : (j : ℕ) → j ≤ recordCount records → All P (left records j)
+    from zero p = subst (All P) (left-start records) h
+    from (suc j) p =
+        let q : j < recordCount records = omega arith in
+        subst (λ (i : ℕ). All P (left records i)) (add-one j) ((subst (All P) (left-next records j q) (from j (omega arith))) .1)
+
 -- ---- the first fault, and the number of bytes
 
 -- the first k tokens have no fault, and `total` bytes
@@ -85,6 +95,23 @@ module _ {rules : List Rule} {records pool : List ℕ} {total k : ℕ} (w : Meas
       ≡ measured (firstFault (faultOf rules pool) (recordsOf records) 0) (length (join (tokensOf records pool)))
   unfolding firstFault tokensIn
   measuring-end l = rw (w .first, w .sum, left-end records k l, add-zero)
+
+-- no fault in a list: none at its front and none behind
+pub faultless-front : (fault : TokenRecord → ℕ) (r : TokenRecord) (rs : List TokenRecord) (k : ℕ) → firstFault fault (r ∷ rs) k ≡ none
+    → (fault r ≡ 0) × (firstFault fault rs (suc k) ≡ none)
+unfolding firstFault refuse
+faultless-front fault r rs k e = go (eqb (fault r) 0) refl e
+  where
+    go : (t : Bool) → eqb (fault r) 0 ≡ t → refuse (not t) (fault r) k (firstFault fault rs (suc k)) ≡ none → (fault r ≡ 0) × (firstFault fault rs (suc k) ≡ none)
+    go true q z = (eqb-true (fault r) 0 q, z)
+    go false q z = nothing z refl
+
+-- tokens without fault lie in the pool
+pub faultless-pool : (rules : List Rule) (pool : List ℕ) (rs : List TokenRecord) (k : ℕ) → firstFault (faultOf rules pool) rs k ≡ none → All (InPool pool) rs
+faultless-pool rules pool [] k e = tt
+faultless-pool rules pool (r ∷ rs) k e =
+    let f = faultless-front (faultOf rules pool) r rs k e in
+    (record { in-pool = faultless rules pool r (f .0) .in-pool }, faultless-pool rules pool rs (suc k) (f .1))
 
 -- ---- copying
 
@@ -178,16 +205,6 @@ pub record Extending (rules : List Rule) (records pool text : List ℕ) (at k : 
 pub extending-start : {rules : List Rule} {records pool text : List ℕ} → Laid rules records pool text → Extending rules records pool text 0 0
 extending-start {records = records} l =
     record { within = omega arith; few = omega arith; behind = rw left-start at (l .written); faultless = rw left-start at (l .faultless); first = rw left-start }
-
--- no fault in a list: none at its front and none behind
-pub faultless-front : (fault : TokenRecord → ℕ) (r : TokenRecord) (rs : List TokenRecord) (k : ℕ) → firstFault fault (r ∷ rs) k ≡ none
-    → (fault r ≡ 0) × (firstFault fault rs (suc k) ≡ none)
-unfolding firstFault refuse
-faultless-front fault r rs k e = go (eqb (fault r) 0) refl e
-  where
-    go : (t : Bool) → eqb (fault r) 0 ≡ t → refuse (not t) (fault r) k (firstFault fault rs (suc k)) ≡ none → (fault r ≡ 0) × (firstFault fault rs (suc k) ≡ none)
-    go true q z = (eqb-true (fault r) 0 q, z)
-    go false q z = nothing z refl
 
 module _ {rules : List Rule} {records pool text : List ℕ} {at k : ℕ} (w : Extending rules records pool text at k) where
   module _ (empty : firstMatch rules [] ≡ none) (more : k < recordCount records) {r : TokenRecord} (e : r ≡ recordAt records k)

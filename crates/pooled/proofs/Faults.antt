@@ -1,15 +1,15 @@
 -- The fault of one token, by the number of its rule and what is chosen of its bytes. Assumes nothing.
-use mathlib.Core.Path.{_≡_, refl, sym, ap, _∙_}
+use mathlib.Core.Path.{_≡_, refl, sym, ap, _∙_, subst}
 use Prim.Native.Nat.{ℕ, zero, suc, _+_, _<_, _≤_}
 use mathlib.Core.Bool.{Bool, true, false, not}
 use mathlib.Core.Option.{none, some}
-use mathlib.Core.List.{List, [], _∷_, append-nil}
+use mathlib.Core.List.{List, [], _∷_, _++_, append-nil}
 use native.Mathlib.Nat.{eq-zero-or-pos}
 use mathlib.Core.Logic.{_⊎_, inl, inr}
 use native.Mathlib.Omega.{arith}
 use lib.Dec.{ltb, eqb}
 use lib.ListN.{length, getD, take, drop, length-drop}
-use lib.Seq.{take-length, length-take-le}
+use lib.Seq.{take-length, length-take-le, take-append-seam}
 use borrow.Author.Count.{below-more}
 use borrow.Author.Tests.{lt-ltb, le-ltb, ltb-true, ltb-false, eq-eqb, ne-eqb}
 use Rattle.automaton.specs.Choice.{if}
@@ -130,6 +130,26 @@ module _ {rules : List Rule} {tag k : ℕ} (r : Ranks rules tag k) where
     pub ranks-some : tagged tag rules ≡ true
     ranks-some = tagged-here rules tag k (ranked known) (r .here (ranked known)) (r .earlier)
 
+    -- as many bytes are chosen at the front of a text as w has
+    module _ (w after : List ℕ) {rule len : ℕ} (c : Chooses rules (w ++ after) rule len) (some-byte : len ≡ 0 → ⊥) (all : len ≡ length w) where
+      at-all : take len (w ++ after) ≡ w
+      at-all = rw (all, take-append-seam)
+
+      first : 0 < len
+      first = omega arith
+
+      pub front-other : (rule ≡ k → ⊥) → aloneIn rules tag w ≡ false
+      front-other ne = refuted _ (λ a.
+          let y = alone-matches rules tag w k (ranked known) (r .here (ranked known)) (r .earlier) a in
+          elim (apart rule k ne) [
+            | inl l ↦ clash (rw at-all at (c .matched first)) (y .1 rule l)
+            | inr l ↦ clash (y .0) (rw at-all at (c .earlier first k l))
+          ])
+
+      pub front-same : rule ≡ k → aloneIn rules tag w ≡ true
+      front-same e = alone-here rules tag w k (ranked known) (r .here (ranked known)) (r .earlier)
+          (rw (e, at-all) at (c .matched first)) (λ j p. rw at-all at (c .earlier first j (omega arith)))
+
     module _ (empty : firstMatch rules [] ≡ none) {w : List ℕ} {rule len : ℕ} (c : Chooses rules w rule len) where
       -- what is alone is chosen whole
       whole : aloneIn rules tag w ≡ true → choose rules w ≡ some (record { token = record { tag = tag; bytes = w }; rest = [] })
@@ -150,23 +170,14 @@ module _ {rules : List Rule} {tag k : ℕ} (r : Ranks rules tag k) where
       ])
 
       module _ (some-byte : len ≡ 0 → ⊥) (all : len ≡ length w) where
-        at-all : take len w ≡ w
-        at-all = rw (all, take-length)
-
-        first : 0 < len
-        first = omega arith
+        longer : Chooses rules (w ++ []) rule len
+        longer = subst (λ (x : List ℕ). Chooses rules x rule len) (sym (append-nil w)) c
 
         pub alone-other : (rule ≡ k → ⊥) → aloneIn rules tag w ≡ false
-        alone-other ne = refuted _ (λ a.
-            let y = alone-matches rules tag w k (ranked known) (r .here (ranked known)) (r .earlier) a in
-            elim (apart rule k ne) [
-              | inl l ↦ clash (rw at-all at (c .matched first)) (y .1 rule l)
-              | inr l ↦ clash (y .0) (rw at-all at (c .earlier first k l))
-            ])
+        alone-other ne = front-other w [] longer some-byte all ne
 
         pub alone-same : rule ≡ k → aloneIn rules tag w ≡ true
-        alone-same e = alone-here rules tag w k (ranked known) (r .here (ranked known)) (r .earlier)
-            (rw (e, at-all) at (c .matched first)) (λ j p. rw at-all at (c .earlier first j (omega arith)))
+        alone-same e = front-same w [] longer some-byte all e
 
 -- ---- the fault of a token
 

@@ -1,64 +1,35 @@
 -- How the answers of the code come to the outcome of document 01. Assumes nothing.
 use mathlib.Core.Path.{_≡_, refl, ap, _∙_}
-use Prim.Native.Nat.{ℕ, suc, _<_, _≤_}
+use Prim.Native.Nat.{ℕ, _<_, _≤_}
+use mathlib.Core.Bool.{Bool, true, false}
+use lib.Dec.{ltb}
 use mathlib.Core.Option.{Option, none, some}
-use mathlib.Core.List.{List, [], _∷_}
+use mathlib.Core.List.{List}
 use native.Mathlib.Omega.{arith}
 use native.Mathlib.Nat.{zero-add}
 use lib.ListN.{length, take, drop}
-use lib.Seq.{paste, take-append-seam}
+use lib.Seq.{paste}
 use borrow.Author.Tests.{lt-ltb, le-ltb}
-use Rattle.automaton.specs.Choice.{All}
 use Rattle.automaton.specs.Rule.{Rule}
 use Rattle.refusal.specs.declared.Refusal.{Refusal}
 use Rattle.book.specs.declared.BookAnswer.{BookAnswer}
 use Rattle.book.specs.declared.BookAnswer.the-variants as book
 use Rattle.book.specs.Loading.{Loaded}
-use Rattle.cutting.specs.Lexer.{Token, join}
+use Rattle.cutting.specs.Lexer.{or, Token, join}
 use Rattle.reading.specs.Limits.{maxText, maxTokens}
 use Rattle.records.specs.Records.{recordCount}
-use Rattle.cutting.specs.Answers.{Holds, Held}
+use Rattle.cutting.specs.Answers.{Holds}
 use Rattle.lexer.proofs.Outcomes.{loaded-rules, loaded-refused}
 use Rattle.printer.specs.declared.PrintAnswer.{PrintAnswer}
 use Rattle.printer.specs.declared.PrintAnswer.the-variants as print
 use Rattle.lists.specs.declared.Measured.the-variants as measure
-use Rattle.pooled.specs.declared.TokenRecord.{TokenRecord}
 use Rattle.pooled.specs.Tokens.{recordsOf, tokensOf}
 use Rattle.pooled.specs.Faults.{faultOf}
+use Rattle.rehearsal.specs.Clean.{trouble, Rehearsed}
 use Rattle.lists.specs.Checks.{refuse, firstFault, firstExtended}
-use Rattle.printer.specs.Outcome.{check, unless, printChecked, printRules, printOutcome, Answered}
-use Rattle.lists.specs.Answers.{measured, Fitting, Joined, Laid, Readable, Checked, extendedAt}
-use Rattle.pooled.specs.Answers.{InPool}
+use Rattle.printer.specs.Outcome.{PrintOutcome, printAccepted, check, unless, printChecked, printRules, printOutcome, Answered}
+use Rattle.lists.specs.Answers.{measured, extendedAt}
 use Rattle.pooled.proofs.Faults.{faultless}
-use Rattle.lists.proofs.Passes.{faultless-front}
-
--- ---- tokens without fault
-
--- they lie in the pool
-pub faultless-pool : (rules : List Rule) (pool : List ℕ) (rs : List TokenRecord) (k : ℕ) → firstFault (faultOf rules pool) rs k ≡ none → All (InPool pool) rs
-faultless-pool rules pool [] k e = tt
-faultless-pool rules pool (r ∷ rs) k e =
-    let f = faultless-front (faultOf rules pool) r rs k e in
-    (record { in-pool = faultless rules pool r (f .0) .in-pool }, faultless-pool rules pool rs (suc k) (f .1))
-
-module _ {hs ss es : List ℕ} {n : ℕ} {records pool : List ℕ} {total : ℕ} (c : Checked hs ss es n records pool total) (short : total ≤ maxText) where
-  pub checked-fitting : {scratch : List ℕ} → length scratch ≡ maxText → Fitting records pool scratch
-  checked-fitting l =
-      record {
-        each = faultless-pool (c .held .rules) pool (recordsOf records) 0 (c .faultless (c .held .rules) (c .held .holds));
-        room = omega (arith, c .bytes);
-      }
-
-  module _ {entry exit : List ℕ} (j : Joined (join (tokensOf records pool)) entry exit) where
-    joined-front : take total exit ≡ join (tokensOf records pool)
-    joined-front = rw (c .bytes, j .written, take-append-seam)
-
-    pub checked-laid : (rules : List Rule) → Holds hs ss es n rules → Laid rules records pool (take total exit)
-    checked-laid rules h = record { faultless = c .faultless rules h; written = joined-front }
-
-    pub checked-readable : Readable hs ss es n records (take total exit)
-    checked-readable =
-        record { rules = c .held .rules; pool = pool; holds = c .held .holds; laid = checked-laid (c .held .rules) (c .held .holds) }
 
 -- ---- by rules, of tokens without fault
 
@@ -106,26 +77,37 @@ module _ (rules : List Rule) (records pool out : List ℕ) where
     unfolding printRules check unless
     answered-checked q a = rw (le-ltb _ _ few, q) a
 
--- no fault, where the bytes are counted
-pub measured-bytes : (rules : List Rule) (records pool : List ℕ) {total : ℕ}
-    → measure.Bytes total ≡ measured (firstFault (faultOf rules pool) (recordsOf records) 0) (length (join (tokensOf records pool)))
-    → (firstFault (faultOf rules pool) (recordsOf records) 0 ≡ none) × (total ≡ length (join (tokensOf records pool)))
-measured-bytes rules records pool {total} e = go (firstFault (faultOf rules pool) (recordsOf records) 0) refl e
-  where
-    go : (o : Option Refusal) → firstFault (faultOf rules pool) (recordsOf records) 0 ≡ o → measure.Bytes total ≡ measured o (length (join (tokensOf records pool)))
-        → (firstFault (faultOf rules pool) (recordsOf records) 0 ≡ none) × (total ≡ length (join (tokensOf records pool)))
-    go none q z = (q, cc)
-    go (some g) q z = let y : _≡_ {A = ℕ} 0 1 = cc in absurd (omega arith)
+    pub answered-troubled : {f : Refusal} → trouble rules records pool ≡ some f → Answered (printRules rules records pool out) (print.Refused f) out
+    unfolding printRules printChecked check unless trouble refuse
+    answered-troubled {f} e =
+        rw (le-ltb _ _ few)
+        (go (firstFault (faultOf rules pool) (recordsOf records) 0) (ltb maxText (length (join (tokensOf records pool)))) (firstExtended rules (tokensOf records pool) 0) e)
+      where
+        rest : PrintOutcome
+        rest =
+            check (ltb (length out) (length (join (tokensOf records pool)))) 22 (length (join (tokensOf records pool))) out
+            (printAccepted (join (tokensOf records pool)) out)
 
-pub checked-bytes : {hs ss es : List ℕ} {n : ℕ} (records pool : List ℕ) {total : ℕ} → Held hs ss es n
-    → ((rules : List Rule) → Holds hs ss es n rules → measure.Bytes total ≡ measured (firstFault (faultOf rules pool) (recordsOf records) 0) (length (join (tokensOf records pool))))
-    → Checked hs ss es n records pool total
-checked-bytes records pool held m =
-    record {
-      held = held;
-      faultless = λ rules h. measured-bytes rules records pool (m rules h) .0;
-      bytes = measured-bytes (held .rules) records pool (m (held .rules) (held .holds)) .1;
-    }
+        go : (a : Option Refusal) (b : Bool) (d : Option Refusal) → or a (refuse b 20 0 d) ≡ some f
+            → Answered (unless a out (check b 20 0 out (unless d out rest))) (print.Refused f) out
+        go (some g) b d z = let y : f ≡ g = cc in record { answer = ap print.Refused y; out = refl }
+        go none true d z = let y : f ≡ record { number = 20; place = 0 } = cc in record { answer = ap print.Refused y; out = refl }
+        go none false (some g) z = let y : f ≡ g = cc in record { answer = ap print.Refused y; out = refl }
+        go none false none z = let y : _≡_ {A = ℕ} 0 1 = cc in absurd (omega arith)
+
+    -- a list with which nothing is wrong
+    module _ {scratch : List ℕ} {total : ℕ} (w : Rehearsed rules records pool scratch total) (short : total ≤ maxText) where
+      nothing-on : firstExtended rules (tokensOf records pool) 0 ≡ extendedAt 0 0
+      unfolding refuse
+      nothing-on = w .settled short .apart
+
+      pub clean-short : length out < total → {r : PrintAnswer} → r ≡ print.Refused (record { number = 22; place = total }) → Answered (printRules rules records pool out) r out
+      clean-short l a =
+          answered-checked (w .settled short .faultless) (answered-short rules (tokensOf records pool) out (w .bytes short) short {k = 0} {n = 0} nothing-on (omega arith) l a)
+
+      pub clean-printed : total ≤ length out → {exit : List ℕ} → exit ≡ paste out 0 (drop 0 scratch) total → Answered (printRules rules records pool out) (print.Printed total) exit
+      clean-printed l e =
+          answered-checked (w .settled short .faultless) (answered-printed rules (tokensOf records pool) out (w .bytes short) short {k = 0} {n = 0} nothing-on (omega arith) l scratch (w .laid short) e)
 
 -- ---- by a book
 

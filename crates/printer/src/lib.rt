@@ -1,7 +1,6 @@
 // Printing a list of tokens, the paper's plain writing: their bytes one behind the other, if lexing them again gives the list back.
 // The bytes are joined in a scratch of the call's own, so that the output stands as it was where the list is refused.
 use book::BookAnswer;
-use lists::Measured;
 use reading::Book;
 use refusal::Refusal;
 ghost use mathlib.Core.Path.{_≡_};
@@ -11,9 +10,7 @@ ghost use Rattle.automaton.specs.Rule.{Rule};
 ghost use Rattle.reading.specs.State.{Fresh};
 ghost use Rattle.reading.specs.Limits.{maxText};
 ghost use Rattle.cutting.specs.Answers.{Holds, Held};
-ghost use Rattle.pooled.specs.Tokens.{tokensOf};
-ghost use Rattle.printer.specs.Outcome.{printChecked, printRules, printOutcome, Answered};
-ghost use Rattle.lists.specs.Answers.{Checked};
+ghost use Rattle.printer.specs.Outcome.{printRules, printOutcome, Answered};
 
 // What printing answers: the number of bytes written, or a refusal.
 pub enum PrintAnswer {
@@ -89,7 +86,7 @@ fn print_book(
     }
 }
 
-// The same by rules that the tables hold.
+// The same by rules that the tables hold. The list is rehearsed, and only one with which something is wrong is asked what that is.
 pub fn print_rules(
     headers: &[u64],
     states: &[u16],
@@ -108,46 +105,17 @@ pub fn print_rules(
     if Book::TOKENS < records.len() / 10 {
         return refused(Refusal::TOO_MANY_TOKENS, 0);
     }
-    match lists::measure(headers, states, edges, rules, records, pool) {
-        Measured::Bytes(total) => print_checked(
+    let total = rehearsal::rehearse(headers, states, edges, rules, records, pool, scratch);
+    if Book::TEXT < total {
+        return PrintAnswer::Refused(rehearsal::find_refusal(
             headers,
             states,
             edges,
             rules,
             records,
             pool,
-            total,
             scratch,
-            out,
-        ),
-        Measured::Refused(refusal) => PrintAnswer::Refused(refusal),
-    }
-}
-
-// The same of tokens that have no fault and `total` bytes.
-fn print_checked(
-    headers: &[u64],
-    states: &[u16],
-    edges: &[u64],
-    rules: usize,
-    records: &[u8],
-    pool: &[u8],
-    total: usize,
-    scratch: &mut [u8],
-    out: &mut [u8],
-) -> PrintAnswer
-    requires { ⌜ Checked (now headers) (now states) (now edges) rules (now records) (now pool) total ⌝ }
-    requires { ⌜ length (now scratch) ≡ maxText ⌝ }
-    ensures { λ r. ⌜ ((rs : List Rule) → Holds (now (headers .entry)) (now (states .entry)) (now (edges .entry)) rules rs
-        → Answered (printChecked rs (tokensOf (now (records .entry)) (now (pool .entry))) (now (out .entry))) r (now (out .exit))) ⌝ }
-{
-    if Book::TEXT < total {
-        return refused(Refusal::OUTPUT_TOO_LONG, 0);
-    }
-    lists::join_tokens(records, pool, scratch);
-    let k = lists::extended_within(headers, states, edges, rules, records, scratch, total);
-    if k < records.len() / 10 {
-        return refused(Refusal::READ_ON, k);
+        ));
     }
     if out.len() < total {
         return refused(Refusal::OUTPUT_TOO_SHORT, total);

@@ -21,7 +21,7 @@ use Rattle.pooled.specs.Answers.{InPool}
 use Rattle.pooled.specs.Tokens.{recordAt, recordsOf, bytesIn, tokenIn, tokensIn}
 use Rattle.pooled.proofs.Faults.{bytes-length}
 use Rattle.lists.proofs.Extended.{read-no-more, read-on}
-use Rattle.lists.proofs.Passes.{left, left-start, left-next, left-end}
+use Rattle.lists.proofs.Passes.{left, left-start, left-next, left-end, record-at}
 use Rattle.spacing.specs.declared.Placed.{Placed}
 use Rattle.spacing.specs.declared.Placed.the-variants as placed
 use Rattle.spacing.specs.Separators.{meaning, follows, put, separated, spelled}
@@ -163,16 +163,6 @@ pub record Putting (rules : List Rule) (sep : TokenRecord) (mode : ℕ) (records
   pub within : at ≤ length scratch
   pub few : k ≤ recordCount records
   pub laid : drop at scratch ≡ join (separated rules (tokenIn pool sep) mode (tokensIn pool (left records k)))
-
--- what holds of every record holds of record number k
-record-at : (P : TokenRecord → Type 0) (records : List ℕ) → All P (recordsOf records) → (k : ℕ) → k < recordCount records → P (recordAt records k)
-record-at P records h k l = (subst (All P) (left-next records k l) (from k (omega arith))) .0
-  where
-    from : (j : ℕ) → j ≤ recordCount records → All P (left records j)
-    from zero p = subst (All P) (left-start records) h
-    from (suc j) p =
-        let q : j < recordCount records = omega arith in
-        subst (λ (i : ℕ). All P (left records i)) (add-one j) ((subst (All P) (left-next records j q) (from j (omega arith))) .1)
 
 module _ {hs ss es : List ℕ} {n : ℕ} {sep : TokenRecord} {records pool : List ℕ} (p : Spaceable hs ss es n sep records pool) {k : ℕ} (l : k < recordCount records)
     {r : TokenRecord} (e : r ≡ recordAt records k) where

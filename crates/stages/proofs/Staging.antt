@@ -32,8 +32,9 @@ use Rattle.lists.specs.Checks.{firstFault, firstExtended}
 use Rattle.pooled.specs.Answers.{Small}
 use Rattle.lists.specs.Answers.{Fitting, Laid, extendedAt}
 use Rattle.printer.specs.Outcome.{printChecked, printRules, printOutcome, Answered}
-use Rattle.lists.proofs.Passes.{Measuring, measuring-start, measuring-refused, measuring-next, measuring-end, Joining, joining-start, joining-pool, joining-room, joining-next, joining-end, Extending, extending-start, extending-found, extending-next, extending-end}
-use Rattle.printer.proofs.Outcomes.{faultless-pool, measured-bytes, answered-long, answered-extended, answered-short, answered-printed, answered-many, answered-fault, answered-checked, answered-book, answered-refused}
+use Rattle.lists.proofs.Passes.{faultless-pool, Measuring, measuring-start, measuring-refused, measuring-next, measuring-end, Joining, joining-start, joining-pool, joining-room, joining-next, joining-end, Extending, extending-start, extending-found, extending-next, extending-end}
+use Rattle.rehearsal.proofs.Finding.{measured-bytes}
+use Rattle.printer.proofs.Outcomes.{answered-long, answered-extended, answered-short, answered-printed, answered-many, answered-fault, answered-checked, answered-book, answered-refused}
 use Rattle.stages.specs.declared.Stage.{Stage}
 use Rattle.stages.specs.Stages.{going, done, refusing, passOver, movedOn, Steps, Stepped, firstStage, Begins, Finishes}
 

@@ -1,14 +1,15 @@
--- `print_rules`: 16, the first fault, or what `print_checked` answers. Assumes nothing.
-use mathlib.Core.Path.{sym, _∙_}
-use Rattle.printer.proofs.Outcomes.{answered-many, answered-fault, answered-checked, measured-bytes, checked-bytes}
+-- `print_rules`: 16, what is wrong with the list, 22, or its bytes. Assumes nothing.
+use native.Mathlib.Omega.{arith}
+use Rattle.printer.proofs.Outcomes.{answered-many, answered-troubled, clean-short, clean-printed}
 use borrow.Author.Needs.{needs}
 use Rattle.printer.proofs.print_rules.Statement.{statement}
 use Rattle.printer.proofs.print_rules.Tie as tie
 use Rattle.printer.proofs.print_rules.Reads as reads
 use Rattle.printer.proofs.print_rules.Lts as lts
-use Rattle.lists.proofs.measure.Reads as measure-reads
-use Rattle.printer.proofs.print_checked.Reads as print-checked-reads
+use Rattle.lists.proofs.copy.Reads as copy-reads
 use Rattle.printer.proofs.refused.Reads as refused-reads
+use Rattle.rehearsal.proofs.find_refusal.Reads as find-refusal-reads
+use Rattle.rehearsal.proofs.rehearse.Reads as rehearse-reads
 
 refused-requires : tie.Need-refused-requires
 refused-requires c κs = search needs
@@ -16,29 +17,38 @@ refused-requires c κs = search needs
 returns : tie.Need-returns
 returns c = λ rs h. answered-many rs _ _ _ (c .before .if1 .taken) (c .refused .ensures)
 
-measure-requires : tie.Need-measure-requires
-measure-requires c κs = search needs
+rehearse-requires : tie.Need-rehearse-requires
+rehearse-requires c κs = search needs
 
-enum-known-total : tie.Need-enum-known-total
-enum-known-total c = search needs
-
-print-checked-requires : tie.Need-print-checked-requires
-print-checked-requires c κs = (checked-bytes _ _ (c .before .before .before .before .before .before .before .before .before .before .before .before .before .before .pre .0) (λ rs h. sym (c .before .before .before .total .given .1) ∙ c .before .before .before .before .before .measure .ensures rs h), c .before .before .before .before .before .before .before .before .before .before .before .before .before .before .pre .1)
-
-enum-known-refusal : tie.Need-enum-known-refusal
-enum-known-refusal c = search needs
+find-refusal-requires : tie.Need-find-refusal-requires
+find-refusal-requires c κs = (record { held = c .before .before .before .before .before .before .before .before .before .before .before .before .before .before .pre .0; unclean = λ rs h. c .before .before .before .before .rehearse .ensures rs h .unclean (c .before .if2 .taken) }, (c .before .before .before .before .before .before .if1 .left, omega (arith, c .before .before .before .before .rehearse .kept, c .before .before .before .before .before .before .before .before .before .before .before .before .before .before .pre .1)))
 
 same-length : tie.Need-same-length
 same-length c = search needs
 
+returns-2 : tie.Need-returns-2
+returns-2 c = λ rs h. answered-troubled rs _ _ _ (c .before .before .before .before .before .before .before .before .before .if1 .left) (c .before .before .find-refusal .ensures rs h)
+
+refused-requires-2 : tie.Need-refused-requires-2
+refused-requires-2 c κs = search needs
+
 same-length-2 : tie.Need-same-length-2
 same-length-2 c = search needs
 
-returns-2 : tie.Need-returns-2
-returns-2 c = λ rs h. answered-checked rs _ _ _ (c .before .before .before .before .before .before .before .before .before .before .before .if1 .left) (measured-bytes rs _ _ (sym (c .before .before .before .before .before .before .before .before .total .given .1) ∙ c .before .before .before .before .before .before .before .before .before .before .measure .ensures rs h) .0) (c .before .before .before .before .print-checked .ensures rs h)
-
 returns-3 : tie.Need-returns-3
-returns-3 c = λ rs h. answered-fault rs _ _ _ (c .before .before .before .before .if1 .left) (sym (c .before .refusal .given .1) ∙ c .before .before .before .measure .ensures rs h)
+returns-3 c = λ rs h. clean-short rs _ _ _ (c .before .before .before .before .before .before .before .if1 .left) (c .before .before .before .before .before .rehearse .ensures rs h) (c .before .before .if2 .left) (c .before .if3 .taken) (c .refused2 .ensures)
+
+copy-requires : tie.Need-copy-requires
+copy-requires c κs = search needs
+
+same-length-3 : tie.Need-same-length-3
+same-length-3 c = search needs
+
+same-length-4 : tie.Need-same-length-4
+same-length-4 c = search needs
+
+returns-4 : tie.Need-returns-4
+returns-4 c = λ rs h. clean-printed rs _ _ _ (c .before .before .before .before .before .before .before .before .before .before .before .if1 .left) (c .before .before .before .before .before .before .before .before .before .rehearse .ensures rs h) (c .before .before .before .before .before .before .if2 .left) (c .before .before .before .before .before .if3 .left) (c .before .before .copy .ensures)
 
 pub print-rules-spec : {M : Type 1} → statement M
 print-rules-spec =
@@ -46,11 +56,14 @@ print-rules-spec =
     (tie.spec
     refused-requires
     returns
-    measure-requires
-    enum-known-total
-    print-checked-requires
-    enum-known-refusal
+    rehearse-requires
+    find-refusal-requires
     same-length
-    same-length-2
     returns-2
-    returns-3)
+    refused-requires-2
+    same-length-2
+    returns-3
+    copy-requires
+    same-length-3
+    same-length-4
+    returns-4)

@@ -1,0 +1,94 @@
+-- What is found to be wrong with a list. Assumes nothing.
+use mathlib.Core.Path.{_≡_, refl, ap, _∙_}
+use Prim.Native.Nat.{ℕ, _<_, _≤_}
+use mathlib.Core.Bool.{Bool, true, false}
+use lib.Dec.{ltb}
+use mathlib.Core.Option.{Option, none, some}
+use mathlib.Core.List.{List}
+use native.Mathlib.Omega.{arith}
+use lib.ListN.{length, take}
+use lib.Seq.{take-append-seam}
+use borrow.Author.Tests.{lt-ltb, le-ltb}
+use Rattle.automaton.specs.Rule.{Rule}
+use Rattle.refusal.specs.declared.Refusal.{Refusal}
+use Rattle.cutting.specs.Lexer.{or, join}
+use Rattle.reading.specs.Limits.{maxText}
+use Rattle.cutting.specs.Answers.{Holds, Held}
+use Rattle.lists.specs.declared.Measured.the-variants as measure
+use Rattle.pooled.specs.Tokens.{recordsOf, tokensOf}
+use Rattle.pooled.specs.Faults.{faultOf}
+use Rattle.rehearsal.specs.Clean.{trouble, Unclean}
+use Rattle.lists.specs.Checks.{refuse, firstFault, firstExtended}
+use Rattle.lists.specs.Answers.{measured, Fitting, Joined, Laid, Readable, Checked, extendedAt}
+use Rattle.pooled.proofs.Faults.{faultless}
+use Rattle.lists.proofs.Passes.{faultless-pool}
+
+-- ---- tokens without fault
+
+module _ {hs ss es : List ℕ} {n : ℕ} {records pool : List ℕ} {total : ℕ} (c : Checked hs ss es n records pool total) (short : total ≤ maxText) where
+  pub checked-fitting : {scratch : List ℕ} → length scratch ≡ maxText → Fitting records pool scratch
+  checked-fitting l =
+      record {
+        each = faultless-pool (c .held .rules) pool (recordsOf records) 0 (c .faultless (c .held .rules) (c .held .holds));
+        room = omega (arith, c .bytes);
+      }
+
+  module _ {entry exit : List ℕ} (j : Joined (join (tokensOf records pool)) entry exit) where
+    joined-front : take total exit ≡ join (tokensOf records pool)
+    joined-front = rw (c .bytes, j .written, take-append-seam)
+
+    pub checked-laid : (rules : List Rule) → Holds hs ss es n rules → Laid rules records pool (take total exit)
+    checked-laid rules h = record { faultless = c .faultless rules h; written = joined-front }
+
+    pub checked-readable : Readable hs ss es n records (take total exit)
+    checked-readable =
+        record { rules = c .held .rules; pool = pool; holds = c .held .holds; laid = checked-laid (c .held .rules) (c .held .holds) }
+
+-- no fault, where the bytes are counted
+pub measured-bytes : (rules : List Rule) (records pool : List ℕ) {total : ℕ}
+    → measure.Bytes total ≡ measured (firstFault (faultOf rules pool) (recordsOf records) 0) (length (join (tokensOf records pool)))
+    → (firstFault (faultOf rules pool) (recordsOf records) 0 ≡ none) × (total ≡ length (join (tokensOf records pool)))
+measured-bytes rules records pool {total} e = go (firstFault (faultOf rules pool) (recordsOf records) 0) refl e
+  where
+    go : (o : Option Refusal) → firstFault (faultOf rules pool) (recordsOf records) 0 ≡ o → measure.Bytes total ≡ measured o (length (join (tokensOf records pool)))
+        → (firstFault (faultOf rules pool) (recordsOf records) 0 ≡ none) × (total ≡ length (join (tokensOf records pool)))
+    go none q z = (q, cc)
+    go (some g) q z = let y : _≡_ {A = ℕ} 0 1 = cc in absurd (omega arith)
+
+pub checked-bytes : {hs ss es : List ℕ} {n : ℕ} (records pool : List ℕ) {total : ℕ} → Held hs ss es n
+    → ((rules : List Rule) → Holds hs ss es n rules → measure.Bytes total ≡ measured (firstFault (faultOf rules pool) (recordsOf records) 0) (length (join (tokensOf records pool))))
+    → Checked hs ss es n records pool total
+checked-bytes records pool held m =
+    record {
+      held = held;
+      faultless = λ rules h. measured-bytes rules records pool (m rules h) .0;
+      bytes = measured-bytes (held .rules) records pool (m (held .rules) (held .holds)) .1;
+    }
+
+-- ---- what is wrong
+
+module _ (rules : List Rule) (records pool : List ℕ) where
+  pub trouble-fault : {f : Refusal} → measure.Refused f ≡ measured (firstFault (faultOf rules pool) (recordsOf records) 0) (length (join (tokensOf records pool)))
+      → trouble rules records pool ≡ some f
+  unfolding trouble
+  trouble-fault {f} e = go (firstFault (faultOf rules pool) (recordsOf records) 0) e
+    where
+      go : (o : Option Refusal) → measure.Refused f ≡ measured o (length (join (tokensOf records pool)))
+          → or o (refuse (ltb maxText (length (join (tokensOf records pool)))) 20 0 (firstExtended rules (tokensOf records pool) 0)) ≡ some f
+      go none z = let y : _≡_ {A = ℕ} 0 1 = cc in absurd (omega arith)
+      go (some g) z = let y : g ≡ f = cc in ap some y
+
+  module _ (faultless : firstFault (faultOf rules pool) (recordsOf records) 0 ≡ none) {total : ℕ} (e : total ≡ length (join (tokensOf records pool))) where
+    pub trouble-long : maxText < total → trouble rules records pool ≡ some (record { number = 20; place = 0 })
+    unfolding trouble refuse
+    trouble-long l = rw (faultless, ← e, lt-ltb _ _ l)
+
+    pub trouble-on : {hs ss es : List ℕ} {n : ℕ} → Unclean hs ss es n records pool → Holds hs ss es n rules → total ≤ maxText
+        → (k count : ℕ) → firstExtended rules (tokensOf records pool) 0 ≡ extendedAt k count → trouble rules records pool ≡ some (record { number = 21; place = k })
+    unfolding trouble refuse
+    trouble-on u h short k count f = go (ltb k count) refl
+      where
+        go : (b : Bool) → ltb k count ≡ b → trouble rules records pool ≡ some (record { number = 21; place = k })
+        go true q = rw (faultless, ← e, le-ltb _ _ short, f, q)
+        go false q =
+            absurd (u .unclean rules h (record { settled = record { faultless = faultless; apart = f ∙ rw q }; short = omega arith }))
