@@ -97,6 +97,9 @@ module _ (rules : List Rule) (records pool out : List ℕ) where
 
     -- a list with which nothing is wrong
     module _ {scratch : List ℕ} {total : ℕ} (w : Rehearsed rules records pool scratch total) (short : total ≤ maxText) where
+      front : take total scratch ≡ join (tokensOf records pool)
+      front = rw (w .bytes short) (w .laid (w .each short) (omega (arith, w .bytes short)))
+
       nothing-on : firstExtended rules (tokensOf records pool) 0 ≡ extendedAt 0 0
       unfolding refuse
       nothing-on = w .settled short .apart
@@ -107,7 +110,7 @@ module _ (rules : List Rule) (records pool out : List ℕ) where
 
       pub clean-printed : total ≤ length out → {exit : List ℕ} → exit ≡ paste out 0 (drop 0 scratch) total → Answered (printRules rules records pool out) (print.Printed total) exit
       clean-printed l e =
-          answered-checked (w .settled short .faultless) (answered-printed rules (tokensOf records pool) out (w .bytes short) short {k = 0} {n = 0} nothing-on (omega arith) l scratch (w .laid short) e)
+          answered-checked (w .settled short .faultless) (answered-printed rules (tokensOf records pool) out (w .bytes short) short {k = 0} {n = 0} nothing-on (omega arith) l scratch front e)
 
 -- ---- by a book
 

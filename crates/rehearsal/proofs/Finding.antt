@@ -7,7 +7,6 @@ use mathlib.Core.Option.{Option, none, some}
 use mathlib.Core.List.{List}
 use native.Mathlib.Omega.{arith}
 use lib.ListN.{length, take}
-use lib.Seq.{take-append-seam}
 use borrow.Author.Tests.{lt-ltb, le-ltb}
 use Rattle.automaton.specs.Rule.{Rule}
 use Rattle.refusal.specs.declared.Refusal.{Refusal}
@@ -19,30 +18,25 @@ use Rattle.pooled.specs.Tokens.{recordsOf, tokensOf}
 use Rattle.pooled.specs.Faults.{faultOf}
 use Rattle.rehearsal.specs.Clean.{trouble, Unclean}
 use Rattle.lists.specs.Checks.{refuse, firstFault, firstExtended}
-use Rattle.lists.specs.Answers.{measured, Fitting, Joined, Laid, Readable, Checked, extendedAt}
+use Rattle.lists.specs.Answers.{measured, Laid, Readable, Checked, extendedAt}
 use Rattle.pooled.proofs.Faults.{faultless}
 use Rattle.lists.proofs.Passes.{faultless-pool}
 
 -- ---- tokens without fault
 
-module _ {hs ss es : List ℕ} {n : ℕ} {records pool : List ℕ} {total : ℕ} (c : Checked hs ss es n records pool total) (short : total ≤ maxText) where
-  pub checked-fitting : {scratch : List ℕ} → length scratch ≡ maxText → Fitting records pool scratch
-  checked-fitting l =
-      record {
-        each = faultless-pool (c .held .rules) pool (recordsOf records) 0 (c .faultless (c .held .rules) (c .held .holds));
-        room = omega (arith, c .bytes);
-      }
+module _ {hs ss es : List ℕ} {n : ℕ} {records pool scratch : List ℕ} {total : ℕ} (u : Unclean hs ss es n records pool scratch) (c : Checked hs ss es n records pool total)
+    (short : total ≤ maxText) where
+  front : take total scratch ≡ join (tokensOf records pool)
+  front =
+      rw (c .bytes)
+      (u .laid (faultless-pool (c .held .rules) pool (recordsOf records) 0 (c .faultless (c .held .rules) (c .held .holds))) (omega (arith, c .bytes)))
 
-  module _ {entry exit : List ℕ} (j : Joined (join (tokensOf records pool)) entry exit) where
-    joined-front : take total exit ≡ join (tokensOf records pool)
-    joined-front = rw (c .bytes, j .written, take-append-seam)
+  pub checked-laid : (rules : List Rule) → Holds hs ss es n rules → Laid rules records pool (take total scratch)
+  checked-laid rules h = record { faultless = c .faultless rules h; written = front }
 
-    pub checked-laid : (rules : List Rule) → Holds hs ss es n rules → Laid rules records pool (take total exit)
-    checked-laid rules h = record { faultless = c .faultless rules h; written = joined-front }
-
-    pub checked-readable : Readable hs ss es n records (take total exit)
-    checked-readable =
-        record { rules = c .held .rules; pool = pool; holds = c .held .holds; laid = checked-laid (c .held .rules) (c .held .holds) }
+  pub checked-readable : Readable hs ss es n records (take total scratch)
+  checked-readable =
+      record { rules = c .held .rules; pool = pool; holds = c .held .holds; laid = checked-laid (c .held .rules) (c .held .holds) }
 
 -- no fault, where the bytes are counted
 pub measured-bytes : (rules : List Rule) (records pool : List ℕ) {total : ℕ}
@@ -83,7 +77,7 @@ module _ (rules : List Rule) (records pool : List ℕ) where
     unfolding trouble refuse
     trouble-long l = rw (faultless, ← e, lt-ltb _ _ l)
 
-    pub trouble-on : {hs ss es : List ℕ} {n : ℕ} → Unclean hs ss es n records pool → Holds hs ss es n rules → total ≤ maxText
+    pub trouble-on : {hs ss es scratch : List ℕ} {n : ℕ} → Unclean hs ss es n records pool scratch → Holds hs ss es n rules → total ≤ maxText
         → (k count : ℕ) → firstExtended rules (tokensOf records pool) 0 ≡ extendedAt k count → trouble rules records pool ≡ some (record { number = 21; place = k })
     unfolding trouble refuse
     trouble-on u h short k count f = go (ltb k count) refl

@@ -1,11 +1,10 @@
 -- The loops of `extent` and `read_back`: what holds at their heads, how a turn keeps it, and how they end. Assumes nothing.
 use mathlib.Core.Path.{_≡_, refl, sym, ap, _∙_, subst}
-use Prim.Native.Nat.{ℕ, suc, _+_, _<_, _≤_}
+use Prim.Native.Nat.{ℕ, _+_, _<_, _≤_}
 use mathlib.Core.Bool.{Bool, true, false}
 use mathlib.Core.Option.{Option, none, some}
 use mathlib.Core.List.{List, [], _∷_, _++_}
 use native.Mathlib.Omega.{arith}
-use native.Mathlib.Nat.{add-zero}
 use native.Mathlib.Numerals.{add-one}
 use lib.ListN.{length, take, drop, length-append, length-drop}
 use lib.Seq.{drop-drop, drop-at, take-append-seam}
@@ -28,7 +27,7 @@ use Rattle.lists.specs.Checks.{refuse, firstFault, firstExtended}
 use Rattle.lists.specs.Answers.{Fitting, Joined}
 use Rattle.lists.proofs.Extended.{matched-long, read-no-more, read-on}
 use Rattle.lists.proofs.Passes.{left, left-start, left-next, left-end, record-at, faultless-front, faultless-pool}
-use Rattle.rehearsal.specs.Clean.{Settled, Clean, Spans, Spread, Tells, Rehearsed}
+use Rattle.rehearsal.specs.Clean.{Settled, Laid, Spans, Spread, Tells, Rehearsed}
 
 -- ---- how many bytes
 
@@ -214,7 +213,8 @@ module _ {records pool : List ℕ} {n : ℕ} (s : Spans records pool n) where
       record {
         settled = λ m. absurd (omega arith);
         bytes = λ m. absurd (omega arith);
-        laid = λ m. absurd (omega arith);
+        laid = λ h m. let b = s .long l h in absurd (omega arith);
+        each = λ m. absurd (omega arith);
         unclean = λ _ c. let b = s .long l (faultless-pool rules pool (recordsOf records) 0 (c .settled .faultless)) in omega (arith, c .short);
       }
 
@@ -223,16 +223,22 @@ module _ {records pool : List ℕ} {n : ℕ} (s : Spans records pool n) where
     spans-fitting e = record { each = s .each short; room = omega (arith, s .bytes short) }
 
     module _ {entry exit : List ℕ} (j : Joined (join (tokensOf records pool)) entry exit) where
-      joined-front : take n exit ≡ join (tokensOf records pool)
-      joined-front = rw (s .bytes short, j .written, take-append-seam)
+      front-laid : Laid records pool exit
+      front-laid h m = rw (j .written, take-append-seam)
 
       pub spans-spread : Spread records pool (take n exit)
-      spans-spread = record { each = s .each short; written = joined-front }
+      spans-spread = record { each = s .each short; written = rw (s .bytes short, j .written, take-append-seam) }
 
       pub rehearsed-clean : {rules : List Rule} {b : Bool} → Tells rules records pool b → b ≡ true → Rehearsed rules records pool exit n
       rehearsed-clean t e =
-          record { settled = λ _. t .yes e; bytes = s .bytes; laid = λ _. joined-front; unclean = λ m _. omega arith }
+          record { settled = λ _. t .yes e; bytes = s .bytes; laid = front-laid; each = s .each; unclean = λ m _. omega arith }
 
       pub rehearsed-unclean : {rules : List Rule} {b : Bool} → Tells rules records pool b → b ≡ false → Rehearsed rules records pool exit (maxText + 1)
       rehearsed-unclean t e =
-          record { settled = λ m. absurd (omega arith); bytes = λ m. absurd (omega arith); laid = λ m. absurd (omega arith); unclean = λ _ c. t .no e (c .settled) }
+          record {
+            settled = λ m. absurd (omega arith);
+            bytes = λ m. absurd (omega arith);
+            laid = front-laid;
+            each = λ m. absurd (omega arith);
+            unclean = λ _ c. t .no e (c .settled);
+          }

@@ -121,7 +121,7 @@ pub fn rehearse(
     Book::TEXT + 1
 }
 
-// What refuses a list with which something is wrong: the checks of document 01, one after the other.
+// What refuses a list with which something is wrong: the checks of document 01, one after the other. The scratch is as `rehearse` left it.
 pub fn find_refusal(
     headers: &[u64],
     states: &[u16],
@@ -129,10 +129,10 @@ pub fn find_refusal(
     rules: usize,
     records: &[u8],
     pool: &[u8],
-    scratch: &mut [u8],
+    scratch: &[u8],
 ) -> Refusal
-    requires { ⌜ Unclean (now headers) (now states) (now edges) rules (now records) (now pool) ⌝ }
-    requires { ⌜ (recordCount (now records) ≤ maxTokens) × (length (now scratch) ≡ maxText) ⌝ }
+    requires { ⌜ Unclean (now headers) (now states) (now edges) rules (now records) (now pool) (now scratch) ⌝ }
+    requires { ⌜ recordCount (now records) ≤ maxTokens ⌝ }
     ensures { λ r. ⌜ ((rs : List Rule) → Holds (now (headers .entry)) (now (states .entry)) (now (edges .entry)) rules rs
         → trouble rs (now (records .entry)) (now (pool .entry)) ≡ some r) ⌝ }
 {
@@ -160,11 +160,10 @@ fn find_read_on(
     records: &[u8],
     pool: &[u8],
     total: usize,
-    scratch: &mut [u8],
+    scratch: &[u8],
 ) -> Refusal
-    requires { ⌜ Unclean (now headers) (now states) (now edges) rules (now records) (now pool) ⌝ }
+    requires { ⌜ Unclean (now headers) (now states) (now edges) rules (now records) (now pool) (now scratch) ⌝ }
     requires { ⌜ Checked (now headers) (now states) (now edges) rules (now records) (now pool) total ⌝ }
-    requires { ⌜ length (now scratch) ≡ maxText ⌝ }
     ensures { λ r. ⌜ ((rs : List Rule) → Holds (now (headers .entry)) (now (states .entry)) (now (edges .entry)) rules rs
         → trouble rs (now (records .entry)) (now (pool .entry)) ≡ some r) ⌝ }
 {
@@ -174,7 +173,6 @@ fn find_read_on(
             place: 0,
         };
     }
-    lists::join_tokens(records, pool, scratch);
     let k = lists::extended_within(headers, states, edges, rules, records, scratch, total);
     Refusal {
         number: Refusal::READ_ON,

@@ -21,13 +21,13 @@ rehearse-requires : tie.Need-rehearse-requires
 rehearse-requires c κs = search needs
 
 find-refusal-requires : tie.Need-find-refusal-requires
-find-refusal-requires c κs = (record { held = c .before .before .before .before .before .before .before .before .before .before .before .before .before .before .pre .0; unclean = λ rs h. c .before .before .before .before .rehearse .ensures rs h .unclean (c .before .if2 .taken) }, (c .before .before .before .before .before .before .if1 .left, omega (arith, c .before .before .before .before .rehearse .kept, c .before .before .before .before .before .before .before .before .before .before .before .before .before .before .pre .1)))
+find-refusal-requires c κs = (record { held = c .before .before .before .before .before .before .before .before .before .before .before .before .before .before .pre .0; unclean = λ rs h. c .before .before .before .before .rehearse .ensures rs h .unclean (c .before .if2 .taken); laid = c .before .before .before .before .rehearse .ensures (c .before .before .before .before .before .before .before .before .before .before .before .before .before .before .pre .0 .rules) (c .before .before .before .before .before .before .before .before .before .before .before .before .before .before .pre .0 .holds) .laid; sized = omega (arith, c .before .before .before .before .rehearse .kept, c .before .before .before .before .before .before .before .before .before .before .before .before .before .before .pre .1) }, c .before .before .before .before .before .before .if1 .left)
 
 same-length : tie.Need-same-length
 same-length c = search needs
 
 returns-2 : tie.Need-returns-2
-returns-2 c = λ rs h. answered-troubled rs _ _ _ (c .before .before .before .before .before .before .before .before .before .if1 .left) (c .before .before .find-refusal .ensures rs h)
+returns-2 c = λ rs h. answered-troubled rs _ _ _ (c .before .before .before .before .before .before .before .if1 .left) (c .find-refusal .ensures rs h)
 
 refused-requires-2 : tie.Need-refused-requires-2
 refused-requires-2 c κs = search needs

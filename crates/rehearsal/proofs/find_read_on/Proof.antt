@@ -1,30 +1,20 @@
 -- `find_read_on`: 20, or the first token that is read on. Assumes nothing.
 use native.Mathlib.Omega.{arith}
-use Rattle.rehearsal.proofs.Finding.{checked-fitting, checked-laid, checked-readable, trouble-long, trouble-on}
-use borrow.Author.Needs.{needs}
+use Rattle.rehearsal.proofs.Finding.{checked-laid, checked-readable, trouble-long, trouble-on}
 use Rattle.rehearsal.proofs.find_read_on.Statement.{statement}
 use Rattle.rehearsal.proofs.find_read_on.Tie as tie
 use Rattle.rehearsal.proofs.find_read_on.Reads as reads
 use Rattle.rehearsal.proofs.find_read_on.Lts as lts
 use Rattle.lists.proofs.extended_within.Reads as extended-within-reads
-use Rattle.lists.proofs.join_tokens.Reads as join-tokens-reads
 
 returns : tie.Need-returns
-returns c = λ rs h. trouble-long rs _ _ (c .before .before .before .before .before .before .before .pre .1 .0 .faultless rs h) (c .before .before .before .before .before .before .before .pre .1 .0 .bytes) (c .if1 .taken)
-
-join-tokens-requires : tie.Need-join-tokens-requires
-join-tokens-requires c κs = checked-fitting (c .before .before .before .before .before .before .before .before .pre .1 .0) (c .before .if1 .left) (c .before .before .before .before .before .before .before .before .pre .1 .1)
+returns c = λ rs h. trouble-long rs _ _ (c .before .before .before .before .before .before .before .pre .1 .faultless rs h) (c .before .before .before .before .before .before .before .pre .1 .bytes) (c .if1 .taken)
 
 extended-within-requires : tie.Need-extended-within-requires
-extended-within-requires c κs = (omega (arith, c .before .before .before .join-tokens .kept, c .before .before .before .before .before .before .before .before .before .before .before .before .pre .1 .1, c .before .before .before .before .before .if1 .left), checked-readable (c .before .before .before .before .before .before .before .before .before .before .before .before .pre .1 .0) (c .before .before .before .before .before .if1 .left) (c .before .before .before .join-tokens .ensures))
-
-same-length : tie.Need-same-length
-same-length c = search needs
+extended-within-requires c κs = (omega (arith, c .before .before .before .before .before .before .before .pre .0 .sized, c .if1 .left), checked-readable (c .before .before .before .before .before .before .before .pre .0) (c .before .before .before .before .before .before .before .pre .1) (c .if1 .left))
 
 returns-2 : tie.Need-returns-2
-returns-2 c = λ rs h. trouble-on rs _ _ (c .before .before .before .before .before .before .before .before .before .before .before .before .before .pre .1 .0 .faultless rs h) (c .before .before .before .before .before .before .before .before .before .before .before .before .before .pre .1 .0 .bytes) (c .before .before .before .before .before .before .before .before .before .before .before .before .before .pre .0) h (c .before .before .before .before .before .before .if1 .left) _ _ (c .extended-within .ensures rs _ h (checked-laid (c .before .before .before .before .before .before .before .before .before .before .before .before .before .pre .1 .0) (c .before .before .before .before .before .before .if1 .left) (c .before .before .before .before .join-tokens .ensures) rs h))
+returns-2 c = λ rs h. trouble-on rs _ _ (c .before .before .before .before .before .before .before .before .pre .1 .faultless rs h) (c .before .before .before .before .before .before .before .before .pre .1 .bytes) (c .before .before .before .before .before .before .before .before .pre .0) h (c .before .if1 .left) _ _ (c .extended-within .ensures rs _ h (checked-laid (c .before .before .before .before .before .before .before .before .pre .0) (c .before .before .before .before .before .before .before .before .pre .1) (c .before .if1 .left) rs h))
 
 pub find-read-on-spec : {M : Type 1} → statement M
-find-read-on-spec =
-    tie.close
-    (tie.spec returns join-tokens-requires extended-within-requires same-length returns-2)
+find-read-on-spec = tie.close (tie.spec returns extended-within-requires returns-2)

@@ -16,13 +16,10 @@ enum-known-total : tie.Need-enum-known-total
 enum-known-total c = search needs
 
 find-read-on-requires : tie.Need-find-read-on-requires
-find-read-on-requires c κs = (c .before .before .before .before .before .before .before .before .before .before .before .pre .0, (checked-bytes _ _ (c .before .before .before .before .before .before .before .before .before .before .before .pre .0 .held) (λ rs h. sym (c .before .before .total .given .1) ∙ c .before .before .before .before .measure .ensures rs h), c .before .before .before .before .before .before .before .before .before .before .before .pre .1 .1))
+find-read-on-requires c κs = (c .before .before .before .before .before .before .before .before .before .before .pre .0, checked-bytes _ _ (c .before .before .before .before .before .before .before .before .before .before .pre .0 .held) (λ rs h. sym (c .before .total .given .1) ∙ c .before .before .before .measure .ensures rs h))
 
 enum-known-refusal : tie.Need-enum-known-refusal
 enum-known-refusal c = search needs
-
-same-length : tie.Need-same-length
-same-length c = search needs
 
 returns : tie.Need-returns
 returns c = search needs
@@ -38,6 +35,5 @@ find-refusal-spec =
     enum-known-total
     find-read-on-requires
     enum-known-refusal
-    same-length
     returns
     returns-2)
