@@ -27,7 +27,7 @@ use Rattle.lists.specs.Checks.{refuse, firstFault, firstExtended}
 use Rattle.lists.specs.Answers.{Fitting, Joined}
 use Rattle.lists.proofs.Extended.{matched-long, read-no-more, read-on}
 use Rattle.lists.proofs.Passes.{left, left-start, left-next, left-end, record-at, faultless-front, faultless-pool}
-use Rattle.rehearsal.specs.Clean.{Settled, Laid, Spans, Spread, Tells, Rehearsed}
+use Rattle.rehearsal.specs.Clean.{Settled, Standing, Spans, Spread, Tells, Rehearsed}
 
 -- ---- how many bytes
 
@@ -223,7 +223,7 @@ module _ {records pool : List ℕ} {n : ℕ} (s : Spans records pool n) where
     spans-fitting e = record { each = s .each short; room = omega (arith, s .bytes short) }
 
     module _ {entry exit : List ℕ} (j : Joined (join (tokensOf records pool)) entry exit) where
-      front-laid : Laid records pool exit
+      front-laid : Standing records pool exit
       front-laid h m = rw (j .written, take-append-seam)
 
       pub spans-spread : Spread records pool (take n exit)

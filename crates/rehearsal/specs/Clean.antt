@@ -37,8 +37,8 @@ trouble rules records pool =
 -- ---- what the parts of the code ask and answer
 
 -- the bytes of tokens that lie in the pool, if they are few enough to be written, stand at the front of the scratch
-abbrev pub Laid : List ℕ → List ℕ → List ℕ → Type 0
-Laid records pool scratch =
+abbrev pub Standing : List ℕ → List ℕ → List ℕ → Type 0
+Standing records pool scratch =
     All (InPool pool) (recordsOf records) → length (join (tokensOf records pool)) ≤ maxText
     → take (length (join (tokensOf records pool))) scratch ≡ join (tokensOf records pool)
 
@@ -46,7 +46,7 @@ Laid records pool scratch =
 pub record Unclean (hs ss es : List ℕ) (n : ℕ) (records pool scratch : List ℕ) : Type 0 where
   pub held : Held hs ss es n
   pub unclean : (rules : List Rule) → Holds hs ss es n rules → Clean rules records pool → ⊥
-  pub laid : Laid records pool scratch
+  pub laid : Standing records pool scratch
   pub sized : length scratch ≡ maxText
 
 -- n is the number of the tokens' bytes; it is above the limit where they are too many, or a token lies outside the pool
@@ -73,6 +73,6 @@ pub record Tells (rules : List Rule) (records pool : List ℕ) (b : Bool) : Type
 pub record Rehearsed (rules : List Rule) (records pool scratch : List ℕ) (n : ℕ) : Type 0 where
   pub settled : n ≤ maxText → Settled rules records pool
   pub bytes : n ≤ maxText → n ≡ length (join (tokensOf records pool))
-  pub laid : Laid records pool scratch
+  pub laid : Standing records pool scratch
   pub each : n ≤ maxText → All (InPool pool) (recordsOf records)
   pub unclean : maxText < n → Clean rules records pool → ⊥
