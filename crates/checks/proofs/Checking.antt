@@ -13,7 +13,7 @@ use borrow.Author.Tests.{lt-ltb, le-ltb, eq-eqb, ne-eqb}
 use Rattle.automaton.specs.Choice.{any}
 use Rattle.automaton.specs.Rule.{Rule}
 use Rattle.automaton.specs.Tables.{tagOf, kindOf, ruleAt}
-use Rattle.automaton.proofs.Tests.{or-true, and-false-right}
+use Rattle.automaton.proofs.Tests.{clash, or-true, and-false-right}
 use Rattle.automaton.proofs.Walks.{header-tag, header-kind}
 use Rattle.cutting.specs.Lexer.{or}
 use Rattle.cutting.specs.Answers.{Holds}
@@ -31,7 +31,7 @@ use Rattle.used.specs.declared.bytes.Lowest.the-variants as lowest
 use Rattle.used.specs.Kinds.{separatorKind, separates}
 use Rattle.used.specs.Bytes.{sharedByte}
 use Rattle.used.specs.Marks.{lowestOf}
-use Rattle.checks.specs.Refusals.{orElse, separatorFault, plainFault, sharing, listRefusal, separatedRefusal, checkedOf}
+use Rattle.checks.specs.Refusals.{orElse, separatorFault, plainFault, sharing, listRefusal, separatedRefusal, checkedOf, differs}
 
 -- ---- the search for a separator rule
 
@@ -82,37 +82,45 @@ module _ {hs : List ℕ} {rules tag k : ℕ} (w : Plainly hs rules tag k) where
   unfolding separates
   plainly-end l ss es rs h = sym (any-never (separator tag) rs (λ j p. w .passed ss es rs h j (omega (arith, w .within, h .count))))
 
--- ---- the faults of tokens
+-- ---- the fault of a token, or its kind
 
-module _ (rules : List Rule) (pool : List ℕ) (r : TokenRecord) where
-  module _ {number : ℕ} (e : number ≡ faultOf rules pool r) where
-    pub separator-fault : (number ≡ 0 → ⊥) → number ≡ separatorFault rules pool r
-    unfolding separatorFault orElse
-    separator-fault ne = e ∙ rw (← e, ne-eqb number 0 ne)
+pub differs-same : (wanted kind : Bool) → wanted ≡ kind → differs wanted kind ≡ false
+differs-same true true e = refl
+differs-same true false e = clash refl e
+differs-same false true e = clash e refl
+differs-same false false e = refl
 
-    pub plain-fault : (number ≡ 0 → ⊥) → number ≡ plainFault rules pool r
-    unfolding plainFault orElse
-    plain-fault ne = e ∙ rw (← e, ne-eqb number 0 ne)
+pub differs-other : (wanted kind : Bool) → (wanted ≡ kind → ⊥) → differs wanted kind ≡ true
+differs-other true true ne = absurd (ne refl)
+differs-other true false ne = refl
+differs-other false true ne = refl
+differs-other false false ne = absurd (ne refl)
 
-    module _ (z : number ≡ 0) {t : Bool} (s : t ≡ separates rules (r .tag)) where
-      none-here : eqb (faultOf rules pool r) 0 ≡ true
-      none-here = eq-eqb _ 0 (sym e ∙ z)
+module _ {fault first : ℕ} (e : fault ≡ first) (test : Bool) (number : ℕ) where
+  pub or-fault : (fault ≡ 0 → ⊥) → fault ≡ orElse first test number
+  unfolding orElse
+  or-fault ne = e ∙ rw (← e, ne-eqb fault 0 ne)
 
-      pub separator-kind : t ≡ true → 0 ≡ separatorFault rules pool r
-      unfolding separatorFault orElse
-      separator-kind q = rw (none-here, ← s, q)
+  module _ (z : fault ≡ 0) where
+    none-here : eqb first 0 ≡ true
+    none-here = eq-eqb first 0 (sym e ∙ z)
 
-      pub separator-wrong : t ≡ false → 25 ≡ separatorFault rules pool r
-      unfolding separatorFault orElse
-      separator-wrong q = rw (none-here, ← s, q)
+    pub or-number : test ≡ true → number ≡ orElse first test number
+    unfolding orElse
+    or-number q = rw (none-here, q)
 
-      pub plain-kind : t ≡ false → 0 ≡ plainFault rules pool r
-      unfolding plainFault orElse
-      plain-kind q = rw (none-here, ← s, q)
+    pub or-none : test ≡ false → 0 ≡ orElse first test number
+    unfolding orElse
+    or-none q = rw (none-here, q)
 
-      pub plain-wrong : t ≡ true → 26 ≡ plainFault rules pool r
-      unfolding plainFault orElse
-      plain-wrong q = rw (none-here, ← s, q)
+module _ (rules : List Rule) (pool : List ℕ) (r : TokenRecord) {number : ℕ} where
+  pub separator-fault : number ≡ orElse (faultOf rules pool r) (differs true (separates rules (r .tag))) 25 → number ≡ separatorFault rules pool r
+  unfolding separatorFault
+  separator-fault e = e
+
+  pub plain-fault : number ≡ orElse (faultOf rules pool r) (differs false (separates rules (r .tag))) 26 → number ≡ plainFault rules pool r
+  unfolding plainFault
+  plain-fault e = e
 
 -- ---- the pass over the list
 

@@ -1,6 +1,6 @@
 -- What is refused before anything is put together.
 use Prim.Native.Nat.{ℕ}
-use mathlib.Core.Bool.{Bool, not}
+use mathlib.Core.Bool.{Bool, true, false, not}
 use mathlib.Core.Option.{Option, none, some}
 use mathlib.Core.List.{List}
 use lib.Dec.{ltb, eqb}
@@ -25,6 +25,11 @@ use Rattle.checks.specs.declared.Checked.the-variants as checked
 -- the first number, or the second where the first is 0 and the test holds
 unfoldable pub orElse : ℕ → Bool → ℕ → ℕ
 orElse fault test number = if (eqb fault 0) (if test number 0) fault
+
+-- whether a kind is not the wanted one
+abbrev pub differs : Bool → Bool → Bool
+differs true kind = not kind
+differs false kind = kind
 
 -- "for the separator token 17, 18, 19, then 25 not of separator kind"
 unfoldable pub separatorFault : List Rule → List ℕ → TokenRecord → ℕ

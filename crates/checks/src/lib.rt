@@ -9,10 +9,11 @@ ghost use Prim.Native.Nat.{ℕ, _≤_};
 ghost use lib.ListN.{length};
 ghost use Rattle.automaton.specs.Rule.{Rule};
 ghost use Rattle.cutting.specs.Answers.{Holds, Held};
+ghost use Rattle.pooled.specs.Faults.{faultOf};
 ghost use Rattle.lists.specs.Checks.{firstFault};
 ghost use Rattle.pooled.specs.Tokens.{recordsOf};
 ghost use Rattle.used.specs.Kinds.{separates};
-ghost use Rattle.checks.specs.Refusals.{separatorFault, plainFault, listRefusal, separatedRefusal, checkedOf};
+ghost use Rattle.checks.specs.Refusals.{orElse, differs, plainFault, listRefusal, separatedRefusal, checkedOf};
 
 // What the checks of a call come to.
 pub enum Checked {
@@ -44,46 +45,33 @@ pub fn is_separator(headers: &[u64], rules: usize, tag: u64) -> bool
     false
 }
 
-// The number that refuses the separator token, 0 for none.
-pub fn separator_fault(
+// The number that refuses a token, 0 for none: its fault, or else `number` where its kind is not the wanted one.
+pub fn fault_or_kind(
     headers: &[u64],
     states: &[u16],
     edges: &[u64],
     rules: usize,
     pool: &[u8],
     token: TokenRecord,
+    separator: bool,
+    number: u8,
 ) -> u8
     requires { ⌜ Held (now headers) (now states) (now edges) rules ⌝ }
-    ensures { λ r. ⌜ ((rs : List Rule) → Holds (now (headers .entry)) (now (states .entry)) (now (edges .entry)) rules rs → r ≡ separatorFault rs (now (pool .entry)) token) ⌝ }
+    ensures { λ r. ⌜ ((rs : List Rule) → Holds (now (headers .entry)) (now (states .entry)) (now (edges .entry)) rules rs
+        → r ≡ orElse (faultOf rs (now (pool .entry)) token) (differs separator (separates rs (token .tag))) number) ⌝ }
 {
     let fault = pooled::token_fault(headers, states, edges, rules, pool, token);
     if fault != 0 {
         return fault;
     }
     if is_separator(headers, rules, token.tag) {
-        return 0;
-    }
-    Refusal::NO_SEPARATOR
-}
-
-// The number that refuses a token of the list, 0 for none.
-pub fn plain_fault(
-    headers: &[u64],
-    states: &[u16],
-    edges: &[u64],
-    rules: usize,
-    pool: &[u8],
-    token: TokenRecord,
-) -> u8
-    requires { ⌜ Held (now headers) (now states) (now edges) rules ⌝ }
-    ensures { λ r. ⌜ ((rs : List Rule) → Holds (now (headers .entry)) (now (states .entry)) (now (edges .entry)) rules rs → r ≡ plainFault rs (now (pool .entry)) token) ⌝ }
-{
-    let number = pooled::token_fault(headers, states, edges, rules, pool, token);
-    if number != 0 {
+        if separator {
+            return 0;
+        }
         return number;
     }
-    if is_separator(headers, rules, token.tag) {
-        return Refusal::SEPARATOR_IN_LIST;
+    if separator {
+        return number;
     }
     0
 }
@@ -105,7 +93,16 @@ pub fn check_tokens(
     let mut k = 0;
     while k < count {
         let token = pooled::read_record(records, k);
-        let number = plain_fault(headers, states, edges, rules, pool, token);
+        let number = fault_or_kind(
+            headers,
+            states,
+            edges,
+            rules,
+            pool,
+            token,
+            false,
+            Refusal::SEPARATOR_IN_LIST,
+        );
         if number != 0 {
             return refused(number, k);
         }
@@ -163,7 +160,16 @@ fn check_list(
         return refused(Refusal::UNKNOWN_MODE, 0);
     }
     let count = records.len() / 10;
-    let number = separator_fault(headers, states, edges, rules, pool, separator);
+    let number = fault_or_kind(
+        headers,
+        states,
+        edges,
+        rules,
+        pool,
+        separator,
+        true,
+        Refusal::NO_SEPARATOR,
+    );
     if number != 0 {
         return refused(number, count);
     }

@@ -1,5 +1,5 @@
 -- `check_list` answers `listRefusal`, test by test. Assumes nothing.
-use Rattle.checks.proofs.Checking.{list-mode, list-separator, list-many, list-tokens}
+use Rattle.checks.proofs.Checking.{separator-fault, list-mode, list-separator, list-many, list-tokens}
 use borrow.Author.Needs.{needs}
 use Rattle.checks.proofs.check_list.Statement.{statement}
 use Rattle.checks.proofs.check_list.Tie as tie
@@ -7,7 +7,7 @@ use Rattle.checks.proofs.check_list.Reads as reads
 use Rattle.checks.proofs.check_list.Lts as lts
 use Rattle.checks.proofs.check_tokens.Reads as check-tokens-reads
 use Rattle.checks.proofs.refused.Reads as refused-reads
-use Rattle.checks.proofs.separator_fault.Reads as separator-fault-reads
+use Rattle.checks.proofs.fault_or_kind.Reads as fault-or-kind-reads
 
 refused-requires : tie.Need-refused-requires
 refused-requires c κs = search needs
@@ -15,26 +15,26 @@ refused-requires c κs = search needs
 returns : tie.Need-returns
 returns c = λ rs h. list-mode rs _ _ _ _ (c .before .if1 .taken) (c .refused .ensures)
 
-separator-fault-requires : tie.Need-separator-fault-requires
-separator-fault-requires c κs = search needs
+fault-or-kind-requires : tie.Need-fault-or-kind-requires
+fault-or-kind-requires c κs = search needs
 
 refused-requires-2 : tie.Need-refused-requires-2
 refused-requires-2 c κs = search needs
 
 returns-2 : tie.Need-returns-2
-returns-2 c = λ rs h. list-separator rs _ _ _ _ (c .before .before .before .if1 .left) (c .before .before .separator-fault .ensures rs h) (c .before .if2 .taken) (c .refused2 .ensures)
+returns-2 c = λ rs h. list-separator rs _ _ _ _ (c .before .before .before .if1 .left) (separator-fault rs _ _ (c .before .before .fault-or-kind .ensures rs h)) (c .before .if2 .taken) (c .refused2 .ensures)
 
 refused-requires-3 : tie.Need-refused-requires-3
 refused-requires-3 c κs = search needs
 
 returns-3 : tie.Need-returns-3
-returns-3 c = λ rs h. list-many rs _ _ _ _ (c .before .before .before .before .if1 .left) (c .before .before .before .separator-fault .ensures rs h) (c .before .before .if2 .left) (c .before .if3 .taken) (c .refused3 .ensures)
+returns-3 c = λ rs h. list-many rs _ _ _ _ (c .before .before .before .before .if1 .left) (separator-fault rs _ _ (c .before .before .before .fault-or-kind .ensures rs h)) (c .before .before .if2 .left) (c .before .if3 .taken) (c .refused3 .ensures)
 
 check-tokens-requires : tie.Need-check-tokens-requires
 check-tokens-requires c κs = search needs
 
 returns-4 : tie.Need-returns-4
-returns-4 c = λ rs h. list-tokens rs _ _ _ _ (c .before .before .before .before .if1 .left) (c .before .before .before .separator-fault .ensures rs h) (c .before .before .if2 .left) (c .before .if3 .left) (c .check-tokens .ensures rs h)
+returns-4 c = λ rs h. list-tokens rs _ _ _ _ (c .before .before .before .before .if1 .left) (separator-fault rs _ _ (c .before .before .before .fault-or-kind .ensures rs h)) (c .before .before .if2 .left) (c .before .if3 .left) (c .check-tokens .ensures rs h)
 
 pub check-list-spec : {M : Type 1} → statement M
 check-list-spec =
@@ -42,7 +42,7 @@ check-list-spec =
     (tie.spec
     refused-requires
     returns
-    separator-fault-requires
+    fault-or-kind-requires
     refused-requires-2
     returns-2
     refused-requires-3

@@ -7,13 +7,13 @@ use Rattle.automaton.specs.Rule.{Rule}
 use Rattle.cutting.specs.Answers.{Holds}
 use Rattle.records.specs.Records.{recordCount}
 use Rattle.checks.specs.Refusals.{plainFault}
-use Rattle.checks.proofs.Checking.{Passing, passing-start, passing-refused, passing-next, passing-end}
+use Rattle.checks.proofs.Checking.{plain-fault, Passing, passing-start, passing-refused, passing-next, passing-end}
 use Rattle.checks.proofs.check_tokens.Statement.{statement}
 use Rattle.checks.proofs.check_tokens.Tie as tie
 use Rattle.checks.proofs.check_tokens.Reads as reads
 use Rattle.checks.proofs.check_tokens.Lts as lts
 use Rattle.pooled.proofs.read_record.Reads as read-record-reads
-use Rattle.checks.proofs.plain_fault.Reads as plain-fault-reads
+use Rattle.checks.proofs.fault_or_kind.Reads as fault-or-kind-reads
 use Rattle.checks.proofs.refused.Reads as refused-reads
 
 abbrev Inv-loop : tie.InvT-loop
@@ -28,14 +28,14 @@ loop-holds c = λ rs h. passing-start _ _
 read-record-requires : tie.Need-read-record-requires Inv-loop μ-loop
 read-record-requires c κs = omega (arith, c .loop-test .taken)
 
-plain-fault-requires : tie.Need-plain-fault-requires Inv-loop μ-loop
-plain-fault-requires c κs = c .before .before .before .before .before .before .before .before .pre
+fault-or-kind-requires : tie.Need-fault-or-kind-requires Inv-loop μ-loop
+fault-or-kind-requires c κs = c .before .before .before .before .before .before .before .before .pre
 
 refused-requires : tie.Need-refused-requires Inv-loop μ-loop
 refused-requires c κs = search needs
 
 returns : tie.Need-returns Inv-loop μ-loop
-returns c = λ rs h. passing-refused (c .before .before .before .before .before .loop .inv rs h) (c .before .before .before .before .loop-test .taken) (c .before .before .before .read-record .ensures .0) (c .before .before .plain-fault .ensures rs h) (c .before .if1 .taken) (c .refused .ensures)
+returns c = λ rs h. passing-refused (c .before .before .before .before .before .loop .inv rs h) (c .before .before .before .before .loop-test .taken) (c .before .before .before .read-record .ensures .0) (plain-fault rs _ _ (c .before .before .fault-or-kind .ensures rs h)) (c .before .if1 .taken) (c .refused .ensures)
 
 add-k : tie.Need-add-k Inv-loop μ-loop
 add-k c = omega (arith, c .before .before .before .loop-test .taken, c .before .before .before .before .before .before .before .before .before .before .good)
@@ -44,7 +44,7 @@ loop-less : tie.Need-loop-less Inv-loop μ-loop
 loop-less c = omega (arith, c .before .before .before .loop-test .taken)
 
 loop-again : tie.Need-loop-again Inv-loop μ-loop
-loop-again c = λ rs h. passing-next (c .before .before .before .before .loop .inv rs h) (c .before .before .before .loop-test .taken) (c .before .before .read-record .ensures .0) (c .before .plain-fault .ensures rs h) (c .if1 .left)
+loop-again c = λ rs h. passing-next (c .before .before .before .before .loop .inv rs h) (c .before .before .before .loop-test .taken) (c .before .before .read-record .ensures .0) (plain-fault rs _ _ (c .before .fault-or-kind .ensures rs h)) (c .if1 .left)
 
 returns-2 : tie.Need-returns-2 Inv-loop μ-loop
 returns-2 c = λ rs h. passing-end (c .before .loop .inv rs h) (c .loop-test .left)
@@ -57,7 +57,7 @@ check-tokens-spec =
     μ-loop
     loop-holds
     read-record-requires
-    plain-fault-requires
+    fault-or-kind-requires
     refused-requires
     returns
     add-k
