@@ -8,15 +8,13 @@ use native.Mathlib.Nat.{eq-zero-or-pos}
 use mathlib.Core.Logic.{_⊎_, inl, inr}
 use native.Mathlib.Omega.{arith}
 use lib.Dec.{ltb, eqb}
-use lib.ListN.{length, getD, take, drop, length-drop}
-use lib.Seq.{take-length, length-take-le, take-append-seam}
-use borrow.Author.Count.{below-more}
-use borrow.Author.Tests.{lt-ltb, le-ltb, ltb-true, ltb-false, eq-eqb, ne-eqb}
+use lib.ListN.{length, take, drop, length-drop}
+use lib.Seq.{length-take-le, take-append-seam}
+use borrow.Author.Tests.{lt-ltb, le-ltb, ltb-true, ltb-false, eq-eqb}
 use Rattle.automaton.specs.Choice.{if}
 use Rattle.automaton.specs.Rule.{Rule, matches}
-use Rattle.automaton.specs.Tables.{ruleAt, tagOf}
+use Rattle.automaton.specs.Tables.{ruleAt}
 use Rattle.automaton.proofs.Tests.{clash}
-use Rattle.automaton.proofs.Walks.{header-tag}
 use Rattle.reading.specs.Draft.{tagged}
 use Rattle.cutting.specs.Lexer.{Found, firstMatch, choose, extends}
 use Rattle.cutting.specs.Answers.{front, Holds, Chooses}
@@ -26,56 +24,11 @@ use Rattle.cutting.proofs.Choosing.{choose-at}
 use Rattle.pooled.specs.declared.TokenRecord.{TokenRecord}
 use Rattle.pooled.specs.Tokens.{bytesIn}
 use Rattle.pooled.specs.Faults.{aloneIn, faultOf}
-use Rattle.pooled.specs.Answers.{Ranks}
+use Rattle.reading.specs.State.{Ranks}
+use Rattle.reading.proofs.Ranking.{ranks-none, ranks-some}
 use Rattle.pooled.proofs.Alone.{alone-first}
 
--- ---- the search for a tag
-
--- no one of the first k rules has the tag
-pub record Ranking (hs : List ℕ) (rules tag k : ℕ) : Type 0 where
-  pub within : k ≤ rules
-  pub passed : (ss es : List ℕ) (rs : List Rule) → Holds hs ss es rules rs → (j : ℕ) → j < k → eqb ((ruleAt rs j) .tag) tag ≡ false
-
-pub ranking-start : (hs : List ℕ) (rules tag : ℕ) → Ranking hs rules tag 0
-ranking-start hs rules tag = record { within = omega arith; passed = λ ss es rs h j l. absurd (omega arith) }
-
-module _ {hs : List ℕ} {rules tag k : ℕ} (w : Ranking hs rules tag k) where
-  pub ranking-next : k < rules → (tagOf (getD hs k 0) ≡ tag → ⊥) → Ranking hs rules tag (k + 1)
-  ranking-next more ne =
-      record {
-        within = omega arith;
-        passed = λ ss es rs h.
-            below-more (λ j. eqb ((ruleAt rs j) .tag) tag ≡ false) k (w .passed ss es rs h)
-            (ne-eqb ((ruleAt rs k) .tag) tag (λ e. ne (header-tag (h .tables .each k (omega (arith, h .count))) ∙ e)));
-      }
-
-  pub ranking-found : k < rules → tagOf (getD hs k 0) ≡ tag → (ss es : List ℕ) (rs : List Rule) → Holds hs ss es rules rs → Ranks rs tag k
-  ranking-found more e ss es rs h =
-      record {
-        within = omega (arith, h .count);
-        earlier = w .passed ss es rs h;
-        here = λ l. sym (header-tag (h .tables .each k l)) ∙ e;
-      }
-
-  pub ranking-end : rules ≤ k → (ss es : List ℕ) (rs : List Rule) → Holds hs ss es rules rs → Ranks rs tag k
-  ranking-end l ss es rs h =
-      record {
-        within = omega (arith, w .within, h .count);
-        earlier = w .passed ss es rs h;
-        here = λ m. absurd (omega (arith, h .count));
-      }
-
 -- ---- by the number of the tag's rule
-
-untagged : (rules : List Rule) (tag : ℕ) → ((j : ℕ) → j < length rules → eqb ((ruleAt rules j) .tag) tag ≡ false) → tagged tag rules ≡ false
-untagged [] tag h = refl
-untagged (r ∷ rs) tag h = rw (h 0 (omega arith)) (untagged rs tag (λ j l. h (suc j) (omega arith)))
-
-tagged-here : (rules : List Rule) (tag k : ℕ) → k < length rules → (ruleAt rules k) .tag ≡ tag → ((j : ℕ) → j < k → eqb ((ruleAt rules j) .tag) tag ≡ false)
-    → tagged tag rules ≡ true
-tagged-here [] tag k l e h = absurd (omega arith)
-tagged-here (r ∷ rs) tag zero l e h = rw (eq-eqb _ _ e)
-tagged-here (r ∷ rs) tag (suc k) l e h = rw (h 0 (omega arith)) (tagged-here rs tag k (omega arith) e (λ j p. h (suc j) (omega arith)))
 
 alone-here : (rules : List Rule) (tag : ℕ) (w : List ℕ) (k : ℕ) → k < length rules → (ruleAt rules k) .tag ≡ tag
     → ((j : ℕ) → j < k → eqb ((ruleAt rules j) .tag) tag ≡ false) → matches (ruleAt rules k) w ≡ true
@@ -120,16 +73,10 @@ apart a b ne = go (ltb a b) refl
     go false e = let l = ltb-false a b e in inr (omega arith)
 
 module _ {rules : List Rule} {tag k : ℕ} (r : Ranks rules tag k) where
-  pub ranks-none : k ≡ length rules → tagged tag rules ≡ false
-  ranks-none e = untagged rules tag (λ j l. r .earlier j (omega arith))
-
   ranked : (k ≡ length rules → ⊥) → k < length rules
   ranked ne = omega (arith, r .within)
 
   module _ (known : k ≡ length rules → ⊥) where
-    pub ranks-some : tagged tag rules ≡ true
-    ranks-some = tagged-here rules tag k (ranked known) (r .here (ranked known)) (r .earlier)
-
     -- as many bytes are chosen at the front of a text as w has
     module _ (w after : List ℕ) {rule len : ℕ} (c : Chooses rules (w ++ after) rule len) (some-byte : len ≡ 0 → ⊥) (all : len ≡ length w) where
       at-all : take len (w ++ after) ≡ w

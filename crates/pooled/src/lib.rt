@@ -3,13 +3,13 @@ use cutting::Choice;
 use refusal::Refusal;
 ghost use mathlib.Core.Path.{_≡_};
 ghost use mathlib.Core.List.{List};
-ghost use Prim.Native.Nat.{ℕ, _+_, _*_, _≤_, _<_};
+ghost use Prim.Native.Nat.{_+_, _*_, _≤_, _<_};
 ghost use lib.ListN.{length, take, drop};
 ghost use Rattle.automaton.specs.Rule.{Rule};
 ghost use Rattle.cutting.specs.Answers.{Holds, Held, Chooses};
 ghost use Rattle.pooled.specs.Tokens.{twoAt, fourAt, recordAt};
 ghost use Rattle.pooled.specs.Faults.{faultOf};
-ghost use Rattle.pooled.specs.Answers.{Small, Ranks};
+ghost use Rattle.pooled.specs.Answers.{Small};
 
 // What a record says: a tag, and where the token's bytes lie in the pool.
 pub struct TokenRecord {
@@ -46,22 +46,6 @@ pub fn read_record(records: &[u8], k: usize) -> TokenRecord
     let place = four_bytes(records, at + 2);
     let len = four_bytes(records, at + 6);
     TokenRecord { tag, place, len }
-}
-
-// The number of the first rule of this tag; `rules` where none has it.
-pub fn find_tag(headers: &[u64], rules: usize, tag: u64) -> usize
-    requires { ⌜ rules ≤ length (now headers) ⌝ }
-    ensures { λ r. ⌜ ((ss es : List ℕ) (rs : List Rule) → Holds (now (headers .entry)) ss es rules rs → Ranks rs tag r) ⌝ }
-{
-    let mut k = 0;
-    while k < rules {
-        let h = headers[k];
-        if automaton::tag_of(h) == tag {
-            return k;
-        }
-        k += 1;
-    }
-    k
 }
 
 // What is chosen of `len` bytes of the pool from `place` on, taken as a text.
@@ -102,7 +86,7 @@ pub fn token_fault(
     if pool.len() - place < len {
         return Refusal::PAST_THE_POOL;
     }
-    let rule = find_tag(headers, rules, token.tag);
+    let rule = reading::find_tag(headers, rules, token.tag);
     if rule == rules {
         return Refusal::UNKNOWN_TAG;
     }

@@ -6,16 +6,13 @@ use mathlib.Core.Option.{some}
 use Prim.Native.Nat.{ℕ, suc, _+_, _*_, _/_, _%_, _<_, _≤_}
 use native.Mathlib.Omega.{arith}
 use lib.Dec.{leb, eqb}
-use lib.ListN.{length, getD, set, drop, length-append}
-use lib.Seq.{drop-cons, drop-length}
-use native.Mathlib.Numerals.{add-one}
+use lib.ListN.{length, getD, set, length-append}
 use borrow.Author.Tests.{eq-eqb, ne-eqb, le-leb, lt-leb, lt-ltb, le-ltb}
 use Rattle.automaton.specs.Choice.{if, any, among}
 use Rattle.automaton.specs.Rule.{Transition, Rule, meets, overlaps}
 use Rattle.automaton.proofs.Building.{head-none, head-some, meets-shares}
-use Rattle.automaton.specs.Tables.{stateCount, tagOf, headerWord, edgeWord, headAt, linked, marked, leaving, shares, Chained, Cells, blank, Tables}
+use Rattle.automaton.specs.Tables.{stateCount, headerWord, edgeWord, headAt, linked, marked, leaving, shares, Chained, Cells, Tables}
 use Rattle.automaton.proofs.Tests.{clash, or-true}
-use Rattle.automaton.proofs.Walks.{header-tag}
 use Rattle.command.specs.declared.Command.the-variants.{Rule as RULE, Start, Error, Final, Close, End}
 use Rattle.reading.specs.declared.Book.{Book}
 use Rattle.reading.specs.declared.Progress.the-variants.{On, Done, Refused}
@@ -145,37 +142,6 @@ module _ {b : Book} {hs ss es : List ℕ} {d : Draft} (h : Holds b hs ss es d) (
   end-last e l = rw (some-closed e, le-ltb _ _ l) (h .rules, h .stored .tables)
 
 -- ---- RULE
-
--- the search for a tag has passed the first k rules
-pub record Seeking (hs : List ℕ) (rules tag k : ℕ) : Type 0 where
-  pub within : k ≤ rules
-  pub passed : (ss es : List ℕ) (rs : List Rule) → Tables hs ss es rs → rules ≡ length rs → tagged tag rs ≡ tagged tag (drop k rs)
-
-pub seeking-start : (hs : List ℕ) (rules tag : ℕ) → Seeking hs rules tag 0
-seeking-start hs rules tag = record { within = omega arith; passed = λ ss es rs t e. refl }
-
--- the rest of the rules begins with rule number k, whose header has its tag
-tagged-at : {hs ss es : List ℕ} {rs : List Rule} (tag k : ℕ) → Tables hs ss es rs → k < length rs
-    → tagged tag (drop k rs) ≡ eqb (tagOf (getD hs k 0)) tag || tagged tag (drop (k + 1) rs)
-tagged-at {rs = rs} tag k t l = rw (header-tag (t .each k l), add-one, drop-cons rs k blank l)
-
-module _ {hs : List ℕ} {rules tag k : ℕ} (w : Seeking hs rules tag k) (more : k < rules) where
-  pub seeking-next : (tagOf (getD hs k 0) ≡ tag → ⊥) → Seeking hs rules tag (k + 1)
-  seeking-next ne =
-      record {
-        within = omega arith;
-        passed = λ ss es rs t l. w .passed ss es rs t l ∙ tagged-at tag k t (omega arith) ∙ rw (ne-eqb _ _ ne);
-      }
-
-  pub seeking-found : tagOf (getD hs k 0) ≡ tag → (ss es : List ℕ) (rs : List Rule) → Tables hs ss es rs → rules ≡ length rs → true ≡ tagged tag rs
-  seeking-found e ss es rs t l = sym (w .passed ss es rs t l ∙ tagged-at tag k t (omega arith) ∙ rw (eq-eqb _ _ e))
-
-pub seeking-end : {hs : List ℕ} {rules tag k : ℕ} → Seeking hs rules tag k → rules ≤ k → (ss es : List ℕ) (rs : List Rule) → Tables hs ss es rs → rules ≡ length rs
-    → false ≡ tagged tag rs
-seeking-end {tag = tag} {k = k} w l ss es rs t e =
-    let q : k ≡ length rs = omega (arith, w .within) in
-    let z : tagged tag (drop k rs) ≡ false = rw (q, drop-length) in
-    sym (w .passed ss es rs t e ∙ z)
 
 module _ {b : Book} {hs ss es : List ℕ} {d : Draft} (h : Holds b hs ss es d) (tag kind at len n : ℕ) where
   pub rule-too-many : maxRules ≤ b .rules → Follows (apply d (RULE tag kind) at len) (Refused (record { number = 5; place = at })) hs ss es n

@@ -4,9 +4,10 @@ use Prim.Native.Nat.{ℕ, _+_, _*_, _<_, _≤_}
 use mathlib.Core.Bool.{Bool, true, false}
 use mathlib.Core.List.{List}
 use mathlib.Core.Option.{Option, none, some}
+use lib.Dec.{eqb}
 use lib.ListN.{length, getD}
 use Rattle.automaton.specs.Rule.{Transition, Rule, overlaps}
-use Rattle.automaton.specs.Tables.{stateCount, headAt, Cells, Tables}
+use Rattle.automaton.specs.Tables.{stateCount, headAt, Cells, ruleAt, Tables}
 use Rattle.command.specs.declared.Command.{Command}
 use Rattle.command.specs.declared.Command.the-variants.{Rule as RULE, Start, Error, Final, Step, Span, Close, End}
 use Rattle.reading.specs.declared.Book.{Book}
@@ -123,3 +124,11 @@ Takes b c at len r hs ss es hs₁ ss₁ es₁ =
 pub record Fresh (hs ss es : List ℕ) : Type 0 where
   pub sized : Sized hs ss es
   pub zeros : (i : ℕ) → i < cellCount → getD ss i 0 ≡ 0
+
+-- ---- the rule of a tag
+
+-- k is the number of the first rule of this tag, or that of all rules where none has it
+pub record Ranks (rules : List Rule) (tag k : ℕ) : Type 0 where
+  pub within : k ≤ length rules
+  pub earlier : (j : ℕ) → j < k → eqb ((ruleAt rules j) .tag) tag ≡ false
+  pub here : k < length rules → (ruleAt rules k) .tag ≡ tag

@@ -12,7 +12,7 @@ ghost use Rattle.automaton.specs.Tables.{stateCount, headAt, Tables, Chained};
 ghost use Rattle.reading.specs.Limits.{maxRules};
 ghost use Rattle.reading.specs.Draft.{Draft, tagged, move};
 ghost use Rattle.automaton.specs.Choice.{if};
-ghost use Rattle.reading.specs.State.{edgeCount, idle, Holds, Follows, Takes};
+ghost use Rattle.reading.specs.State.{edgeCount, idle, Holds, Follows, Takes, Ranks};
 
 // A book that is being read: how many rules are closed, how many transitions they and the open rule have, and the rest of
 // the open rule, whose final states and transitions are in the tables already.
@@ -243,14 +243,21 @@ fn is_taken(headers: &[u64], rules: usize, tag: u16) -> bool
     requires { ⌜ rules ≤ length (now headers) ⌝ }
     ensures { λ r. ⌜ ((ss es : List ℕ) (rs : List Rule) → Tables (now (headers .entry)) ss es rs → rules ≡ length rs → r ≡ tagged tag rs) ⌝ }
 {
-    let wanted = tag as u64;
+    find_tag(headers, rules, tag as u64) < rules
+}
+
+// The number of the first rule of this tag; `rules` where none has it.
+pub fn find_tag(headers: &[u64], rules: usize, tag: u64) -> usize
+    requires { ⌜ rules ≤ length (now headers) ⌝ }
+    ensures { λ r. ⌜ ((ss es : List ℕ) (rs : List Rule) → Tables (now (headers .entry)) ss es rs → rules ≡ length rs → Ranks rs tag r) ⌝ }
+{
     let mut k = 0;
     while k < rules {
         let h = headers[k];
-        if automaton::tag_of(h) == wanted {
-            return true;
+        if automaton::tag_of(h) == tag {
+            return k;
         }
         k += 1;
     }
-    false
+    k
 }

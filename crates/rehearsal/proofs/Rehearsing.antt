@@ -20,9 +20,11 @@ use Rattle.records.specs.Records.{recordCount}
 use Rattle.pooled.specs.declared.TokenRecord.{TokenRecord}
 use Rattle.pooled.specs.Tokens.{recordAt, recordsOf, bytesIn, tokensIn, tokensOf}
 use Rattle.pooled.specs.Faults.{aloneIn, faultOf}
-use Rattle.pooled.specs.Answers.{InPool, Ranks}
+use Rattle.pooled.specs.Answers.{InPool}
+use Rattle.reading.specs.State.{Ranks}
+use Rattle.reading.proofs.Ranking.{ranks-none, ranks-some}
 use Rattle.pooled.proofs.Alone.{alone-first}
-use Rattle.pooled.proofs.Faults.{Faultless, faultless, bytes-length, fault-none, ranks-none, ranks-some, front-other, front-same}
+use Rattle.pooled.proofs.Faults.{Faultless, faultless, bytes-length, fault-none, front-other, front-same}
 use Rattle.lists.specs.Checks.{refuse, firstFault, firstExtended}
 use Rattle.lists.specs.Answers.{Fitting, Joined}
 use Rattle.lists.proofs.Extended.{matched-long, read-no-more, read-on}

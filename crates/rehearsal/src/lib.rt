@@ -58,7 +58,7 @@ pub fn read_back(
     while k < count {
         let token = pooled::read_record(records, k);
         let len = token.len;
-        let rule = pooled::find_tag(headers, rules, token.tag);
+        let rule = reading::find_tag(headers, rules, token.tag);
         let chosen = cutting::choose_at(headers, states, edges, rules, text, at);
         if chosen.len == 0 {
             return false;

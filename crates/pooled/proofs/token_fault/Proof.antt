@@ -7,7 +7,7 @@ use Rattle.pooled.proofs.token_fault.Tie as tie
 use Rattle.pooled.proofs.token_fault.Reads as reads
 use Rattle.pooled.proofs.token_fault.Lts as lts
 use Rattle.pooled.proofs.choose_part.Reads as choose-part-reads
-use Rattle.pooled.proofs.find_tag.Reads as find-tag-reads
+use Rattle.reading.proofs.find_tag.Reads as find-tag-reads
 
 returns : tie.Need-returns
 returns c = λ rs h. sym (fault-17 rs _ _ (omega arith))
@@ -22,22 +22,22 @@ find-tag-requires : tie.Need-find-tag-requires
 find-tag-requires c κs = held-room (c .before .before .before .before .before .before .pre .holds)
 
 returns-3 : tie.Need-returns-3
-returns-3 c = λ rs h. checked-unknown h _ _ (omega (arith, c .before .before .before .if1 .left, c .before .before .if2 .left)) (c .before .find-tag .ensures _ _ rs h) (c .if3 .taken)
+returns-3 c = λ rs h. checked-unknown h _ _ (omega (arith, c .before .before .before .if1 .left, c .before .before .if2 .left)) (c .before .find-tag .ensures _ _ rs (h .tables) (sym (h .count))) (c .if3 .taken)
 
 choose-part-requires : tie.Need-choose-part-requires
 choose-part-requires c κs = (c .before .before .before .before .before .before .before .before .pre, omega arith)
 
 returns-4 : tie.Need-returns-4
-returns-4 c = λ rs h. checked-idle h _ _ (omega (arith, c .before .before .before .before .before .before .if1 .left, c .before .before .before .before .before .if2 .left)) (c .before .before .before .before .find-tag .ensures _ _ rs h) (c .before .before .before .if3 .left) (c .before .before .choose-part .ensures rs h) (c .if4 .taken)
+returns-4 c = λ rs h. checked-idle h _ _ (omega (arith, c .before .before .before .before .before .before .if1 .left, c .before .before .before .before .before .if2 .left)) (c .before .before .before .before .find-tag .ensures _ _ rs (h .tables) (sym (h .count))) (c .before .before .before .if3 .left) (c .before .before .choose-part .ensures rs h) (c .if4 .taken)
 
 returns-5 : tie.Need-returns-5
-returns-5 c = λ rs h. checked-part h _ _ (omega (arith, c .before .before .before .before .before .before .before .before .if1 .left, c .before .before .before .before .before .before .before .if2 .left)) (c .before .before .before .before .before .before .find-tag .ensures _ _ rs h) (c .before .before .before .before .before .if3 .left) (c .before .before .before .before .choose-part .ensures rs h) (c .if5 .taken)
+returns-5 c = λ rs h. checked-part h _ _ (omega (arith, c .before .before .before .before .before .before .before .before .if1 .left, c .before .before .before .before .before .before .before .if2 .left)) (c .before .before .before .before .before .before .find-tag .ensures _ _ rs (h .tables) (sym (h .count))) (c .before .before .before .before .before .if3 .left) (c .before .before .before .before .choose-part .ensures rs h) (c .if5 .taken)
 
 returns-6 : tie.Need-returns-6
-returns-6 c = λ rs h. checked-other h _ _ (omega (arith, c .before .before .before .before .before .before .before .before .before .before .if1 .left, c .before .before .before .before .before .before .before .before .before .if2 .left)) (c .before .before .before .before .before .before .before .before .find-tag .ensures _ _ rs h) (c .before .before .before .before .before .before .before .if3 .left) (c .before .before .before .before .before .before .choose-part .ensures rs h) (c .before .before .before .before .if4 .left) (c .before .before .if5 .left) (c .if6 .taken)
+returns-6 c = λ rs h. checked-other h _ _ (omega (arith, c .before .before .before .before .before .before .before .before .before .before .if1 .left, c .before .before .before .before .before .before .before .before .before .if2 .left)) (c .before .before .before .before .before .before .before .before .find-tag .ensures _ _ rs (h .tables) (sym (h .count))) (c .before .before .before .before .before .before .before .if3 .left) (c .before .before .before .before .before .before .choose-part .ensures rs h) (c .before .before .before .before .if4 .left) (c .before .before .if5 .left) (c .if6 .taken)
 
 returns-7 : tie.Need-returns-7
-returns-7 c = λ rs h. checked-same h _ _ (omega (arith, c .before .before .before .before .before .before .before .before .before .before .if1 .left, c .before .before .before .before .before .before .before .before .before .if2 .left)) (c .before .before .before .before .before .before .before .before .find-tag .ensures _ _ rs h) (c .before .before .before .before .before .before .before .if3 .left) (c .before .before .before .before .before .before .choose-part .ensures rs h) (c .before .before .before .before .if4 .left) (c .before .before .if5 .left) (c .if6 .left)
+returns-7 c = λ rs h. checked-same h _ _ (omega (arith, c .before .before .before .before .before .before .before .before .before .before .if1 .left, c .before .before .before .before .before .before .before .before .before .if2 .left)) (c .before .before .before .before .before .before .before .before .find-tag .ensures _ _ rs (h .tables) (sym (h .count))) (c .before .before .before .before .before .before .before .if3 .left) (c .before .before .before .before .before .before .choose-part .ensures rs h) (c .before .before .before .before .if4 .left) (c .before .before .if5 .left) (c .if6 .left)
 
 pub token-fault-spec : {M : Type 1} → statement M
 token-fault-spec =

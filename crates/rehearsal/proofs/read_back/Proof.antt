@@ -1,4 +1,5 @@
 -- `read_back`: the invariant is `Retracing`, for any rules that the tables hold and any pool. Assumes nothing.
+use mathlib.Core.Path.{sym}
 use Prim.Native.Nat.{ℕ, _-_}
 use native.Mathlib.Omega.{arith}
 use mathlib.Core.List.{List}
@@ -15,7 +16,7 @@ use Rattle.rehearsal.proofs.read_back.Tie as tie
 use Rattle.rehearsal.proofs.read_back.Reads as reads
 use Rattle.rehearsal.proofs.read_back.Lts as lts
 use Rattle.cutting.proofs.choose_at.Reads as choose-at-reads
-use Rattle.pooled.proofs.find_tag.Reads as find-tag-reads
+use Rattle.reading.proofs.find_tag.Reads as find-tag-reads
 use Rattle.pooled.proofs.read_record.Reads as read-record-reads
 
 abbrev Inv-loop : tie.InvT-loop
@@ -41,13 +42,13 @@ choose-at-requires : tie.Need-choose-at-requires Inv-loop μ-loop
 choose-at-requires c κs = (c .before .before .before .before .before .before .before .before .before .pre .0, some (c .before .before .before) .within)
 
 returns : tie.Need-returns Inv-loop μ-loop
-returns c = λ rs pool h s. tells-no (λ st. settled-some (c .before .before .before .before .before .before .loop .inv rs pool h s) (held-empty h) (c .before .before .before .before .before .loop-test .taken) (c .before .before .before .before .read-record .ensures .0) (c .before .before .before .find-tag .ensures _ _ rs h) (c .before .before .choose-at .ensures rs h) st (c .if1 .taken))
+returns c = λ rs pool h s. tells-no (λ st. settled-some (c .before .before .before .before .before .before .loop .inv rs pool h s) (held-empty h) (c .before .before .before .before .before .loop-test .taken) (c .before .before .before .before .read-record .ensures .0) (c .before .before .before .find-tag .ensures _ _ rs (h .tables) (sym (h .count))) (c .before .before .choose-at .ensures rs h) st (c .if1 .taken))
 
 returns-2 : tie.Need-returns-2 Inv-loop μ-loop
-returns-2 c = λ rs pool h s. tells-no (λ st. settled-all (c .before .before .before .before .before .before .before .before .loop .inv rs pool h s) (held-empty h) (c .before .before .before .before .before .before .before .loop-test .taken) (c .before .before .before .before .before .before .read-record .ensures .0) (c .before .before .before .before .before .find-tag .ensures _ _ rs h) (c .before .before .before .before .choose-at .ensures rs h) st (c .if2 .taken))
+returns-2 c = λ rs pool h s. tells-no (λ st. settled-all (c .before .before .before .before .before .before .before .before .loop .inv rs pool h s) (held-empty h) (c .before .before .before .before .before .before .before .loop-test .taken) (c .before .before .before .before .before .before .read-record .ensures .0) (c .before .before .before .before .before .find-tag .ensures _ _ rs (h .tables) (sym (h .count))) (c .before .before .before .before .choose-at .ensures rs h) st (c .if2 .taken))
 
 returns-3 : tie.Need-returns-3 Inv-loop μ-loop
-returns-3 c = λ rs pool h s. tells-no (λ st. settled-same (c .before .before .before .before .before .before .before .before .before .before .loop .inv rs pool h s) (held-empty h) (c .before .before .before .before .before .before .before .before .before .loop-test .taken) (c .before .before .before .before .before .before .before .before .read-record .ensures .0) (c .before .before .before .before .before .before .before .find-tag .ensures _ _ rs h) (c .before .before .before .before .before .before .choose-at .ensures rs h) st (c .before .before .before .before .if1 .left) (c .before .before .if2 .left) (c .if3 .taken))
+returns-3 c = λ rs pool h s. tells-no (λ st. settled-same (c .before .before .before .before .before .before .before .before .before .before .loop .inv rs pool h s) (held-empty h) (c .before .before .before .before .before .before .before .before .before .loop-test .taken) (c .before .before .before .before .before .before .before .before .read-record .ensures .0) (c .before .before .before .before .before .before .before .find-tag .ensures _ _ rs (h .tables) (sym (h .count))) (c .before .before .before .before .before .before .choose-at .ensures rs h) st (c .before .before .before .before .if1 .left) (c .before .before .if2 .left) (c .if3 .taken))
 
 add-at : tie.Need-add-at Inv-loop μ-loop
 add-at c = omega (arith, retracing-within (some (c .before .before .before .before .before .before .before .before .before .before)) (held-empty (c .before .before .before .before .before .before .before .before .before .before .before .before .before .before .before .before .pre .0 .holds)) (c .before .before .before .before .before .before .before .before .before .loop-test .taken) (c .before .before .before .before .before .before .before .before .read-record .ensures .0), c .before .before .before .before .before .before .before .before .before .before .before .before .before .before .before .before .good)
@@ -59,7 +60,7 @@ loop-less : tie.Need-loop-less Inv-loop μ-loop
 loop-less c = omega (arith, c .before .before .before .before .before .before .before .before .before .loop-test .taken)
 
 loop-again : tie.Need-loop-again Inv-loop μ-loop
-loop-again c = λ rs pool h s. retracing-next (c .before .before .before .before .before .before .before .before .before .before .loop .inv rs pool h s) (held-empty h) (c .before .before .before .before .before .before .before .before .before .loop-test .taken) (c .before .before .before .before .before .before .before .before .read-record .ensures .0) (c .before .before .before .before .before .before .before .find-tag .ensures _ _ rs h) (c .before .before .before .before .before .before .choose-at .ensures rs h) (c .before .before .before .before .if1 .left) (c .before .before .if2 .left) (c .if3 .left)
+loop-again c = λ rs pool h s. retracing-next (c .before .before .before .before .before .before .before .before .before .before .loop .inv rs pool h s) (held-empty h) (c .before .before .before .before .before .before .before .before .before .loop-test .taken) (c .before .before .before .before .before .before .before .before .read-record .ensures .0) (c .before .before .before .before .before .before .before .find-tag .ensures _ _ rs (h .tables) (sym (h .count))) (c .before .before .before .before .before .before .choose-at .ensures rs h) (c .before .before .before .before .if1 .left) (c .before .before .if2 .left) (c .if3 .left)
 
 returns-4 : tie.Need-returns-4 Inv-loop μ-loop
 returns-4 c = λ rs pool h s. tells-yes (retracing-end (c .before .loop .inv rs pool h s) (c .loop-test .left))

@@ -3,11 +3,11 @@ use mathlib.Core.Path.{sym, _∙_}
 use Prim.Native.Nat.{_-_}
 use native.Mathlib.Omega.{arith}
 use borrow.Author.Needs.{needs}
-use Rattle.pooled.proofs.Faults.{Ranking, ranking-start, ranking-next, ranking-found, ranking-end}
-use Rattle.pooled.proofs.find_tag.Statement.{statement}
-use Rattle.pooled.proofs.find_tag.Tie as tie
-use Rattle.pooled.proofs.find_tag.Reads as reads
-use Rattle.pooled.proofs.find_tag.Lts as lts
+use Rattle.reading.proofs.Ranking.{Ranking, ranking-start, ranking-next, ranking-found, ranking-end}
+use Rattle.reading.proofs.find_tag.Statement.{statement}
+use Rattle.reading.proofs.find_tag.Tie as tie
+use Rattle.reading.proofs.find_tag.Reads as reads
+use Rattle.reading.proofs.find_tag.Lts as lts
 use Rattle.automaton.proofs.tag_of.Reads as tag-of-reads
 
 abbrev Inv-loop : tie.InvT-loop
