@@ -28,62 +28,37 @@ pub fn print(book: &[u8], records: &[u8], pool: &[u8], out: &mut [u8]) -> PrintA
     let mut states = [0u16; Book::CELLS];
     let mut edges = [0u64; Book::EDGES];
     let mut scratch = [0u8; Book::TEXT];
-    print_arrays(
-        book,
-        &mut headers,
-        &mut states,
-        &mut edges,
-        records,
-        pool,
-        &mut scratch,
-        out,
-    )
+    match book::load_arrays(book, &mut headers, &mut states, &mut edges) {
+        BookAnswer::Accepted(rules) => print_arrays(
+            &headers,
+            &states,
+            &edges,
+            rules,
+            records,
+            pool,
+            &mut scratch,
+            out,
+        ),
+        BookAnswer::Refused(refusal) => PrintAnswer::Refused(refusal),
+    }
 }
 
 fn print_arrays(
-    book: &[u8],
-    headers: &mut [u64; Book::RULES],
-    states: &mut [u16; Book::CELLS],
-    edges: &mut [u64; Book::EDGES],
+    headers: &[u64; Book::RULES],
+    states: &[u16; Book::CELLS],
+    edges: &[u64; Book::EDGES],
+    rules: usize,
     records: &[u8],
     pool: &[u8],
     scratch: &mut [u8; Book::TEXT],
     out: &mut [u8],
 ) -> PrintAnswer
-    requires { ⌜ Fresh (now headers) (now states) (now edges) ⌝ }
+    requires { ⌜ Held (now headers) (now states) (now edges) rules ⌝ }
     requires { ⌜ length (now scratch) ≡ maxText ⌝ }
-    ensures { λ r. ⌜ Answered (printOutcome (now (book .entry)) (now (records .entry)) (now (pool .entry)) (now (out .entry))) r (now (out .exit)) ⌝ }
+    ensures { λ r. ⌜ ((rs : List Rule) → Holds (now (headers .entry)) (now (states .entry)) (now (edges .entry)) rules rs
+        → Answered (printRules rs (now (records .entry)) (now (pool .entry)) (now (out .entry))) r (now (out .exit))) ⌝ }
 {
-    print_book(book, headers, states, edges, records, pool, scratch, out)
-}
-
-fn print_book(
-    book: &[u8],
-    headers: &mut [u64],
-    states: &mut [u16],
-    edges: &mut [u64],
-    records: &[u8],
-    pool: &[u8],
-    scratch: &mut [u8],
-    out: &mut [u8],
-) -> PrintAnswer
-    requires { ⌜ Fresh (now headers) (now states) (now edges) ⌝ }
-    requires { ⌜ length (now scratch) ≡ maxText ⌝ }
-    ensures { λ r. ⌜ Answered (printOutcome (now (book .entry)) (now (records .entry)) (now (pool .entry)) (now (out .entry))) r (now (out .exit)) ⌝ }
-{
-    match book::load(book, headers, states, edges) {
-        BookAnswer::Accepted(rules) => print_rules(
-            headers,
-            states,
-            edges,
-            rules,
-            records,
-            pool,
-            scratch,
-            out,
-        ),
-        BookAnswer::Refused(refusal) => PrintAnswer::Refused(refusal),
-    }
+    print_rules(headers, states, edges, rules, records, pool, scratch, out)
 }
 
 // The same by rules that the tables hold. The list is rehearsed, and only one with which something is wrong is asked what that is.
