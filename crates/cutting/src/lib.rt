@@ -23,7 +23,7 @@ pub fn choose(headers: &[u64], states: &[u16], edges: &[u64], rules: usize, text
     while next < rules {
         let k = next;
         next += 1;
-        let n = automaton::longest_prefix(headers, states, edges, k, text);
+        let n = walking::longest_prefix(headers, states, edges, k, text);
         if len < n {
             rule = k;
             len = n;

@@ -137,7 +137,7 @@ impl Book {
         ensures { λ r. ⌜ ((hs es : List ℕ) (at len : ℕ) → Takes self (Command.Final s) at len r hs (now (states .entry)) es hs (now (states .exit)) es) ⌝ }
     {
         let rules = self.rules;
-        automaton::mark_final(states, rules * STATES + (s as usize));
+        building::mark_final(states, rules * STATES + (s as usize));
         Progress::On(self)
     }
 
@@ -168,8 +168,8 @@ impl Book {
         let number = self.edges;
         let cell = rules * STATES + (from as usize);
         let head = (states[cell] / 2) as usize;
-        self.overlap = either(automaton::shares_byte(edges, head, low, high), self.overlap);
-        automaton::add_edge(states, edges, cell, number, low, high, to as u16);
+        self.overlap = either(building::shares_byte(edges, head, low, high), self.overlap);
+        building::add_edge(states, edges, cell, number, low, high, to as u16);
         self.count = count + 1;
         self.edges = number + 1;
         Progress::On(self)

@@ -13,7 +13,7 @@ use Rattle.cutting.proofs.choose.Statement.{statement}
 use Rattle.cutting.proofs.choose.Tie as tie
 use Rattle.cutting.proofs.choose.Reads as reads
 use Rattle.cutting.proofs.choose.Lts as lts
-use Rattle.automaton.proofs.longest_prefix.Reads as longest-prefix-reads
+use Rattle.walking.proofs.longest_prefix.Reads as longest-prefix-reads
 
 abbrev Inv-loop : tie.InvT-loop
 Inv-loop headers states edges rules text rule₀ len₀ next₀ rule len next = (next ≤ rules) × ((rs : List Rule) → Holds headers states edges rules rs → Best rs text next rule len)

@@ -6,7 +6,7 @@ use Rattle.reading.proofs.Book.add_final.Statement.{statement}
 use Rattle.reading.proofs.Book.add_final.Tie as tie
 use Rattle.reading.proofs.Book.add_final.Reads as reads
 use Rattle.reading.proofs.Book.add_final.Lts as lts
-use Rattle.automaton.proofs.mark_final.Reads as mark-final-reads
+use Rattle.building.proofs.mark_final.Reads as mark-final-reads
 
 mul-mark-final : tie.Need-mul-mark-final
 mul-mark-final c = search needs

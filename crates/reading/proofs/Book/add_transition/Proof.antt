@@ -7,8 +7,8 @@ use Rattle.reading.proofs.Book.add_transition.Statement.{statement}
 use Rattle.reading.proofs.Book.add_transition.Tie as tie
 use Rattle.reading.proofs.Book.add_transition.Reads as reads
 use Rattle.reading.proofs.Book.add_transition.Lts as lts
-use Rattle.automaton.proofs.add_edge.Reads as add-edge-reads
-use Rattle.automaton.proofs.shares_byte.Reads as shares-byte-reads
+use Rattle.building.proofs.add_edge.Reads as add-edge-reads
+use Rattle.building.proofs.shares_byte.Reads as shares-byte-reads
 use Rattle.reading.proofs.either.Reads as either-reads
 use Rattle.reading.proofs.refused.Reads as refused-reads
 

@@ -1,10 +1,10 @@
 use mathlib.Core.Path.{refl}
 use borrow.Author.Needs.{needs}
-use Rattle.automaton.proofs.add_edge.Statement.{statement}
-use Rattle.automaton.proofs.add_edge.Tie as tie
-use Rattle.automaton.proofs.add_edge.Reads as reads
-use Rattle.automaton.proofs.add_edge.Lts as lts
-use Rattle.automaton.proofs.edge_word.Reads as edge-word-reads
+use Rattle.building.proofs.add_edge.Statement.{statement}
+use Rattle.building.proofs.add_edge.Tie as tie
+use Rattle.building.proofs.add_edge.Reads as reads
+use Rattle.building.proofs.add_edge.Lts as lts
+use Rattle.building.proofs.edge_word.Reads as edge-word-reads
 
 mul-old : tie.Need-mul-old
 mul-old c = search needs

@@ -1,9 +1,9 @@
 use native.Mathlib.Omega.{arith}
 use borrow.Author.Needs.{needs}
-use Rattle.automaton.proofs.mark_final.Statement.{statement}
-use Rattle.automaton.proofs.mark_final.Tie as tie
-use Rattle.automaton.proofs.mark_final.Reads as reads
-use Rattle.automaton.proofs.mark_final.Lts as lts
+use Rattle.building.proofs.mark_final.Statement.{statement}
+use Rattle.building.proofs.mark_final.Tie as tie
+use Rattle.building.proofs.mark_final.Reads as reads
+use Rattle.building.proofs.mark_final.Lts as lts
 
 mul-old : tie.Need-mul-old
 mul-old c = search needs

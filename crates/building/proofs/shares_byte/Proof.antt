@@ -5,14 +5,14 @@ use mathlib.Core.List.{List}
 use native.Mathlib.Omega.{arith}
 use borrow.Author.Needs.{needs}
 use denote.Ref.{now}
 use Rattle.automaton.specs.Choice.{any}
 use Rattle.automaton.specs.Rule.{Transition}
 use Rattle.automaton.specs.Tables.{shares}
 use Rattle.automaton.proofs.Chains.{At, Along, along-start, along-at, along-next, along-hit, along-end, share-hit, share-miss}
-use Rattle.automaton.proofs.shares_byte.Statement.{statement}
-use Rattle.automaton.proofs.shares_byte.Tie as tie
-use Rattle.automaton.proofs.shares_byte.Reads as reads
-use Rattle.automaton.proofs.shares_byte.Lts as lts
+use Rattle.building.proofs.shares_byte.Statement.{statement}
+use Rattle.building.proofs.shares_byte.Tie as tie
+use Rattle.building.proofs.shares_byte.Reads as reads
+use Rattle.building.proofs.shares_byte.Lts as lts
 
 abbrev Inv-loop : tie.InvT-loop
 Inv-loop edges head low high first last h₀ h = Along edges head h (any (shares low high))

@@ -5,14 +5,14 @@ use borrow.Author.Needs.{needs}
 use lib.ListN.{length, getD}
 use mathlib.Core.List.{List}
 use denote.Ref.{now}
 use Rattle.automaton.specs.Rule.{Transition, Rule}
 use Rattle.automaton.specs.Tables.{Chain, Table, Tabled, stateCount, headAt, leaving, pick}
 use Rattle.automaton.proofs.Walks.{header-error, header-start, Walk, walk-start, next-inside, walk-final, walk-other, walk-error, walk-end}
-use Rattle.automaton.proofs.longest_prefix.Statement.{statement}
-use Rattle.automaton.proofs.longest_prefix.Tie as tie
-use Rattle.automaton.proofs.longest_prefix.Reads as reads
-use Rattle.automaton.proofs.longest_prefix.Lts as lts
+use Rattle.walking.proofs.longest_prefix.Statement.{statement}
+use Rattle.walking.proofs.longest_prefix.Tie as tie
+use Rattle.walking.proofs.longest_prefix.Reads as reads
+use Rattle.walking.proofs.longest_prefix.Lts as lts
 use Rattle.automaton.proofs.step.Reads as step-reads
 
 abbrev Inv-loop : tie.InvT-loop
 Inv-loop headers states edges rule text header base error s₀ best₀ i₀ s best i = (m : Rule) → Table headers states edges rule m → Walk m text s best i
