@@ -1,13 +1,11 @@
 // The rule book: the reader that checks it and fills the tables of its rules.
-use command::Command;
 use command::Cursor;
 use command::Decoded;
 use reading::Book;
 use reading::Progress;
 use refusal::Refusal;
 ghost use mathlib.Core.Path.{_≡_};
-ghost use Prim.Native.Nat.{_<_};
-ghost use Rattle.reading.specs.State.{Fresh, Held, Takes, standsInside, edgeCount};
+ghost use Rattle.reading.specs.State.{Fresh};
 ghost use Rattle.book.specs.Reading.{readBook, answer};
 ghost use Rattle.book.specs.Loading.{Loaded};
 
@@ -34,7 +32,7 @@ pub fn load(book: &[u8], headers: &mut [u64], states: &mut [u16], edges: &mut [u
         match cursor.command(book, state.inside) {
             Decoded::Misplaced => return refused(Refusal::MISPLACED, at),
             Decoded::CutOff => return refused(Refusal::CUT_OFF, at),
-            Decoded::Command(command, next) => match apply(
+            Decoded::Command(command, next) => match applying::apply(
                 state,
                 command,
                 at,
@@ -53,45 +51,6 @@ pub fn load(book: &[u8], headers: &mut [u64], states: &mut [u16], edges: &mut [u
         }
     }
     refused(Refusal::CUT_OFF, len)
-}
-
-// What a command, which stands at `at` of a book of `len` bytes, makes of the book and the tables.
-fn apply(
-    state: Book,
-    command: Command,
-    at: usize,
-    len: usize,
-    headers: &mut [u64],
-    states: &mut [u16],
-    edges: &mut [u64],
-) -> Progress
-    requires { ⌜ Held state (now headers) (now states) (now edges) ⌝ }
-    requires { ⌜ (state .inside ≡ standsInside command) × (state .edges < edgeCount) × (at < len) ⌝ }
-    ensures { λ r. ⌜ Takes state command at len r (now (headers .entry)) (now (states .entry)) (now (edges .entry)) (now (headers .exit)) (now (states .exit)) (now (edges .exit)) ⌝ }
-{
-    match command {
-        Command::Rule { tag, kind } => state.open_rule(headers, tag, kind, at),
-        Command::Start(s) => state.set_start(s, at),
-        Command::Error(s) => state.set_error(s, at),
-        Command::Final(s) => state.add_final(states, s),
-        Command::Step { from, byte, to } => state.add_transition(
-            states,
-            edges,
-            from,
-            byte,
-            byte,
-            to,
-            at,
-        ),
-        Command::Span {
-            from,
-            low,
-            high,
-            to,
-        } => state.add_transition(states, edges, from, low, high, to, at),
-        Command::Close => state.close(headers, states, at),
-        Command::End => state.end(at, len),
-    }
 }
 
 fn refused(number: u8, place: usize) -> BookAnswer

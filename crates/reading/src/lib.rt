@@ -64,7 +64,7 @@ impl Book {
     }
 
     // Between two rules, or before the first.
-    fn between(rules: usize, edges: usize) -> Book
+    pub fn between(rules: usize, edges: usize) -> Book
         ensures { λ r. ⌜ r ≡ idle rules edges ⌝ }
     {
         Book {
@@ -80,31 +80,6 @@ impl Book {
             count: 0,
             overlap: false,
         }
-    }
-
-    // RULE.
-    pub fn open_rule(self, headers: &[u64], tag: u16, kind: u8, at: usize) -> Progress
-        requires { ⌜ self .rules ≤ length (now headers) ⌝ }
-        ensures { λ r. ⌜ ((ss es : List ℕ) (len : ℕ) → Takes self (Command.Rule tag kind) at len r (now (headers .entry)) ss es (now (headers .entry)) ss es) ⌝ }
-    {
-        let rules = self.rules;
-        if Book::RULES <= rules {
-            return refused(Refusal::TOO_MANY, at);
-        }
-        if tag == 0 {
-            return refused(Refusal::OUT_OF_RANGE, at);
-        }
-        if 1 < kind {
-            return refused(Refusal::OUT_OF_RANGE, at);
-        }
-        if is_taken(headers, rules, tag) {
-            return refused(Refusal::TAG_TAKEN, at);
-        }
-        let mut next = Book::between(rules, self.edges);
-        next.inside = true;
-        next.tag = tag;
-        next.kind = kind;
-        Progress::On(next)
     }
 
     // START.
@@ -141,76 +116,6 @@ impl Book {
         Progress::On(self)
     }
 
-    // STEP and SPAN.
-    pub fn add_transition(
-        mut self,
-        states: &mut [u16],
-        edges: &mut [u64],
-        from: u8,
-        low: u8,
-        high: u8,
-        to: u8,
-        at: usize,
-    ) -> Progress
-        requires { ⌜ (self .rules * stateCount + stateCount ≤ length (now states)) × (self .edges < length (now edges)) × (length (now edges) ≡ edgeCount) ⌝ }
-        requires { ⌜ Chained (now edges) (headAt (now states) (self .rules * stateCount + from)) ⌝ }
-        ensures { λ r. ⌜ ((hs : List ℕ) (d : Draft) → Holds self hs (now (states .entry)) (now (edges .entry)) d → d .inside ≡ true
-            → Follows (move d at from low high to) r hs (now (states .exit)) (now (edges .exit)) (self .edges + 1)) ⌝ }
-    {
-        let count = self.count;
-        if Book::TRANSITIONS <= count {
-            return refused(Refusal::TOO_MANY, at);
-        }
-        if high < low {
-            return refused(Refusal::OUT_OF_RANGE, at);
-        }
-        let rules = self.rules;
-        let number = self.edges;
-        let cell = rules * STATES + (from as usize);
-        let head = (states[cell] / 2) as usize;
-        self.overlap = either(building::shares_byte(edges, head, low, high), self.overlap);
-        building::add_edge(states, edges, cell, number, low, high, to as u16);
-        self.count = count + 1;
-        self.edges = number + 1;
-        Progress::On(self)
-    }
-
-    // CLOSE.
-    pub fn close(self, headers: &mut [u64], states: &[u16], at: usize) -> Progress
-        requires { ⌜ (self .rules < length (now headers)) × (self .rules * stateCount + stateCount ≤ length (now states)) × (self .rules < maxRules) ⌝ }
-        ensures { λ r. ⌜ ((es : List ℕ) (len : ℕ) → Takes self Command.Close at len r (now (headers .entry)) (now (states .entry)) es (now (headers .exit)) (now (states .entry)) es) ⌝ }
-    {
-        if !self.started {
-            return refused(Refusal::TWICE_OR_MISSING, at);
-        }
-        if !self.erring {
-            return refused(Refusal::TWICE_OR_MISSING, at);
-        }
-        if self.overlap {
-            return refused(Refusal::OVERLAP, at);
-        }
-        let rules = self.rules;
-        let base = rules * STATES;
-        let error = states[base + (self.error as usize)];
-        if error / 2 != 0 {
-            return refused(Refusal::LEAVES_ERROR, at);
-        }
-        if error % 2 == 1 {
-            return refused(Refusal::ERROR_FINAL, at);
-        }
-        let start = states[base + (self.start as usize)];
-        if start % 2 == 1 {
-            return refused(Refusal::START_FINAL, at);
-        }
-        headers[rules] = automaton::header(
-            self.tag,
-            self.kind,
-            self.start as u16,
-            self.error as u16,
-        );
-        Progress::On(Book::between(rules + 1, self.edges))
-    }
-
     // END; `len` is the book's length.
     pub fn end(self, at: usize, len: usize) -> Progress
         requires { ⌜ at < len ⌝ }
@@ -226,24 +131,10 @@ impl Book {
     }
 }
 
-fn refused(number: u8, place: usize) -> Progress
+pub fn refused(number: u8, place: usize) -> Progress
     ensures { λ r. ⌜ r ≡ Progress.Refused (record { number = number; place = place }) ⌝ }
 {
     Progress::Refused(Refusal { number, place })
-}
-
-fn either(a: bool, b: bool) -> bool
-    ensures { λ r. ⌜ r ≡ if a true b ⌝ }
-{
-    if a { true } else { b }
-}
-
-// Whether one of the first `rules` rules has this tag.
-fn is_taken(headers: &[u64], rules: usize, tag: u16) -> bool
-    requires { ⌜ rules ≤ length (now headers) ⌝ }
-    ensures { λ r. ⌜ ((ss es : List ℕ) (rs : List Rule) → Tables (now (headers .entry)) ss es rs → rules ≡ length rs → r ≡ tagged tag rs) ⌝ }
-{
-    find_tag(headers, rules, tag as u64) < rules
 }
 
 // The number of the first rule of this tag; `rules` where none has it.

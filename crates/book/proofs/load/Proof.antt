@@ -15,7 +15,7 @@ use Rattle.book.proofs.load.Reads as reads
 use Rattle.book.proofs.load.Lts as lts
 use Rattle.command.proofs.Cursor.command.Reads as command-reads
 use Rattle.command.proofs.Cursor.new.Reads as cursor-Cursor-new-reads
-use Rattle.book.proofs.apply.Reads as apply-reads
+use Rattle.applying.proofs.apply.Reads as apply-reads
 use Rattle.reading.proofs.Book.new.Reads as reading-Book-new-reads
 use Rattle.book.proofs.refused.Reads as refused-reads
 

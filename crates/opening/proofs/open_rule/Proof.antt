@@ -1,14 +1,14 @@
 use mathlib.Core.Path.{_≡_, refl, sym, _∙_}
 use native.Mathlib.Omega.{arith}
 use Rattle.reading.proofs.Steps.{rule-too-many, rule-tag-zero, rule-kind, rule-taken, rule-opened}
 use borrow.Author.Needs.{needs}
-use Rattle.reading.proofs.Book.open_rule.Statement.{statement}
-use Rattle.reading.proofs.Book.open_rule.Tie as tie
-use Rattle.reading.proofs.Book.open_rule.Reads as reads
-use Rattle.reading.proofs.Book.open_rule.Lts as lts
+use Rattle.opening.proofs.open_rule.Statement.{statement}
+use Rattle.opening.proofs.open_rule.Tie as tie
+use Rattle.opening.proofs.open_rule.Reads as reads
+use Rattle.opening.proofs.open_rule.Lts as lts
 use Rattle.reading.proofs.Book.between.Reads as between-reads
-use Rattle.reading.proofs.is_taken.Reads as is-taken-reads
+use Rattle.opening.proofs.is_taken.Reads as is-taken-reads
 use Rattle.reading.proofs.refused.Reads as refused-reads
 
 refused-requires : tie.Need-refused-requires
 refused-requires c κs = search needs

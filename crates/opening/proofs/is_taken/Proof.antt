@@ -1,10 +1,10 @@
 -- `is_taken`: the tag has a rule. Assumes nothing.
 use Rattle.reading.proofs.Ranking.{ranks-taken}
-use Rattle.reading.proofs.is_taken.Statement.{statement}
-use Rattle.reading.proofs.is_taken.Tie as tie
-use Rattle.reading.proofs.is_taken.Reads as reads
-use Rattle.reading.proofs.is_taken.Lts as lts
+use Rattle.opening.proofs.is_taken.Statement.{statement}
+use Rattle.opening.proofs.is_taken.Tie as tie
+use Rattle.opening.proofs.is_taken.Reads as reads
+use Rattle.opening.proofs.is_taken.Lts as lts
 use Rattle.reading.proofs.find_tag.Reads as find-tag-reads
 
 find-tag-requires : tie.Need-find-tag-requires
 find-tag-requires c κs = c .before .pre

@@ -1,15 +1,15 @@
 use mathlib.Core.Path.{_≡_, refl, sym, _∙_}
 use native.Mathlib.Omega.{arith}
 use borrow.Author.Tests.{not-true, not-false}
 use Rattle.reading.proofs.Steps.{close-no-start, close-no-error, close-overlap, close-leaves, close-error-final, close-start-final, close-closed}
 use borrow.Author.Needs.{needs}
-use Rattle.reading.proofs.Book.close.Statement.{statement}
-use Rattle.reading.proofs.Book.close.Tie as tie
-use Rattle.reading.proofs.Book.close.Reads as reads
-use Rattle.reading.proofs.Book.close.Lts as lts
+use Rattle.closing.proofs.close.Statement.{statement}
+use Rattle.closing.proofs.close.Tie as tie
+use Rattle.closing.proofs.close.Reads as reads
+use Rattle.closing.proofs.close.Lts as lts
 use Rattle.automaton.proofs.header.Reads as header-reads
 use Rattle.reading.proofs.Book.between.Reads as between-reads
 use Rattle.reading.proofs.refused.Reads as refused-reads
 
 refused-requires : tie.Need-refused-requires
 refused-requires c κs = search needs

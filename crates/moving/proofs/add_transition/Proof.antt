@@ -1,16 +1,16 @@
 use mathlib.Core.Path.{_≡_, refl, sym, _∙_}
 use native.Mathlib.Omega.{arith}
 use Prim.Native.Nat.{_+_, _*_}
 use Rattle.reading.proofs.Steps.{move-too-many, move-disorder, move-added}
 use borrow.Author.Needs.{needs}
-use Rattle.reading.proofs.Book.add_transition.Statement.{statement}
-use Rattle.reading.proofs.Book.add_transition.Tie as tie
-use Rattle.reading.proofs.Book.add_transition.Reads as reads
-use Rattle.reading.proofs.Book.add_transition.Lts as lts
+use Rattle.moving.proofs.add_transition.Statement.{statement}
+use Rattle.moving.proofs.add_transition.Tie as tie
+use Rattle.moving.proofs.add_transition.Reads as reads
+use Rattle.moving.proofs.add_transition.Lts as lts
 use Rattle.building.proofs.add_edge.Reads as add-edge-reads
 use Rattle.building.proofs.shares_byte.Reads as shares-byte-reads
-use Rattle.reading.proofs.either.Reads as either-reads
+use Rattle.moving.proofs.either.Reads as either-reads
 use Rattle.reading.proofs.refused.Reads as refused-reads
 
 refused-requires : tie.Need-refused-requires
 refused-requires c κs = search needs
@@ -37,7 +37,7 @@ slice-read-head : tie.Need-slice-read-head
 slice-read-head c = search needs
 
 cast-head : tie.Need-cast-head
-cast-head c = omega (arith, c .slice-known3 .given (c .before .before .before .before .before .args .self .rules * 256 + c .before .before .before .before .before .args .from))
+cast-head c = omega (arith, c .slice-known3 .given (c .before .before .before .before .before .args .book .rules * 256 + c .before .before .before .before .before .args .from))
 
 shares-byte-requires : tie.Need-shares-byte-requires
 shares-byte-requires c κs = search needs
@@ -48,11 +48,11 @@ either-requires c κs = search needs
 add-edge-requires : tie.Need-add-edge-requires
 add-edge-requires c κs = search needs
 
-add-self : tie.Need-add-self
-add-self c = search needs
+add-book : tie.Need-add-book
+add-book c = search needs
 
-add-self-2 : tie.Need-add-self-2
-add-self-2 c = search needs
+add-book-2 : tie.Need-add-book-2
+add-book-2 c = search needs
 
 same-length : tie.Need-same-length
 same-length c = search needs
@@ -81,8 +81,8 @@ add-transition-spec =
     shares-byte-requires
     either-requires
     add-edge-requires
-    add-self
-    add-self-2
+    add-book
+    add-book-2
     same-length
     same-length-2
     returns-3)

@@ -4,15 +4,15 @@ use Rattle.reading.specs.Draft.{apply}
 use Rattle.reading.specs.State.{standsInside}
 use Rattle.reading.proofs.Steps.{inside-room}
 use borrow.Author.Needs.{needs}
-use Rattle.book.proofs.apply.Statement.{statement}
-use Rattle.book.proofs.apply.Tie as tie
-use Rattle.book.proofs.apply.Reads as reads
-use Rattle.book.proofs.apply.Lts as lts
+use Rattle.applying.proofs.apply.Statement.{statement}
+use Rattle.applying.proofs.apply.Tie as tie
+use Rattle.applying.proofs.apply.Reads as reads
+use Rattle.applying.proofs.apply.Lts as lts
 use Rattle.reading.proofs.Book.add_final.Reads as add-final-reads
-use Rattle.reading.proofs.Book.add_transition.Reads as add-transition-reads
-use Rattle.reading.proofs.Book.close.Reads as close-reads
+use Rattle.moving.proofs.add_transition.Reads as add-transition-reads
+use Rattle.closing.proofs.close.Reads as close-reads
 use Rattle.reading.proofs.Book.end.Reads as end-reads
-use Rattle.reading.proofs.Book.open_rule.Reads as open-rule-reads
+use Rattle.opening.proofs.open_rule.Reads as open-rule-reads
 use Rattle.reading.proofs.Book.set_error.Reads as set-error-reads
 use Rattle.reading.proofs.Book.set_start.Reads as set-start-reads
 

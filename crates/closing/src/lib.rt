@@ -1,0 +1,43 @@
+// The command CLOSE.
+use automaton::STATES;
+use command::Command;
+use reading::Book;
+use reading::Progress;
+use refusal::Refusal;
+ghost use mathlib.Core.List.{List};
+ghost use Prim.Native.Nat.{ℕ, _+_, _*_, _≤_, _<_};
+ghost use lib.ListN.{length};
+ghost use Rattle.automaton.specs.Tables.{stateCount};
+ghost use Rattle.reading.specs.Limits.{maxRules};
+ghost use Rattle.reading.specs.State.{Takes};
+
+// CLOSE.
+pub fn close(book: Book, headers: &mut [u64], states: &[u16], at: usize) -> Progress
+    requires { ⌜ (book .rules < length (now headers)) × (book .rules * stateCount + stateCount ≤ length (now states)) × (book .rules < maxRules) ⌝ }
+    ensures { λ r. ⌜ ((es : List ℕ) (len : ℕ) → Takes book Command.Close at len r (now (headers .entry)) (now (states .entry)) es (now (headers .exit)) (now (states .entry)) es) ⌝ }
+{
+    if !book.started {
+        return reading::refused(Refusal::TWICE_OR_MISSING, at);
+    }
+    if !book.erring {
+        return reading::refused(Refusal::TWICE_OR_MISSING, at);
+    }
+    if book.overlap {
+        return reading::refused(Refusal::OVERLAP, at);
+    }
+    let rules = book.rules;
+    let base = rules * STATES;
+    let error = states[base + (book.error as usize)];
+    if error / 2 != 0 {
+        return reading::refused(Refusal::LEAVES_ERROR, at);
+    }
+    if error % 2 == 1 {
+        return reading::refused(Refusal::ERROR_FINAL, at);
+    }
+    let start = states[base + (book.start as usize)];
+    if start % 2 == 1 {
+        return reading::refused(Refusal::START_FINAL, at);
+    }
+    headers[rules] = automaton::header(book.tag, book.kind, book.start as u16, book.error as u16);
+    Progress::On(Book::between(rules + 1, book.edges))
+}
