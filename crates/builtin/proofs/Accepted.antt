@@ -7,7 +7,7 @@ use Rattle.reading.specs.Draft.{apply, move, check}
 use Rattle.command.specs.Commands.{commandAt, decode, operandsOf, placed}
 use Rattle.automaton.specs.Rule.{overlaps}
 use Rattle.lexer.specs.Outcome.{lexRules, lexOutcome}
-use Rattle.scanner.specs.Book.{builtinBytes, builtinRules, timestamp, word, blanks, newline, bracket}
+use Rattle.tables.specs.Book.{builtinBytes, builtinRules, timestamp, word, blanks, newline, bracket}
 
 pub read-builtin : readBook builtinBytes ≡ accepted builtinRules
 unfolding readBook readFrom commandAt decode operandsOf placed apply move check overlaps builtinBytes builtinRules timestamp word blanks newline bracket

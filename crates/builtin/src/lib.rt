@@ -5,7 +5,6 @@ use cutting::Cut;
 use lexer::LexAnswer;
 use reading::Book;
 use refusal::Refusal;
-use scanner::tables;
 ghost use mathlib.Core.Path.{_≡_};
 ghost use Prim.Native.Nat.{_+_, _*_, _≤_, _<_};
 ghost use lib.ListN.{length};
@@ -13,8 +12,8 @@ ghost use Rattle.cutting.specs.Lexer.{lex};
 ghost use Rattle.cutting.specs.Answers.{Cuts};
 ghost use Rattle.records.specs.Filling.{Fills};
 ghost use Rattle.lexer.specs.Outcome.{lexRules, lexOutcome};
-ghost use Rattle.scanner.specs.Book.{builtinBytes, builtinRules};
-ghost use Rattle.scanner.specs.Joined.{Lent};
+ghost use Rattle.tables.specs.Book.{builtinBytes, builtinRules};
+ghost use Rattle.tables.specs.Joined.{Lent};
 
 // How `text` is cut, with nothing written.
 fn count(classes: &[u8; 256], next: &[u8; 256], tags: &[u8; 16], text: &[u8]) -> Cut

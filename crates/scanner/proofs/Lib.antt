@@ -1,6 +1,2 @@
--- What the proofs of this crate share, and the laws of the built-in book.
-pub mod Tests
-pub mod Classes
-pub mod Product
-pub mod Joined
+-- What the proofs of this crate share, and the law for the layer above.
 pub mod Scanned

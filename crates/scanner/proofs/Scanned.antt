@@ -16,10 +16,10 @@ use Rattle.cutting.specs.Lexer.{choose, found}
 use Rattle.cutting.specs.Answers.{front, Chooses}
 use Rattle.cutting.proofs.First.{Earliest}
 use Rattle.cutting.proofs.Choosing.{choose-some}
-use Rattle.scanner.specs.Book.{builtinRules}
-use Rattle.scanner.specs.Joined.{Scanned, Stays, State, statesOf, nextState, tagAt, dead, start, accepting}
-use Rattle.scanner.proofs.Product.{Scan, tagged, found-front, scan-start, scan-accept, scan-pass, scan-dead, scan-end}
-use Rattle.scanner.proofs.Joined.{joined, accepts, passes}
+use Rattle.tables.specs.Book.{builtinRules}
+use Rattle.tables.specs.Joined.{Scanned, Stays, State, statesOf, nextState, tagAt, dead, start, accepting}
+use Rattle.tables.proofs.Product.{Scan, tagged, found-front, scan-start, scan-accept, scan-pass, scan-dead, scan-end}
+use Rattle.tables.proofs.Joined.{joined, accepts, passes}
 
 -- ---- the walk over the built-in tables
 

@@ -1,11 +1,9 @@
 // One automaton for all five rules of the built-in book of document 01, by byte classes: one table step a byte.
-pub mod tables;
-
 ghost use mathlib.Core.Path.{_≡_};
 ghost use Prim.Native.Nat.{_+_, _≤_, _<_};
 ghost use lib.ListN.{length, drop};
-ghost use Rattle.scanner.specs.Classes.{classTable};
-ghost use Rattle.scanner.specs.Joined.{State, nextTable, tagTable, nextState, tagAt, Lent, Stays, Scanned};
+ghost use Rattle.tables.specs.Classes.{classTable};
+ghost use Rattle.tables.specs.Joined.{State, nextTable, tagTable, nextState, tagAt, Lent, Stays, Scanned};
 
 // States of the automaton: from the first no byte leads to a match, in the second nothing is read, and from the third on
 // some rule matches what is read. A state is the place of its row in the table of next states.

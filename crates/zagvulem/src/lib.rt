@@ -8,7 +8,7 @@ ghost use mathlib.Core.Path.{_≡_};
 ghost use Prim.Native.Nat.{min};
 ghost use Rattle.book.specs.Reading.{readBook, answer};
 ghost use Rattle.lexer.specs.Outcome.{lexOutcome};
-ghost use Rattle.scanner.specs.Book.{builtinBytes};
+ghost use Rattle.tables.specs.Book.{builtinBytes};
 ghost use Rattle.printer.specs.Outcome.{printOutcome};
 ghost use Rattle.separated.specs.Outcome.{separatedOutcome};
 ghost use Rattle.zagvulem.specs.Words.{refusalWord, acceptedWord, bookWord, lexWord, printWord, separator};

@@ -3,7 +3,7 @@ use Prim.Native.Nat.{_+_, _-_, _≤_}
 use native.Mathlib.Omega.{arith}
 use lib.ListN.{length, drop}
 use denote.Ref.{now}
-use Rattle.scanner.specs.Book.{builtinRules}
+use Rattle.tables.specs.Book.{builtinRules}
 use Rattle.scanner.proofs.Scanned.{Picked, picked}
 use Rattle.cutting.proofs.Turns.{Cutting, cutting-start, cutting-within, cutting-next, cutting-stop, lex-stop, lex-end}
 use Rattle.builtin.proofs.count.Statement.{statement}

@@ -7,7 +7,7 @@ use denote.Ref.{now}
 use Rattle.cutting.specs.Lexer.{lex}
 use Rattle.records.specs.Records.{recordCount}
 use Rattle.cutting.proofs.Lexing.{lex-few}
-use Rattle.scanner.specs.Book.{builtinRules}
+use Rattle.tables.specs.Book.{builtinRules}
 use Rattle.builtin.proofs.Outcome.{too-long, too-few, enough}
 use borrow.Author.Needs.{needs}
 use Rattle.builtin.proofs.lex_lent.Statement.{statement}

@@ -5,7 +5,7 @@ use native.Mathlib.Omega.{arith}
 use borrow.Author.Needs.{needs}
 use lib.ListN.{getD}
 use denote.Ref.{now}
-use Rattle.scanner.proofs.Joined.{tag-below}
+use Rattle.tables.proofs.Joined.{tag-below}
 use Rattle.scanner.proofs.found.Statement.{statement}
 use Rattle.scanner.proofs.found.Tie as tie
 

@@ -3,7 +3,7 @@ use mathlib.Core.Path.{_≡_, sym, _∙_}
 use Prim.Native.Nat.{_<_, _-_}
 use native.Mathlib.Omega.{arith}
 use lib.ListN.{length}
-use Rattle.scanner.specs.Joined.{Stays}
+use Rattle.tables.specs.Joined.{Stays}
 use Rattle.scanner.proofs.Scanned.{stays-none, stays-more}
 use Rattle.scanner.proofs.run.Statement.{statement}
 use Rattle.scanner.proofs.run.Tie as tie

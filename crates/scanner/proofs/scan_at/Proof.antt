@@ -6,7 +6,7 @@ use native.Mathlib.Nat.{le-refl}
 use lib.ListN.{length, drop, length-drop}
 use lib.Seq.{take-all}
 use denote.Ref.{now}
-use Rattle.scanner.specs.Joined.{Scanned}
+use Rattle.tables.specs.Joined.{Scanned}
 use borrow.Author.Needs.{needs}
 use Rattle.scanner.proofs.scan_at.Statement.{statement}
 use Rattle.scanner.proofs.scan_at.Tie as tie

@@ -4,9 +4,9 @@ use Prim.Native.Nat.{_+_, _<_}
 use native.Mathlib.Omega.{arith}
 use lib.ListN.{getD}
 use denote.Ref.{now}
-use Rattle.scanner.specs.Joined.{nextState}
-use Rattle.scanner.proofs.Classes.{classBytes, class-below}
-use Rattle.scanner.proofs.Joined.{joined}
+use Rattle.tables.specs.Joined.{nextState}
+use Rattle.tables.proofs.Alike.{classBytes, class-below}
+use Rattle.tables.proofs.Joined.{joined}
 use borrow.Author.Needs.{needs}
 use Rattle.scanner.proofs.step.Statement.{statement}
 use Rattle.scanner.proofs.step.Tie as tie

@@ -1,8 +1,8 @@
 -- The table is the very list of its definition. Assumes nothing.
 use mathlib.Core.Path.{refl}
-use Rattle.scanner.specs.Joined.{tagTable}
-use Rattle.scanner.proofs.tables.tags.Statement.{statement}
-use Rattle.scanner.proofs.tables.tags.Tie as tie
+use Rattle.tables.specs.Joined.{tagTable}
+use Rattle.tables.proofs.tags.Statement.{statement}
+use Rattle.tables.proofs.tags.Tie as tie
 
 returns : tie.Need-returns
 unfolding tagTable

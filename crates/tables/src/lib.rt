@@ -2,8 +2,8 @@
 // A local array of each is made once for a text and lent to the loops: a constant that is indexed in a loop would be laid out anew
 // at every turn.
 ghost use mathlib.Core.Path.{_≡_};
-ghost use Rattle.scanner.specs.Classes.{classTable};
-ghost use Rattle.scanner.specs.Joined.{nextTable, tagTable};
+ghost use Rattle.tables.specs.Classes.{classTable};
+ghost use Rattle.tables.specs.Joined.{nextTable, tagTable};
 
 // The class of each byte.
 const CLASSES: [u8; 256] = [

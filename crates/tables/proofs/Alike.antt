@@ -12,9 +12,9 @@ use borrow.Author.Tests.{eqb-true, ltb-true}
 use Rattle.automaton.specs.Choice.{All, any}
 use Rattle.automaton.specs.Rule.{Transition, Rule, step, target}
 use Rattle.automaton.proofs.Tests.{or-false, and-true}
-use Rattle.scanner.specs.Book.{builtinRules, timestamp, word, blanks, newline, bracket}
-use Rattle.scanner.specs.Classes.{classOf, tabulate, classTable, classAt, MovedAlike}
-use Rattle.scanner.proofs.Tests.{every, every-all, all-map, all-each, entries, entry}
+use Rattle.tables.specs.Book.{builtinRules, timestamp, word, blanks, newline, bracket}
+use Rattle.tables.specs.Classes.{classOf, tabulate, classTable, classAt, MovedAlike}
+use Rattle.tables.proofs.Tests.{every, every-all, all-map, all-each, entries, entry}
 
 -- ---- from every state
 

@@ -12,12 +12,12 @@ use borrow.Author.Tests.{eqb-true, ltb-true, le-leb, lt-leb}
 use Rattle.automaton.specs.Choice.{if, All}
 use Rattle.automaton.specs.Rule.{Rule, step, target, walk}
 use Rattle.automaton.proofs.Tests.{and-true, clash}
-use Rattle.scanner.specs.Book.{builtinRules, timestamp, word, blanks, newline, bracket}
-use Rattle.scanner.specs.Classes.{classAt}
-use Rattle.scanner.specs.Joined.{State, dead, start, accepting, stateTable, statesOf, nextTable, nextState, tagTable, tagAt}
-use Rattle.scanner.proofs.Tests.{entries, entry}
-use Rattle.scanner.proofs.Classes.{classBytes, byteOf, class-below, by-class}
-use Rattle.scanner.proofs.Product.{walks, steps, firstFinal, tagged, Joins}
+use Rattle.tables.specs.Book.{builtinRules, timestamp, word, blanks, newline, bracket}
+use Rattle.tables.specs.Classes.{classAt}
+use Rattle.tables.specs.Joined.{State, dead, start, accepting, stateTable, statesOf, nextTable, nextState, tagTable, tagAt}
+use Rattle.tables.proofs.Tests.{entries, entry}
+use Rattle.tables.proofs.Alike.{classBytes, byteOf, class-below, by-class}
+use Rattle.tables.proofs.Product.{walks, steps, firstFinal, tagged, Joins}
 
 -- ---- equal lists and options, as tests
 

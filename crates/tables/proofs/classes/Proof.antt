@@ -1,8 +1,8 @@
 -- The table is the very list of its definition. Assumes nothing.
 use mathlib.Core.Path.{refl}
-use Rattle.scanner.specs.Classes.{classTable, tabulate, classOf}
-use Rattle.scanner.proofs.tables.classes.Statement.{statement}
-use Rattle.scanner.proofs.tables.classes.Tie as tie
+use Rattle.tables.specs.Classes.{classTable, tabulate, classOf}
+use Rattle.tables.proofs.classes.Statement.{statement}
+use Rattle.tables.proofs.classes.Tie as tie
 
 returns : tie.Need-returns
 unfolding classTable tabulate classOf

@@ -7,8 +7,8 @@ use mathlib.Core.Option.{none, some}
 use lib.ListN.{length, getD}
 use Rattle.cutting.specs.Lexer.{choose}
 use Rattle.cutting.specs.Answers.{front}
-use Rattle.scanner.specs.Book.{builtinRules}
-use Rattle.scanner.specs.Classes.{classTable, classAt}
+use Rattle.tables.specs.Book.{builtinRules}
+use Rattle.tables.specs.Classes.{classTable, classAt}
 
 -- the place of a row
 pub record State (s : ℕ) : Type 0 where

@@ -1,8 +1,8 @@
 -- The table is the very list of its definition. Assumes nothing.
 use mathlib.Core.Path.{refl}
-use Rattle.scanner.specs.Joined.{nextTable}
-use Rattle.scanner.proofs.tables.next_states.Statement.{statement}
-use Rattle.scanner.proofs.tables.next_states.Tie as tie
+use Rattle.tables.specs.Joined.{nextTable}
+use Rattle.tables.proofs.next_states.Statement.{statement}
+use Rattle.tables.proofs.next_states.Tie as tie
 
 returns : tie.Need-returns
 unfolding nextTable

@@ -7,7 +7,7 @@ use lib.Dec.{leb, eqb}
 use lib.ListN.{getD}
 use Rattle.automaton.specs.Choice.{if, All}
 use Rattle.automaton.specs.Rule.{Rule, step}
-use Rattle.scanner.specs.Book.{builtinRules}
+use Rattle.tables.specs.Book.{builtinRules}
 
 abbrev pub within : ℕ → ℕ → ℕ → Bool
 within low high b = leb low b && leb b high
