@@ -9,7 +9,7 @@ use native.Mathlib.Nat.{add-zero}
 use native.Mathlib.Numerals.{add-one}
 use lib.Dec.{eqb}
 use lib.ListN.{length, getD, take, drop, set, length-append, length-drop, take-append-drop}
-use lib.Seq.{paste, paste-zero, paste-suc, length-paste, take-paste, drop-paste, getD-drop, drop-drop, drop-at, length-take-le}
+use lib.Seq.{paste, length-paste, take-paste, drop-paste, drop-drop, drop-at, length-take-le}
 use borrow.Author.Tests.{lt-ltb, le-ltb, eqb-true, ne-eqb}
 use Rattle.automaton.specs.Choice.{All}
 use Rattle.automaton.specs.Rule.{Rule}
@@ -112,21 +112,6 @@ faultless-pool rules pool [] k e = tt
 faultless-pool rules pool (r ∷ rs) k e =
     let f = faultless-front (faultOf rules pool) r rs k e in
     (record { in-pool = faultless rules pool r (f .0) .in-pool }, faultless-pool rules pool rs (suc k) (f .1))
-
--- ---- copying
-
-pub copying-start : (from to : List ℕ) (place at : ℕ) → to ≡ paste to at (drop place from) 0
-copying-start from to place at = paste-zero to at (drop place from)
-
-pub copying-next : (from entry to : List ℕ) (place at len i : ℕ) → place + len ≤ length from → at + len ≤ length entry → i < len
-    → to ≡ paste entry at (drop place from) i → set to (at + i) (getD from (place + i) 0) ≡ paste entry at (drop place from) (i + 1)
-copying-next from entry to place at len i a b l e =
-    rw (e, ← getD-drop place from i 0, add-one) (paste-suc entry at (drop place from) i 0 (omega arith) (simp length-drop (omega arith)))
-
-pub copying-length : (from entry to : List ℕ) (place at len i : ℕ) → place + len ≤ length from → at + len ≤ length entry → i ≤ len
-    → to ≡ paste entry at (drop place from) i → length to ≡ length entry
-copying-length from entry to place at len i a b l e =
-    ap length e ∙ length-paste entry at (drop place from) i (omega arith) (simp length-drop (omega arith))
 
 -- ---- joining
 

@@ -2,9 +2,8 @@
 use refusal::Refusal;
 ghost use mathlib.Core.Path.{_≡_};
 ghost use mathlib.Core.List.{List};
-ghost use Prim.Native.Nat.{ℕ, _+_, _≤_};
-ghost use lib.ListN.{length, take, drop};
-ghost use lib.Seq.{paste};
+ghost use Prim.Native.Nat.{ℕ, _≤_};
+ghost use lib.ListN.{length, take};
 ghost use Rattle.automaton.specs.Rule.{Rule};
 ghost use Rattle.cutting.specs.Lexer.{join};
 ghost use Rattle.records.specs.Records.{recordCount};
@@ -51,18 +50,6 @@ pub fn measure(
     Measured::Bytes(total)
 }
 
-// Copies `len` bytes of `from`, from `place` on, to `to` from `at` on.
-pub fn copy(from: &[u8], place: usize, len: usize, to: &mut [u8], at: usize)
-    requires { ⌜ (place + len ≤ length (now from)) × (at + len ≤ length (now to)) ⌝ }
-    ensures { λ r. ⌜ now (to .exit) ≡ paste (now (to .entry)) at (drop place (now (from .entry))) len ⌝ }
-{
-    let mut i = 0;
-    while i < len {
-        to[at + i] = from[place + i];
-        i += 1;
-    }
-}
-
 // Puts the bytes of the tokens one behind the other, from the start of `out`.
 pub fn join_tokens(records: &[u8], pool: &[u8], out: &mut [u8])
     requires { ⌜ Fitting (now records) (now pool) (now out) ⌝ }
@@ -73,7 +60,7 @@ pub fn join_tokens(records: &[u8], pool: &[u8], out: &mut [u8])
     let mut k = 0;
     while k < count {
         let token = pooled::read_record(records, k);
-        copy(pool, token.place, token.len, out, at);
+        copying::copy(pool, token.place, token.len, out, at);
         at += token.len;
         k += 1;
     }

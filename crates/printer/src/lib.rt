@@ -95,7 +95,7 @@ pub fn print_rules(
     if out.len() < total {
         return refused(Refusal::OUTPUT_TOO_SHORT, total);
     }
-    lists::copy(scratch, 0, total, out, 0);
+    copying::copy(scratch, 0, total, out, 0);
     PrintAnswer::Printed(total)
 }
 

@@ -203,7 +203,7 @@ fn write_from(scratch: &[u8], at: usize, out: &mut [u8]) -> PrintAnswer
     if out.len() < total {
         return refused(Refusal::OUTPUT_TOO_SHORT, total);
     }
-    lists::copy(scratch, at, total, out, 0);
+    copying::copy(scratch, at, total, out, 0);
     PrintAnswer::Printed(total)
 }
 

@@ -67,7 +67,7 @@ fn put_before(pool: &[u8], place: usize, len: usize, scratch: &mut [u8], at: usi
         return Placed::Full;
     }
     let start = at - len;
-    lists::copy(pool, place, len, scratch, start);
+    copying::copy(pool, place, len, scratch, start);
     Placed::At(start)
 }
 

@@ -147,7 +147,7 @@ fn join(pool: &[u8], scratch: &mut [u8], stage: Stage, token: TokenRecord, count
     let place = token.place;
     let len = token.len;
     let at = stage.at;
-    lists::copy(pool, place, len, scratch, at);
+    copying::copy(pool, place, len, scratch, at);
     move_on(stage, len, count)
 }
 
@@ -293,7 +293,7 @@ fn finish_scratch(scratch: &[u8], stage: Stage, out: &mut [u8]) -> PrintAnswer
             place: total,
         });
     }
-    lists::copy(scratch, 0, total, out, 0);
+    copying::copy(scratch, 0, total, out, 0);
     PrintAnswer::Printed(total)
 }
 

@@ -7,7 +7,7 @@ use Rattle.lists.proofs.join_tokens.Statement.{statement}
 use Rattle.lists.proofs.join_tokens.Tie as tie
 use Rattle.lists.proofs.join_tokens.Reads as reads
 use Rattle.lists.proofs.join_tokens.Lts as lts
-use Rattle.lists.proofs.copy.Reads as copy-reads
+use Rattle.copying.proofs.copy.Reads as copy-reads
 use Rattle.pooled.proofs.read_record.Reads as read-record-reads
 
 abbrev Inv-loop : tie.InvT-loop

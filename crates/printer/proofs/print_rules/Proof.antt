@@ -6,7 +6,7 @@ use Rattle.printer.proofs.print_rules.Statement.{statement}
 use Rattle.printer.proofs.print_rules.Tie as tie
 use Rattle.printer.proofs.print_rules.Reads as reads
 use Rattle.printer.proofs.print_rules.Lts as lts
-use Rattle.lists.proofs.copy.Reads as copy-reads
+use Rattle.copying.proofs.copy.Reads as copy-reads
 use Rattle.printer.proofs.refused.Reads as refused-reads
 use Rattle.rehearsal.proofs.find_refusal.Reads as find-refusal-reads
 use Rattle.rehearsal.proofs.rehearse.Reads as rehearse-reads

@@ -10,7 +10,7 @@ use Rattle.separated.proofs.write_from.Statement.{statement}
 use Rattle.separated.proofs.write_from.Tie as tie
 use Rattle.separated.proofs.write_from.Reads as reads
 use Rattle.separated.proofs.write_from.Lts as lts
-use Rattle.lists.proofs.copy.Reads as copy-reads
+use Rattle.copying.proofs.copy.Reads as copy-reads
 use Rattle.separated.proofs.refused.Reads as refused-reads
 
 sub-total : tie.Need-sub-total

@@ -6,7 +6,7 @@ use Rattle.spacing.proofs.put_before.Statement.{statement}
 use Rattle.spacing.proofs.put_before.Tie as tie
 use Rattle.spacing.proofs.put_before.Reads as reads
 use Rattle.spacing.proofs.put_before.Lts as lts
-use Rattle.lists.proofs.copy.Reads as copy-reads
+use Rattle.copying.proofs.copy.Reads as copy-reads
 
 returns : tie.Need-returns
 returns c = before-full _ _ _ _ _ (c .before .before .before .pre .0) (c .before .before .before .pre .1) (c .if1 .taken)

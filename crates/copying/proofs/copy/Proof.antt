@@ -5,11 +5,11 @@ use native.Mathlib.Omega.{arith}
 use lib.ListN.{length, drop}
 use denote.Ref.{now}
 use lib.Seq.{paste}
-use Rattle.lists.proofs.Passes.{copying-start, copying-next, copying-length}
-use Rattle.lists.proofs.copy.Statement.{statement}
-use Rattle.lists.proofs.copy.Tie as tie
-use Rattle.lists.proofs.copy.Reads as reads
-use Rattle.lists.proofs.copy.Lts as lts
+use Rattle.copying.proofs.Copying.{copying-start, copying-next, copying-length}
+use Rattle.copying.proofs.copy.Statement.{statement}
+use Rattle.copying.proofs.copy.Tie as tie
+use Rattle.copying.proofs.copy.Reads as reads
+use Rattle.copying.proofs.copy.Lts as lts
 
 abbrev Inv-loop : tie.InvT-loop
 Inv-loop from place len to₀ at i₀ to i = (i ≤ len) × (to ≡ paste to₀ at (drop place from) i)
