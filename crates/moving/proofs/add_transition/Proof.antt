@@ -13,46 +13,46 @@ use Rattle.moving.proofs.either.Reads as either-reads
 use Rattle.reading.proofs.refused.Reads as refused-reads
 
 refused-requires : tie.Need-refused-requires
-refused-requires c κs = search needs
+refused-requires c κs = tt
 
 returns : tie.Need-returns
 returns c = λ hs d h i. rw (c .refused .ensures) (move-too-many h i _ _ _ _ _ _ (c .before .if1 .taken))
 
 refused-requires-2 : tie.Need-refused-requires-2
-refused-requires-2 c κs = search needs
+refused-requires-2 c κs = tt
 
 returns-2 : tie.Need-returns-2
 returns-2 c = λ hs d h i. rw (c .refused2 .ensures) (move-disorder h i _ _ _ _ _ _ (c .before .before .if1 .left) (c .before .if2 .taken))
 
 mul-cell : tie.Need-mul-cell
-mul-cell c = search needs
+mul-cell c = omega (arith, c .before .before .before .before .pre .0 .0, c .before .before .before .before .good)
 
 add-cell : tie.Need-add-cell
-add-cell c = search needs
+add-cell c = omega (arith, c .before .before .before .before .pre .0 .0, c .before .before .before .before .fits .from, c .before .before .before .before .good)
 
 mul-head : tie.Need-mul-head
-mul-head c = search needs
+mul-head c = omega (arith, c .before .before .before .before .pre .0 .0, c .before .before .before .before .fits .from, c .before .before .before .before .good)
 
 slice-read-head : tie.Need-slice-read-head
-slice-read-head c = search needs
+slice-read-head c = omega (arith, c .before .before .before .before .before .pre .0 .0, c .before .before .before .before .before .fits .from)
 
 cast-head : tie.Need-cast-head
 cast-head c = omega (arith, c .slice-known3 .given (c .before .before .before .before .before .args .book .rules * 256 + c .before .before .before .before .before .args .from))
 
 shares-byte-requires : tie.Need-shares-byte-requires
-shares-byte-requires c κs = search needs
+shares-byte-requires c κs = c .before .before .before .before .before .before .pre .1
 
 either-requires : tie.Need-either-requires
-either-requires c κs = search needs
+either-requires c κs = tt
 
 add-edge-requires : tie.Need-add-edge-requires
-add-edge-requires c κs = search needs
+add-edge-requires c κs = (omega (arith, c .before .before .before .before .before .before .before .before .before .before .pre .0 .0, c .before .before .before .before .before .before .before .before .before .before .fits .from), c .before .before .before .before .before .before .before .before .before .before .pre .0 .1, omega (arith, c .before .before .before .before .before .before .before .before .before .before .pre .0))
 
 add-book : tie.Need-add-book
-add-book c = search needs
+add-book c = omega (arith, c .before .before .before .before .before .before .before .before .before .before .before .before .if1 .left)
 
 add-book-2 : tie.Need-add-book-2
-add-book-2 c = search needs
+add-book-2 c = omega (arith, c .before .before .before .before .before .before .before .before .before .before .before .before .before .before .before .pre .0)
 
 same-length : tie.Need-same-length
 same-length c = search needs
