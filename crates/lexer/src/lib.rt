@@ -1,12 +1,11 @@
 // Lexing by a book's bytes, open to every caller: it asks nothing and refuses what is unfit.
-// The tables are locals of the call, lent as arrays to a function that passes them on as slices.
+// The tables are locals of the call, lent as arrays to functions that pass them on as slices.
 use book::BookAnswer;
 use reading::Book;
 use refusal::Refusal;
 ghost use mathlib.Core.Path.{_≡_};
 ghost use mathlib.Core.List.{List};
 ghost use Rattle.automaton.specs.Rule.{Rule};
-ghost use Rattle.reading.specs.State.{Fresh};
 ghost use Rattle.cutting.specs.Answers.{Holds, Held};
 ghost use Rattle.lexer.specs.Outcome.{lexRules, lexOutcome, Answered, restRules, restOf, RestAt};
 
@@ -25,38 +24,25 @@ pub fn lex(book: &[u8], text: &[u8], records: &mut [u8]) -> LexAnswer
     let mut headers = [0u64; Book::RULES];
     let mut states = [0u16; Book::CELLS];
     let mut edges = [0u64; Book::EDGES];
-    lex_arrays(book, &mut headers, &mut states, &mut edges, text, records)
+    match book::load_arrays(book, &mut headers, &mut states, &mut edges) {
+        BookAnswer::Accepted(rules) => lex_arrays(&headers, &states, &edges, rules, text, records),
+        BookAnswer::Refused(refusal) => LexAnswer::Refused(refusal),
+    }
 }
 
 fn lex_arrays(
-    book: &[u8],
-    headers: &mut [u64; Book::RULES],
-    states: &mut [u16; Book::CELLS],
-    edges: &mut [u64; Book::EDGES],
+    headers: &[u64; Book::RULES],
+    states: &[u16; Book::CELLS],
+    edges: &[u64; Book::EDGES],
+    rules: usize,
     text: &[u8],
     records: &mut [u8],
 ) -> LexAnswer
-    requires { ⌜ Fresh (now headers) (now states) (now edges) ⌝ }
-    ensures { λ r. ⌜ Answered (lexOutcome (now (book .entry)) (now (text .entry)) (now (records .entry))) r (now (records .exit)) ⌝ }
+    requires { ⌜ Held (now headers) (now states) (now edges) rules ⌝ }
+    ensures { λ r. ⌜ ((rs : List Rule) → Holds (now (headers .entry)) (now (states .entry)) (now (edges .entry)) rules rs
+        → Answered (lexRules rs (now (text .entry)) (now (records .entry))) r (now (records .exit))) ⌝ }
 {
-    lex_book(book, headers, states, edges, text, records)
-}
-
-fn lex_book(
-    book: &[u8],
-    headers: &mut [u64],
-    states: &mut [u16],
-    edges: &mut [u64],
-    text: &[u8],
-    records: &mut [u8],
-) -> LexAnswer
-    requires { ⌜ Fresh (now headers) (now states) (now edges) ⌝ }
-    ensures { λ r. ⌜ Answered (lexOutcome (now (book .entry)) (now (text .entry)) (now (records .entry))) r (now (records .exit)) ⌝ }
-{
-    match book::load(book, headers, states, edges) {
-        BookAnswer::Accepted(rules) => lex_rules(headers, states, edges, rules, text, records),
-        BookAnswer::Refused(refusal) => LexAnswer::Refused(refusal),
-    }
+    lex_rules(headers, states, edges, rules, text, records)
 }
 
 // Lexing by the rules that the tables hold. Every token has a byte, so that as many records as the text has bytes are surely
@@ -112,36 +98,24 @@ fn rest_place(book: &[u8], text: &[u8]) -> usize
     let mut headers = [0u64; Book::RULES];
     let mut states = [0u16; Book::CELLS];
     let mut edges = [0u64; Book::EDGES];
-    rest_arrays(book, &mut headers, &mut states, &mut edges, text)
+    match book::load_arrays(book, &mut headers, &mut states, &mut edges) {
+        BookAnswer::Accepted(rules) => rest_arrays(&headers, &states, &edges, rules, text),
+        BookAnswer::Refused(_) => 0,
+    }
 }
 
 fn rest_arrays(
-    book: &[u8],
-    headers: &mut [u64; Book::RULES],
-    states: &mut [u16; Book::CELLS],
-    edges: &mut [u64; Book::EDGES],
+    headers: &[u64; Book::RULES],
+    states: &[u16; Book::CELLS],
+    edges: &[u64; Book::EDGES],
+    rules: usize,
     text: &[u8],
 ) -> usize
-    requires { ⌜ Fresh (now headers) (now states) (now edges) ⌝ }
-    ensures { λ r. ⌜ RestAt (now (text .entry)) r (restOf (now (book .entry)) (now (text .entry))) ⌝ }
+    requires { ⌜ Held (now headers) (now states) (now edges) rules ⌝ }
+    ensures { λ r. ⌜ ((rs : List Rule) → Holds (now (headers .entry)) (now (states .entry)) (now (edges .entry)) rules rs
+        → RestAt (now (text .entry)) r (restRules rs (now (text .entry)))) ⌝ }
 {
-    rest_book(book, headers, states, edges, text)
-}
-
-fn rest_book(
-    book: &[u8],
-    headers: &mut [u64],
-    states: &mut [u16],
-    edges: &mut [u64],
-    text: &[u8],
-) -> usize
-    requires { ⌜ Fresh (now headers) (now states) (now edges) ⌝ }
-    ensures { λ r. ⌜ RestAt (now (text .entry)) r (restOf (now (book .entry)) (now (text .entry))) ⌝ }
-{
-    match book::load(book, headers, states, edges) {
-        BookAnswer::Accepted(rules) => rest_rules(headers, states, edges, rules, text),
-        BookAnswer::Refused(_) => 0,
-    }
+    rest_rules(headers, states, edges, rules, text)
 }
 
 fn rest_rules(headers: &[u64], states: &[u16], edges: &[u64], rules: usize, text: &[u8]) -> usize
