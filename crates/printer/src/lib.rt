@@ -7,7 +7,6 @@ ghost use mathlib.Core.Path.{_≡_};
 ghost use mathlib.Core.List.{List};
 ghost use lib.ListN.{length};
 ghost use Rattle.automaton.specs.Rule.{Rule};
-ghost use Rattle.reading.specs.State.{Fresh};
 ghost use Rattle.reading.specs.Limits.{maxText};
 ghost use Rattle.cutting.specs.Answers.{Holds, Held};
 ghost use Rattle.printer.specs.Outcome.{printRules, printOutcome, Answered};

@@ -87,6 +87,10 @@ pub record Stepped (hs ss es scratch after pool : List ℕ) (s : Stage) (t : Tok
 abbrev pub firstStage : ℕ → ℕ → Stage
 firstStage rules count = if (eqb count 0) (done 0) (going 0 0 0 0 rules)
 
+-- 16 before it
+abbrev pub begun : ℕ → ℕ → Stage
+begun rules count = if (ltb maxTokens count) (refusing 16 0) (firstStage rules count)
+
 -- the first stage of printing `count` tokens: refused by the book or by 16, or the first token
 pub record Begins (book : List ℕ) (count : ℕ) (hs ss es : List ℕ) (r : Stage) : Type 0 where
   pub refuses : r .refused ≡ true → (r ≡ refusing (r .number) (r .place))
