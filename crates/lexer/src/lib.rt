@@ -1,19 +1,14 @@
 // Lexing by a book's bytes, open to every caller: it asks nothing and refuses what is unfit.
 // The tables are locals of the call, lent as arrays to functions that pass them on as slices.
 use book::BookAnswer;
+use lexing::LexAnswer;
 use reading::Book;
-use refusal::Refusal;
 ghost use mathlib.Core.Path.{_≡_};
 ghost use mathlib.Core.List.{List};
 ghost use Rattle.automaton.specs.Rule.{Rule};
 ghost use Rattle.cutting.specs.Answers.{Holds, Held};
-ghost use Rattle.lexer.specs.Outcome.{lexRules, lexOutcome, Answered, restRules, restOf, RestAt};
-
-// What lexing a text by a book answers: the number of tokens and the place of the rest, or a refusal.
-pub enum LexAnswer {
-    Lexed { tokens: usize, rest: usize },
-    Refused(Refusal),
-}
+ghost use Rattle.lexing.specs.Outcome.{lexRules, Answered, restRules, RestAt};
+ghost use Rattle.lexer.specs.Outcome.{lexOutcome, restOf};
 
 // Cuts `text` by the rules of a book: the number of tokens and the place of the rest, or the refusal of document 01.
 // A record of each token stands from the start of `records`; every other byte stays as it was.
@@ -42,44 +37,7 @@ fn lex_arrays(
     ensures { λ r. ⌜ ((rs : List Rule) → Holds (now (headers .entry)) (now (states .entry)) (now (edges .entry)) rules rs
         → Answered (lexRules rs (now (text .entry)) (now (records .entry))) r (now (records .exit))) ⌝ }
 {
-    lex_rules(headers, states, edges, rules, text, records)
-}
-
-// Lexing by the rules that the tables hold. Every token has a byte, so that as many records as the text has bytes are surely
-// enough, and the text is walked once; else the tokens are counted before the first record is written.
-pub fn lex_rules(
-    headers: &[u64],
-    states: &[u16],
-    edges: &[u64],
-    rules: usize,
-    text: &[u8],
-    records: &mut [u8],
-) -> LexAnswer
-    requires { ⌜ Held (now headers) (now states) (now edges) rules ⌝ }
-    ensures { λ r. ⌜ ((rs : List Rule) → Holds (now (headers .entry)) (now (states .entry)) (now (edges .entry)) rules rs
-        → Answered (lexRules rs (now (text .entry)) (now (records .entry))) r (now (records .exit))) ⌝ }
-{
-    if Book::TEXT < text.len() {
-        return LexAnswer::Refused(Refusal {
-            number: Refusal::TEXT_TOO_LONG,
-            place: 0,
-        });
-    }
-    let room = records.len() / 10;
-    if room < text.len() {
-        let needed = cutting::count(headers, states, edges, rules, text);
-        if room < needed.tokens {
-            return LexAnswer::Refused(Refusal {
-                number: Refusal::TOO_FEW_RECORDS,
-                place: needed.tokens,
-            });
-        }
-    }
-    let cut = records::fill(headers, states, edges, rules, text, records);
-    LexAnswer::Lexed {
-        tokens: cut.tokens,
-        rest: cut.rest,
-    }
+    lexing::lex_rules(headers, states, edges, rules, text, records)
 }
 
 // The rest of `text`, as a part of it: its bytes from the first place at which no rule of the book matches. Where `lex`
@@ -115,18 +73,5 @@ fn rest_arrays(
     ensures { λ r. ⌜ ((rs : List Rule) → Holds (now (headers .entry)) (now (states .entry)) (now (edges .entry)) rules rs
         → RestAt (now (text .entry)) r (restRules rs (now (text .entry)))) ⌝ }
 {
-    rest_rules(headers, states, edges, rules, text)
-}
-
-fn rest_rules(headers: &[u64], states: &[u16], edges: &[u64], rules: usize, text: &[u8]) -> usize
-    requires { ⌜ Held (now headers) (now states) (now edges) rules ⌝ }
-    ensures { λ r. ⌜ ((rs : List Rule) → Holds (now (headers .entry)) (now (states .entry)) (now (edges .entry)) rules rs
-        → RestAt (now (text .entry)) r (restRules rs (now (text .entry)))) ⌝ }
-{
-    if text.len() <= Book::TEXT {
-        let cut = cutting::count(headers, states, edges, rules, text);
-        cut.rest
-    } else {
-        0
-    }
+    lexing::rest_rules(headers, states, edges, rules, text)
 }

@@ -3,7 +3,7 @@
 use book::BookAnswer;
 use checks::Checked;
 use pooled::TokenRecord;
-use printer::PrintAnswer;
+use printing::PrintAnswer;
 use reading::Book;
 use refusal::Refusal;
 use spacing::Placed;
@@ -14,7 +14,7 @@ ghost use lib.ListN.{length, drop};
 ghost use Rattle.automaton.specs.Rule.{Rule};
 ghost use Rattle.reading.specs.Limits.{maxText};
 ghost use Rattle.cutting.specs.Answers.{Holds, Held};
-ghost use Rattle.printer.specs.Outcome.{Answered};
+ghost use Rattle.printing.specs.Outcome.{Answered};
 ghost use Rattle.separated.specs.Outcome.{writing, separatedRules, separatedOutcome};
 ghost use Rattle.spacing.specs.Separators.{spelled};
 ghost use Rattle.separated.specs.Answers.{Passed};

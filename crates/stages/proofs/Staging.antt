@@ -23,18 +23,20 @@ use Rattle.reading.specs.Limits.{maxText, maxTokens}
 use Rattle.records.specs.Records.{recordCount}
 use Rattle.cutting.proofs.Held.{held-empty}
 use Rattle.lexer.proofs.Outcomes.{loaded-rules}
-use Rattle.printer.specs.declared.PrintAnswer.{PrintAnswer}
-use Rattle.printer.specs.declared.PrintAnswer.the-variants as print
+use Rattle.printing.specs.declared.PrintAnswer.{PrintAnswer}
+use Rattle.printing.specs.declared.PrintAnswer.the-variants as print
 use Rattle.pooled.specs.declared.TokenRecord.{TokenRecord}
 use Rattle.pooled.specs.Tokens.{recordAt, recordsOf, tokensOf}
 use Rattle.pooled.specs.Faults.{faultOf}
 use Rattle.lists.specs.Checks.{firstFault, firstExtended}
 use Rattle.pooled.specs.Answers.{Small}
 use Rattle.lists.specs.Answers.{Fitting, Laid, extendedAt}
-use Rattle.printer.specs.Outcome.{printChecked, printRules, printOutcome, Answered}
+use Rattle.printing.specs.Outcome.{printChecked, printRules, Answered}
+use Rattle.printer.specs.Outcome.{printOutcome}
 use Rattle.lists.proofs.Passes.{faultless-pool, Measuring, measuring-start, measuring-refused, measuring-next, measuring-end, Joining, joining-start, joining-pool, joining-room, joining-next, joining-end, Extending, extending-start, extending-found, extending-next, extending-end}
 use Rattle.rehearsal.proofs.Finding.{measured-bytes}
-use Rattle.printer.proofs.Outcomes.{answered-long, answered-extended, answered-short, answered-printed, answered-many, answered-fault, answered-checked, answered-book, answered-refused}
+use Rattle.printing.proofs.Outcomes.{answered-long, answered-extended, answered-short, answered-printed, answered-many, answered-fault, answered-checked}
+use Rattle.printer.proofs.Outcomes.{answered-book, answered-refused}
 use Rattle.stages.specs.declared.Stage.{Stage}
 use Rattle.stages.specs.Stages.{going, done, refusing, passOver, movedOn, Steps, Stepped, firstStage, begun, Begins, Finishes}
 

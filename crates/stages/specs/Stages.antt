@@ -13,12 +13,13 @@ use Rattle.refusal.specs.declared.Refusal.{Refusal}
 use Rattle.cutting.specs.Answers.{Holds, Held, Chooses}
 use Rattle.reading.specs.Limits.{maxText, maxTokens}
 use Rattle.records.specs.Records.{recordCount}
-use Rattle.printer.specs.declared.PrintAnswer.{PrintAnswer}
-use Rattle.printer.specs.declared.PrintAnswer.the-variants as print
+use Rattle.printing.specs.declared.PrintAnswer.{PrintAnswer}
+use Rattle.printing.specs.declared.PrintAnswer.the-variants as print
 use Rattle.pooled.specs.declared.TokenRecord.{TokenRecord}
 use Rattle.pooled.specs.Answers.{Small}
 use Rattle.pooled.specs.Faults.{faultOf}
-use Rattle.printer.specs.Outcome.{printOutcome, Answered}
+use Rattle.printing.specs.Outcome.{Answered}
+use Rattle.printer.specs.Outcome.{printOutcome}
 use Rattle.stages.specs.declared.Stage.{Stage}
 
 -- ---- the stages

@@ -4,7 +4,7 @@
 use book::BookAnswer;
 use cutting::Choice;
 use pooled::TokenRecord;
-use printer::PrintAnswer;
+use printing::PrintAnswer;
 use reading::Book;
 use refusal::Refusal;
 use token::Token;

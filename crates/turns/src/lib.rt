@@ -1,6 +1,6 @@
 // Lexing into a slice of tokens. A turn holds the next token to store; all that is decided of it stands in `begin` and `next`.
 use book::BookAnswer;
-use lexer::LexAnswer;
+use lexing::LexAnswer;
 use reading::Book;
 use refusal::Refusal;
 use token::Token;
