@@ -6,7 +6,8 @@ use Rattle.book.specs.Reading.{readBook, readFrom, accepted}
 use Rattle.reading.specs.Draft.{apply, move, check}
 use Rattle.command.specs.Commands.{commandAt, decode, operandsOf, placed}
 use Rattle.automaton.specs.Rule.{overlaps}
-use Rattle.lexer.specs.Outcome.{lexRules, lexOutcome}
+use Rattle.lexing.specs.Outcome.{lexRules}
+use Rattle.lexer.specs.Outcome.{lexOutcome}
 use Rattle.tables.specs.Book.{builtinBytes, builtinRules, timestamp, word, blanks, newline, bracket}
 
 pub read-builtin : readBook builtinBytes ≡ accepted builtinRules

@@ -8,7 +8,7 @@ use Rattle.automaton.specs.Rule.{Rule}
 use Rattle.cutting.specs.Lexer.{lex}
 use Rattle.reading.specs.Limits.{maxText}
 use Rattle.records.specs.Records.{recordCount}
-use Rattle.lexer.specs.Outcome.{lexRefused, lexAccepted, lexRules}
+use Rattle.lexing.specs.Outcome.{lexRefused, lexAccepted, lexRules}
 
 module _ (rules : List Rule) (text records : List ℕ) where
   pub too-long : maxText < length text → lexRules rules text records ≡ lexRefused 14 0 records

@@ -2,7 +2,7 @@
 pub mod commands;
 
 use cutting::Cut;
-use lexer::LexAnswer;
+use lexing::LexAnswer;
 use reading::Book;
 use refusal::Refusal;
 ghost use mathlib.Core.Path.{_≡_};
@@ -11,7 +11,8 @@ ghost use lib.ListN.{length};
 ghost use Rattle.cutting.specs.Lexer.{lex};
 ghost use Rattle.cutting.specs.Answers.{Cuts};
 ghost use Rattle.records.specs.Filling.{Fills};
-ghost use Rattle.lexer.specs.Outcome.{lexRules, lexOutcome};
+ghost use Rattle.lexing.specs.Outcome.{lexRules};
+ghost use Rattle.lexer.specs.Outcome.{lexOutcome};
 ghost use Rattle.tables.specs.Book.{builtinBytes, builtinRules};
 ghost use Rattle.tables.specs.Joined.{Lent};
 

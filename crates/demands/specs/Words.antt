@@ -7,12 +7,12 @@ use lib.ListN.{length, take, drop}
 use Rattle.automaton.specs.Choice.{All}
 use Rattle.automaton.specs.Rule.{Rule, matches}
 use Rattle.book.specs.Reading.{accepted, readBook}
-use Rattle.lexer.specs.declared.LexAnswer.the-variants as lexed
+use Rattle.lexing.specs.declared.LexAnswer.the-variants as lexed
 use Rattle.cutting.specs.Lexer.{Token, join}
 use Rattle.reading.specs.Limits.{maxText, maxTokens}
 use Rattle.records.specs.Records.{recordCount}
 use Rattle.lexer.specs.Outcome.{lexOutcome}
-use Rattle.printer.specs.declared.PrintAnswer.the-variants as print
+use Rattle.printing.specs.declared.PrintAnswer.the-variants as print
 use Rattle.pooled.specs.Tokens.{recordsOf, tokensOf}
 use Rattle.pooled.specs.Faults.{aloneIn}
 use Rattle.printer.specs.Outcome.{printOutcome}

@@ -6,11 +6,13 @@ use Rattle.reading.specs.Draft.{check, move, apply}
 use Rattle.book.specs.Reading.{readFrom, readBook}
 use Rattle.cutting.specs.Lexer.{firstMatch, chooseWithin, choose, lexFor, lex, extends}
 use Rattle.records.specs.Records.{recordsAt}
-use Rattle.lexer.specs.Outcome.{lexRules, lexOutcome}
+use Rattle.lexing.specs.Outcome.{lexRules}
+use Rattle.lexer.specs.Outcome.{lexOutcome}
 use Rattle.pooled.specs.Tokens.{recordAt, recordsFrom, recordsOf, tokensIn}
 use Rattle.pooled.specs.Faults.{aloneIn, faultOf}
 use Rattle.lists.specs.Checks.{refuse, firstFault, firstExtended}
-use Rattle.printer.specs.Outcome as print
+use Rattle.printing.specs.Outcome as print
+use Rattle.printer.specs.Outcome.{printOutcome}
 use Rattle.used.specs.Bytes.{usedByKind, shared, lowestFrom, sharedByte}
 use Rattle.used.specs.Kinds.{separates}
 use Rattle.spacing.specs.Separators.{meaning, follows, separated}
@@ -20,5 +22,5 @@ use Rattle.listing.specs.Lines.{decimalFor, decimal, lastTwo, tokenLine, restLi
 use Rattle.examples.specs.Table.{table, Examples}
 
 pub examples : Examples
-unfolding table target walk matches overlaps placed operandsOf decode commandAt check move apply readFrom readBook firstMatch chooseWithin choose lexFor lex recordsAt lexRules lexOutcome decimalFor decimal lastTwo tokenLine restLine refusedLine recordLine recordLines listing extends recordAt recordsFrom recordsOf tokensIn aloneIn faultOf refuse firstFault firstExtended print.check print.unless print.printChecked print.printRules print.printOutcome used usedByKind shared lowestFrom sharedByte separates meaning follows separated orElse separatorFault plainFault sharing listRefusal separatedRefusal writing separatedRules separatedOutcome
+unfolding table target walk matches overlaps placed operandsOf decode commandAt check move apply readFrom readBook firstMatch chooseWithin choose lexFor lex recordsAt lexRules lexOutcome decimalFor decimal lastTwo tokenLine restLine refusedLine recordLine recordLines listing extends recordAt recordsFrom recordsOf tokensIn aloneIn faultOf refuse firstFault firstExtended print.check print.unless print.printChecked print.printRules printOutcome used usedByKind shared lowestFrom sharedByte separates meaning follows separated orElse separatorFault plainFault sharing listRefusal separatedRefusal writing separatedRules separatedOutcome
 examples = (refl, (refl, (refl, (refl, (refl, (refl, (refl, (refl, (refl, (refl, (refl, (refl, (refl, (refl, tt))))))))))))))

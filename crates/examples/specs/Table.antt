@@ -7,9 +7,10 @@ use Rattle.automaton.specs.Choice.{All}
 use Rattle.book.specs.Reading.{Reading, accepted, refused, readBook}
 use Rattle.cutting.specs.Lexer.{Token, Lexed, lex, join}
 use Rattle.records.specs.Records.{recordsAt}
-use Rattle.printer.specs.declared.PrintAnswer.{PrintAnswer}
-use Rattle.printer.specs.declared.PrintAnswer.the-variants as answer
-use Rattle.printer.specs.Outcome.{PrintOutcome, printOutcome}
+use Rattle.printing.specs.declared.PrintAnswer.{PrintAnswer}
+use Rattle.printing.specs.declared.PrintAnswer.the-variants as answer
+use Rattle.printing.specs.Outcome.{PrintOutcome}
+use Rattle.printer.specs.Outcome.{printOutcome}
 use Rattle.separated.specs.Outcome.{separatedOutcome}
 use Rattle.listing.specs.Lines.{listing, recordBytes}
 use Rattle.examples.specs.Books.{bookA, bookB, bookC}

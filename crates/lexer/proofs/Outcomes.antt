@@ -1,13 +1,12 @@
 -- How the answers of the code come to the outcome of document 01. Assumes nothing.
 use mathlib.Core.Path.{_≡_, refl, sym, _∙_, ap}
-use Prim.Native.Nat.{ℕ, _-_, _<_, _≤_}
+use Prim.Native.Nat.{ℕ, _-_}
 use mathlib.Core.Bool.{Bool, true, false}
 use mathlib.Core.List.{List}
 use native.Mathlib.Omega.{arith}
 use lib.Dec.{ltb}
 use lib.ListN.{length, take, drop, length-drop}
 use lib.Seq.{take-all}
-use borrow.Author.Tests.{lt-ltb, le-ltb}
 use Rattle.automaton.specs.Choice.{if}
 use Rattle.automaton.specs.Rule.{Rule}
 use Rattle.refusal.specs.declared.Refusal.{Refusal}
@@ -15,45 +14,15 @@ use Rattle.book.specs.declared.BookAnswer.{BookAnswer}
 use Rattle.book.specs.declared.BookAnswer.the-variants as book
 use Rattle.book.specs.Reading.{Reading, accepted, refused, readBook, answer}
 use Rattle.book.specs.Loading.{Loaded}
-use Rattle.lexer.specs.declared.LexAnswer.{LexAnswer}
-use Rattle.lexer.specs.declared.LexAnswer.the-variants as lexed
+use Rattle.lexing.specs.declared.LexAnswer.{LexAnswer}
+use Rattle.lexing.specs.declared.LexAnswer.the-variants as lexed
 use Rattle.cutting.specs.Lexer.{lex}
-use Rattle.cutting.specs.Answers.{Holds, Held, Cuts}
-use Rattle.records.specs.Filling.{Room, Fills}
+use Rattle.cutting.specs.Answers.{Holds, Held}
 use Rattle.reading.specs.Limits.{maxText}
 use Rattle.records.specs.Records.{recordCount}
-use Rattle.lexer.specs.Outcome.{lexRefused, lexAccepted, lexRules, lexReading, lexOutcome, Answered, restRules, restReading, restOf, RestAt}
-use Rattle.cutting.proofs.Lexing.{lex-few, lex-lengths, rest-drop}
-
--- ---- by rules
-
-module _ (rules : List Rule) (text records : List ℕ) where
-  pub answered-long : maxText < length text → Answered (lexRules rules text records) (lexed.Refused (record { number = 14; place = 0 })) records
-  unfolding lexRules
-  answered-long l = rw (lt-ltb _ _ l) (record { answer = refl; records = refl })
-
-  pub answered-few : {tokens rest : ℕ} → length text ≤ maxText → Cuts rules text tokens rest → recordCount records < tokens
-      → Answered (lexRules rules text records) (lexed.Refused (record { number = 15; place = tokens })) records
-  unfolding lexRules
-  answered-few l c f =
-      let e = c .tokens-are in
-      rw (le-ltb _ _ l, ← e, lt-ltb _ _ f) (record { answer = refl; records = refl })
-
-  pub answered-lexed : {tokens rest : ℕ} {exit : List ℕ} → length text ≤ maxText → length ((lex rules text) .tokens) ≤ recordCount records
-      → Cuts rules text tokens rest → Fills rules text records exit → Answered (lexRules rules text records) (lexed.Lexed tokens rest) exit
-  unfolding lexRules
-  answered-lexed l m c w =
-      rw (le-ltb _ _ l, le-ltb _ _ m) (record { answer = cc (c .tokens-are, c .rest-is); records = w .written })
-
--- records that are as many as the text's bytes are enough
-pub enough : (rules : List Rule) (text records : List ℕ) → length text ≤ recordCount records → length ((lex rules text) .tokens) ≤ recordCount records
-enough rules text records l = omega (arith, lex-few rules text)
-
-pub room-of : {hs ss es : List ℕ} {n : ℕ} {text records : List ℕ} → Held hs ss es n
-    → ((rules : List Rule) → Holds hs ss es n rules → length ((lex rules text) .tokens) ≤ recordCount records) → Room hs ss es n text records
-room-of {hs} {ss} {es} {n} {text} {records} held f = record { held = held; room = λ rules h. omega (arith, f rules h) }
-
--- ---- by a book
+use Rattle.lexing.specs.Outcome.{lexRefused, lexAccepted, lexRules, Answered, restRules, RestAt}
+use Rattle.lexer.specs.Outcome.{lexReading, lexOutcome, restReading, restOf}
+use Rattle.cutting.proofs.Lexing.{rest-drop}
 
 module _ {bytes hs ss es : List ℕ} {b : BookAnswer} {n : ℕ} (l : Loaded bytes b hs ss es) (a : b ≡ book.Accepted n) where
   -- the rules of an accepted book are in the tables
@@ -103,16 +72,7 @@ module _ {bytes hs ss es : List ℕ} {b : BookAnswer} {f : Refusal} (l : Loaded 
   unfolding restOf
   rest-refused text = rw loaded-refused (record { within = omega arith; tail = refl })
 
--- ---- the rest, by rules
-
-module _ (rules : List Rule) (text : List ℕ) where
-  pub rest-long : maxText < length text → RestAt text 0 (restRules rules text)
-  rest-long l = rw (lt-ltb _ _ l) (record { within = omega arith; tail = refl })
-
-  pub rest-cut : {tokens rest : ℕ} → length text ≤ maxText → Cuts rules text tokens rest → RestAt text rest (restRules rules text)
-  rest-cut l c =
-      let e = c .rest-is in
-      rw (le-ltb _ _ l) (record { within = omega (arith, lex-lengths rules text); tail = rw e (sym (rest-drop rules text)) })
+-- ---- the rest
 
 -- the part of the text from there on is the rest
 pub rest-part : {text rest : List ℕ} {at : ℕ} → RestAt text at rest → take (length text - at) (drop at text) ≡ rest

@@ -1,20 +1,14 @@
 // Lexing by a book's bytes, open to every caller: it asks nothing and refuses what is unfit.
-// The tables are locals of the call, lent as arrays to a function that passes them on as slices.
+// The tables are locals of the call, lent as arrays to functions that pass them on as slices.
 use book::BookAnswer;
+use lexing::LexAnswer;
 use reading::Book;
-use refusal::Refusal;
 ghost use mathlib.Core.Path.{_≡_};
 ghost use mathlib.Core.List.{List};
 ghost use Rattle.automaton.specs.Rule.{Rule};
-ghost use Rattle.reading.specs.State.{Fresh};
 ghost use Rattle.cutting.specs.Answers.{Holds, Held};
-ghost use Rattle.lexer.specs.Outcome.{lexRules, lexOutcome, Answered, restRules, restOf, RestAt};
-
-// What lexing a text by a book answers: the number of tokens and the place of the rest, or a refusal.
-pub enum LexAnswer {
-    Lexed { tokens: usize, rest: usize },
-    Refused(Refusal),
-}
+ghost use Rattle.lexing.specs.Outcome.{lexRules, Answered, restRules, RestAt};
+ghost use Rattle.lexer.specs.Outcome.{lexOutcome, restOf};
 
 // Cuts `text` by the rules of a book: the number of tokens and the place of the rest, or the refusal of document 01.
 // A record of each token stands from the start of `records`; every other byte stays as it was.
@@ -25,46 +19,16 @@ pub fn lex(book: &[u8], text: &[u8], records: &mut [u8]) -> LexAnswer
     let mut headers = [0u64; Book::RULES];
     let mut states = [0u16; Book::CELLS];
     let mut edges = [0u64; Book::EDGES];
-    lex_arrays(book, &mut headers, &mut states, &mut edges, text, records)
-}
-
-fn lex_arrays(
-    book: &[u8],
-    headers: &mut [u64; Book::RULES],
-    states: &mut [u16; Book::CELLS],
-    edges: &mut [u64; Book::EDGES],
-    text: &[u8],
-    records: &mut [u8],
-) -> LexAnswer
-    requires { ⌜ Fresh (now headers) (now states) (now edges) ⌝ }
-    ensures { λ r. ⌜ Answered (lexOutcome (now (book .entry)) (now (text .entry)) (now (records .entry))) r (now (records .exit)) ⌝ }
-{
-    lex_book(book, headers, states, edges, text, records)
-}
-
-fn lex_book(
-    book: &[u8],
-    headers: &mut [u64],
-    states: &mut [u16],
-    edges: &mut [u64],
-    text: &[u8],
-    records: &mut [u8],
-) -> LexAnswer
-    requires { ⌜ Fresh (now headers) (now states) (now edges) ⌝ }
-    ensures { λ r. ⌜ Answered (lexOutcome (now (book .entry)) (now (text .entry)) (now (records .entry))) r (now (records .exit)) ⌝ }
-{
-    match book::load(book, headers, states, edges) {
-        BookAnswer::Accepted(rules) => lex_rules(headers, states, edges, rules, text, records),
+    match book::load_arrays(book, &mut headers, &mut states, &mut edges) {
+        BookAnswer::Accepted(rules) => lex_arrays(&headers, &states, &edges, rules, text, records),
         BookAnswer::Refused(refusal) => LexAnswer::Refused(refusal),
     }
 }
 
-// Lexing by the rules that the tables hold. Every token has a byte, so that as many records as the text has bytes are surely
-// enough, and the text is walked once; else the tokens are counted before the first record is written.
-pub fn lex_rules(
-    headers: &[u64],
-    states: &[u16],
-    edges: &[u64],
+fn lex_arrays(
+    headers: &[u64; Book::RULES],
+    states: &[u16; Book::CELLS],
+    edges: &[u64; Book::EDGES],
     rules: usize,
     text: &[u8],
     records: &mut [u8],
@@ -73,27 +37,7 @@ pub fn lex_rules(
     ensures { λ r. ⌜ ((rs : List Rule) → Holds (now (headers .entry)) (now (states .entry)) (now (edges .entry)) rules rs
         → Answered (lexRules rs (now (text .entry)) (now (records .entry))) r (now (records .exit))) ⌝ }
 {
-    if Book::TEXT < text.len() {
-        return LexAnswer::Refused(Refusal {
-            number: Refusal::TEXT_TOO_LONG,
-            place: 0,
-        });
-    }
-    let room = records.len() / 10;
-    if room < text.len() {
-        let needed = cutting::count(headers, states, edges, rules, text);
-        if room < needed.tokens {
-            return LexAnswer::Refused(Refusal {
-                number: Refusal::TOO_FEW_RECORDS,
-                place: needed.tokens,
-            });
-        }
-    }
-    let cut = records::fill(headers, states, edges, rules, text, records);
-    LexAnswer::Lexed {
-        tokens: cut.tokens,
-        rest: cut.rest,
-    }
+    lexing::lex_rules(headers, states, edges, rules, text, records)
 }
 
 // The rest of `text`, as a part of it: its bytes from the first place at which no rule of the book matches. Where `lex`
@@ -112,47 +56,22 @@ fn rest_place(book: &[u8], text: &[u8]) -> usize
     let mut headers = [0u64; Book::RULES];
     let mut states = [0u16; Book::CELLS];
     let mut edges = [0u64; Book::EDGES];
-    rest_arrays(book, &mut headers, &mut states, &mut edges, text)
-}
-
-fn rest_arrays(
-    book: &[u8],
-    headers: &mut [u64; Book::RULES],
-    states: &mut [u16; Book::CELLS],
-    edges: &mut [u64; Book::EDGES],
-    text: &[u8],
-) -> usize
-    requires { ⌜ Fresh (now headers) (now states) (now edges) ⌝ }
-    ensures { λ r. ⌜ RestAt (now (text .entry)) r (restOf (now (book .entry)) (now (text .entry))) ⌝ }
-{
-    rest_book(book, headers, states, edges, text)
-}
-
-fn rest_book(
-    book: &[u8],
-    headers: &mut [u64],
-    states: &mut [u16],
-    edges: &mut [u64],
-    text: &[u8],
-) -> usize
-    requires { ⌜ Fresh (now headers) (now states) (now edges) ⌝ }
-    ensures { λ r. ⌜ RestAt (now (text .entry)) r (restOf (now (book .entry)) (now (text .entry))) ⌝ }
-{
-    match book::load(book, headers, states, edges) {
-        BookAnswer::Accepted(rules) => rest_rules(headers, states, edges, rules, text),
+    match book::load_arrays(book, &mut headers, &mut states, &mut edges) {
+        BookAnswer::Accepted(rules) => rest_arrays(&headers, &states, &edges, rules, text),
         BookAnswer::Refused(_) => 0,
     }
 }
 
-fn rest_rules(headers: &[u64], states: &[u16], edges: &[u64], rules: usize, text: &[u8]) -> usize
+fn rest_arrays(
+    headers: &[u64; Book::RULES],
+    states: &[u16; Book::CELLS],
+    edges: &[u64; Book::EDGES],
+    rules: usize,
+    text: &[u8],
+) -> usize
     requires { ⌜ Held (now headers) (now states) (now edges) rules ⌝ }
     ensures { λ r. ⌜ ((rs : List Rule) → Holds (now (headers .entry)) (now (states .entry)) (now (edges .entry)) rules rs
         → RestAt (now (text .entry)) r (restRules rs (now (text .entry)))) ⌝ }
 {
-    if text.len() <= Book::TEXT {
-        let cut = cutting::count(headers, states, edges, rules, text);
-        cut.rest
-    } else {
-        0
-    }
+    lexing::rest_rules(headers, states, edges, rules, text)
 }

@@ -12,11 +12,12 @@ use borrow.Author.Tests.{ltb-false}
 use Rattle.automaton.specs.Choice.{if}
 use Rattle.automaton.specs.Rule.{Rule}
 use Rattle.book.specs.Reading.{Reading, accepted, refused, readBook}
-use Rattle.lexer.specs.declared.LexAnswer.{LexAnswer}
+use Rattle.lexing.specs.declared.LexAnswer.{LexAnswer}
 use Rattle.cutting.specs.Lexer.{Token, lex}
 use Rattle.records.specs.Records.{recordOf, recordsAt, recordCount}
 use Rattle.reading.specs.Limits.{maxText}
-use Rattle.lexer.specs.Outcome.{lexRefused, lexAccepted, lexRules, lexReading, lexOutcome}
+use Rattle.lexing.specs.Outcome.{lexRefused, lexAccepted, lexRules}
+use Rattle.lexer.specs.Outcome.{lexReading, lexOutcome}
 use Rattle.cutting.proofs.Lexing.{lex-lengths}
 use Rattle.records.proofs.Records.{length-records, tokenAt, placeAt, records-at, laid-within, four-value}
 use Rattle.pooled.specs.Tokens.{twoAt, fourAt, recordAt}

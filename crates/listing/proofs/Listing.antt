@@ -9,8 +9,8 @@ use borrow.Author.Tests.{ltb-true, ltb-false}
 use native.Mathlib.Numerals.{add-one}
 use lib.ListN.{length, length-append}
 use Rattle.refusal.specs.declared.Refusal.{Refusal}
-use Rattle.lexer.specs.declared.LexAnswer.{LexAnswer}
-use Rattle.lexer.specs.declared.LexAnswer.the-variants.{Lexed, Refused}
+use Rattle.lexing.specs.declared.LexAnswer.{LexAnswer}
+use Rattle.lexing.specs.declared.LexAnswer.the-variants.{Lexed, Refused}
 use Rattle.pooled.specs.declared.TokenRecord.{TokenRecord}
 use Rattle.pooled.specs.Tokens.{recordAt}
 use Rattle.listing.specs.Lines.{decimal, field, blank, lineEnd, lastTwo, tokenLine, restLine, refusedWord, refusedLine, refusedBytes, recordLine, recordLines, Fit, linesOf, Room, Puts}

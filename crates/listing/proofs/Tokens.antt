@@ -17,7 +17,8 @@ use Rattle.book.proofs.Accepted.{accepted-valid}
 use Rattle.cutting.specs.Lexer.{Token, Found, Lexed, choose, proceed, lexFor, lex, join}
 use Rattle.records.specs.Records.{recordsAt, recordCount}
 use Rattle.reading.specs.Limits.{maxText}
-use Rattle.lexer.specs.Outcome.{lexRules, lexOutcome}
+use Rattle.lexing.specs.Outcome.{lexRules}
+use Rattle.lexer.specs.Outcome.{lexOutcome}
 use Rattle.cutting.proofs.Choosing.{choose-some}
 use Rattle.cutting.proofs.Lexing.{lex-lengths}
 use Rattle.records.proofs.Records.{tokenAt, placeAt, laid-within, two-value}

@@ -6,8 +6,8 @@ use mathlib.Core.List.{List, [], _∷_, _++_}
 use lib.Dec.{ltb}
 use lib.ListN.{length, take, drop}
 use Rattle.automaton.specs.Choice.{if}
-use Rattle.lexer.specs.declared.LexAnswer.{LexAnswer}
-use Rattle.lexer.specs.declared.LexAnswer.the-variants.{Lexed, Refused}
+use Rattle.lexing.specs.declared.LexAnswer.{LexAnswer}
+use Rattle.lexing.specs.declared.LexAnswer.the-variants.{Lexed, Refused}
 use Rattle.cutting.specs.Lexer.{Token}
 use Rattle.pooled.specs.Tokens.{recordAt}
 use Rattle.lexer.specs.Outcome.{lexOutcome}

@@ -5,7 +5,7 @@ ghost use Prim.Native.Nat.{_+_, _*_, _≤_, _<_};
 ghost use lib.ListN.{length, drop};
 ghost use Rattle.lexer.specs.Outcome.{lexOutcome};
 ghost use Rattle.listing.specs.Lines.{decimal, field, lastTwo, tokenLine, restLine, refusedLine, recordLine, recordLines, recordBytes, outputBytes, linesOf, listing, Fit, Room, Puts};
-use lexer::LexAnswer;
+use lexing::LexAnswer;
 
 // The bytes of the 6,000 records that are lent to `list`, and of the output, which no listing passes.
 pub const RECORD_BYTES: usize = 60000;

@@ -20,12 +20,13 @@ use Rattle.cutting.specs.Lexer.{Token, extends, join, Alone, Printable}
 use Rattle.reading.specs.Limits.{maxText, maxTokens}
 use Rattle.records.specs.Records.{recordCount}
 use Rattle.cutting.proofs.First.{nothing}
-use Rattle.printer.specs.declared.PrintAnswer.the-variants as print
+use Rattle.printing.specs.declared.PrintAnswer.the-variants as print
 use Rattle.pooled.specs.declared.TokenRecord.{TokenRecord}
 use Rattle.pooled.specs.Tokens.{recordsOf, bytesIn, tokensIn, tokensOf}
 use Rattle.pooled.specs.Faults.{aloneIn, faultOf}
 use Rattle.lists.specs.Checks.{refuse, firstFault, firstExtended}
-use Rattle.printer.specs.Outcome.{PrintOutcome, printAccepted, check, unless, printChecked, printRules, printReading, printOutcome}
+use Rattle.printing.specs.Outcome.{PrintOutcome, printAccepted, check, unless, printChecked, printRules}
+use Rattle.printer.specs.Outcome.{printReading, printOutcome}
 use Rattle.pooled.specs.Answers.{InPool}
 use Rattle.pooled.proofs.Alone.{alone-first, first-alone}
 use Rattle.pooled.proofs.Faults.{fault-none, faultless}

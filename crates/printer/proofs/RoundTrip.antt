@@ -17,18 +17,20 @@ use Rattle.command.specs.Commands.{byteAt}
 use Rattle.book.specs.Reading.{Reading, accepted, refused, readBook}
 use Rattle.reading.specs.Valid.{ValidRule, Valid}
 use Rattle.book.proofs.Accepted.{accepted-valid}
-use Rattle.lexer.specs.declared.LexAnswer.the-variants as lexed
+use Rattle.lexing.specs.declared.LexAnswer.the-variants as lexed
 use Rattle.cutting.specs.Lexer.{Token, Found, Lexed, firstMatch, choose, proceed, lex, join, Alone, Printable}
 use Rattle.records.specs.Records.{recordsAt, recordCount}
 use Rattle.reading.specs.Limits.{maxText, maxTokens}
-use Rattle.lexer.specs.Outcome.{LexOutcome, lexAccepted, lexRules, lexReading, lexOutcome}
+use Rattle.lexing.specs.Outcome.{LexOutcome, lexAccepted, lexRules}
+use Rattle.lexer.specs.Outcome.{lexReading, lexOutcome}
 use Rattle.cutting.proofs.First.{nothing-empty}
 use Rattle.records.proofs.Records.{length-records}
 use Rattle.cutting.proofs.Choosing.{chosen-shorter, choose-some}
 use Rattle.cutting.proofs.Lexing.{lex-unfolds, joins, lex-few, lex-lengths, printed-lexes, lexed-printable, join-injective}
-use Rattle.printer.specs.declared.PrintAnswer.the-variants as print
+use Rattle.printing.specs.declared.PrintAnswer.the-variants as print
 use Rattle.pooled.specs.Tokens.{recordsOf, tokensOf}
-use Rattle.printer.specs.Outcome.{PrintOutcome, printAccepted, printOutcome}
+use Rattle.printing.specs.Outcome.{PrintOutcome, printAccepted}
+use Rattle.printer.specs.Outcome.{printOutcome}
 use Rattle.pooled.specs.Answers.{InPool}
 use Rattle.printer.proofs.Accepting.{Passes, Accepts, book-accepts, printed-accepts, written-joins, passes-printable, printable-faultless, printable-apart}
 use Rattle.printer.proofs.ReadBack.{Storable, records-say, records-inside, records-count, matched-tag}

@@ -1,22 +1,16 @@
 // Printing a list of tokens, the paper's plain writing: their bytes one behind the other, if lexing them again gives the list back.
 // The bytes are joined in a scratch of the call's own, so that the output stands as it was where the list is refused.
 use book::BookAnswer;
+use printing::PrintAnswer;
 use reading::Book;
-use refusal::Refusal;
 ghost use mathlib.Core.Path.{_≡_};
 ghost use mathlib.Core.List.{List};
 ghost use lib.ListN.{length};
 ghost use Rattle.automaton.specs.Rule.{Rule};
-ghost use Rattle.reading.specs.State.{Fresh};
 ghost use Rattle.reading.specs.Limits.{maxText};
 ghost use Rattle.cutting.specs.Answers.{Holds, Held};
-ghost use Rattle.printer.specs.Outcome.{printRules, printOutcome, Answered};
-
-// What printing answers: the number of bytes written, or a refusal.
-pub enum PrintAnswer {
-    Printed(usize),
-    Refused(Refusal),
-}
+ghost use Rattle.printing.specs.Outcome.{printRules, Answered};
+ghost use Rattle.printer.specs.Outcome.{printOutcome};
 
 // Prints the tokens that `records` say with `pool`, by the rules of a book: the number of bytes, which stand at the start of `out`,
 // or the refusal of document 01. Every other byte of `out` stays as it was.
@@ -58,49 +52,5 @@ fn print_arrays(
     ensures { λ r. ⌜ ((rs : List Rule) → Holds (now (headers .entry)) (now (states .entry)) (now (edges .entry)) rules rs
         → Answered (printRules rs (now (records .entry)) (now (pool .entry)) (now (out .entry))) r (now (out .exit))) ⌝ }
 {
-    print_rules(headers, states, edges, rules, records, pool, scratch, out)
-}
-
-// The same by rules that the tables hold. The list is rehearsed, and only one with which something is wrong is asked what that is.
-pub fn print_rules(
-    headers: &[u64],
-    states: &[u16],
-    edges: &[u64],
-    rules: usize,
-    records: &[u8],
-    pool: &[u8],
-    scratch: &mut [u8],
-    out: &mut [u8],
-) -> PrintAnswer
-    requires { ⌜ Held (now headers) (now states) (now edges) rules ⌝ }
-    requires { ⌜ length (now scratch) ≡ maxText ⌝ }
-    ensures { λ r. ⌜ ((rs : List Rule) → Holds (now (headers .entry)) (now (states .entry)) (now (edges .entry)) rules rs
-        → Answered (printRules rs (now (records .entry)) (now (pool .entry)) (now (out .entry))) r (now (out .exit))) ⌝ }
-{
-    if Book::TOKENS < records.len() / 10 {
-        return refused(Refusal::TOO_MANY_TOKENS, 0);
-    }
-    let total = rehearsal::rehearse(headers, states, edges, rules, records, pool, scratch);
-    if Book::TEXT < total {
-        return PrintAnswer::Refused(rehearsal::find_refusal(
-            headers,
-            states,
-            edges,
-            rules,
-            records,
-            pool,
-            scratch,
-        ));
-    }
-    if out.len() < total {
-        return refused(Refusal::OUTPUT_TOO_SHORT, total);
-    }
-    copying::copy(scratch, 0, total, out, 0);
-    PrintAnswer::Printed(total)
-}
-
-fn refused(number: u8, place: usize) -> PrintAnswer
-    ensures { λ r. ⌜ r ≡ PrintAnswer.Refused (record { number = number; place = place }) ⌝ }
-{
-    PrintAnswer::Refused(Refusal { number, place })
+    printing::print_rules(headers, states, edges, rules, records, pool, scratch, out)
 }

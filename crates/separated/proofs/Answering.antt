@@ -16,10 +16,10 @@ use Rattle.book.specs.Loading.{Loaded}
 use Rattle.cutting.specs.Answers.{Holds}
 use Rattle.reading.specs.Limits.{maxText}
 use Rattle.lexer.proofs.Outcomes.{loaded-rules, loaded-refused}
-use Rattle.printer.specs.declared.PrintAnswer.{PrintAnswer}
-use Rattle.printer.specs.declared.PrintAnswer.the-variants as print
+use Rattle.printing.specs.declared.PrintAnswer.{PrintAnswer}
+use Rattle.printing.specs.declared.PrintAnswer.the-variants as print
 use Rattle.pooled.specs.declared.TokenRecord.{TokenRecord}
-use Rattle.printer.specs.Outcome.{check, unless, Answered}
+use Rattle.printing.specs.Outcome.{check, unless, Answered}
 use Rattle.checks.specs.declared.Checked.the-variants as checked
 use Rattle.spacing.specs.declared.Placed.{Placed}
 use Rattle.spacing.specs.declared.Placed.the-variants as placed

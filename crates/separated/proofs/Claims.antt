@@ -9,10 +9,10 @@ use Rattle.automaton.specs.Rule.{Rule}
 use Rattle.reading.specs.Valid.{ValidRules}
 use Rattle.book.proofs.Accepted.{accepted-valid}
 use Rattle.cutting.specs.Lexer.{Token, Lexed, join}
-use Rattle.printer.specs.declared.PrintAnswer.the-variants as answer
+use Rattle.printing.specs.declared.PrintAnswer.the-variants as answer
 use Rattle.pooled.specs.declared.TokenRecord.{TokenRecord}
 use Rattle.pooled.specs.Tokens.{recordsOf, tokenIn, tokensIn, tokensOf}
-use Rattle.printer.specs.Outcome.{PrintOutcome}
+use Rattle.printing.specs.Outcome.{PrintOutcome}
 use Rattle.pooled.proofs.Alone.{alone-first}
 use Rattle.spacing.specs.Separators.{separated, spelled}
 use Rattle.separated.specs.Outcome.{separatedRules, separatedOutcome}

@@ -16,12 +16,12 @@ use Rattle.cutting.specs.Lexer.{or}
 use Rattle.reading.specs.Limits.{maxText, maxTokens}
 use Rattle.records.specs.Records.{recordCount}
 use Rattle.cutting.proofs.First.{nothing}
-use Rattle.printer.specs.declared.PrintAnswer.the-variants as answer
+use Rattle.printing.specs.declared.PrintAnswer.the-variants as answer
 use Rattle.pooled.specs.declared.TokenRecord.{TokenRecord}
 use Rattle.pooled.specs.Tokens.{recordsOf}
 use Rattle.pooled.specs.Faults.{faultOf}
 use Rattle.lists.specs.Checks.{refuse, firstFault}
-use Rattle.printer.specs.Outcome.{PrintOutcome, printAccepted, check, unless}
+use Rattle.printing.specs.Outcome.{PrintOutcome, printAccepted, check, unless}
 use Rattle.pooled.proofs.Faults.{faultless, fault-none}
 use Rattle.used.specs.Kinds.{plainKind, separatorKind, separates}
 use Rattle.used.specs.Bytes.{usedByKind, shared, lowestFrom, sharedByte}

@@ -13,11 +13,11 @@ use Rattle.reading.specs.Draft.{tagged}
 use Rattle.cutting.specs.Lexer.{lex}
 use Rattle.reading.specs.Limits.{maxText, maxTokens}
 use Rattle.records.specs.Records.{recordCount}
-use Rattle.printer.specs.declared.PrintAnswer.the-variants as answer
+use Rattle.printing.specs.declared.PrintAnswer.the-variants as answer
 use Rattle.pooled.specs.declared.TokenRecord.{TokenRecord}
 use Rattle.pooled.specs.Tokens.{recordsOf, bytesIn, tokenIn, tokensOf}
 use Rattle.pooled.specs.Faults.{aloneIn}
-use Rattle.printer.specs.Outcome.{PrintOutcome, printAccepted}
+use Rattle.printing.specs.Outcome.{PrintOutcome, printAccepted}
 use Rattle.used.specs.Kinds.{plainKind, separatorKind, separates}
 use Rattle.used.specs.Bytes.{usedByKind}
 use Rattle.spacing.specs.Separators.{dropSeparators, spelled}

@@ -8,7 +8,7 @@ use Rattle.automaton.specs.Rule.{Rule}
 use Rattle.book.specs.Reading.{Reading, accepted, refused, readBook}
 use Rattle.reading.specs.Limits.{maxText}
 use Rattle.pooled.specs.declared.TokenRecord.{TokenRecord}
-use Rattle.printer.specs.Outcome.{PrintOutcome, printRefused, printAccepted, check, unless}
+use Rattle.printing.specs.Outcome.{PrintOutcome, printRefused, printAccepted, check, unless}
 use Rattle.checks.specs.Refusals.{separatedRefusal}
 use Rattle.spacing.specs.Separators.{spelled}
 

@@ -3,7 +3,7 @@
 use book::BookAnswer;
 use checks::Checked;
 use pooled::TokenRecord;
-use printer::PrintAnswer;
+use printing::PrintAnswer;
 use reading::Book;
 use refusal::Refusal;
 use spacing::Placed;
@@ -12,10 +12,9 @@ ghost use mathlib.Core.List.{List};
 ghost use Prim.Native.Nat.{_≤_};
 ghost use lib.ListN.{length, drop};
 ghost use Rattle.automaton.specs.Rule.{Rule};
-ghost use Rattle.reading.specs.State.{Fresh};
 ghost use Rattle.reading.specs.Limits.{maxText};
 ghost use Rattle.cutting.specs.Answers.{Holds, Held};
-ghost use Rattle.printer.specs.Outcome.{Answered};
+ghost use Rattle.printing.specs.Outcome.{Answered};
 ghost use Rattle.separated.specs.Outcome.{writing, separatedRules, separatedOutcome};
 ghost use Rattle.spacing.specs.Separators.{spelled};
 ghost use Rattle.separated.specs.Answers.{Passed};
@@ -38,25 +37,28 @@ pub fn print_separated(
     let mut states = [0u16; Book::CELLS];
     let mut edges = [0u64; Book::EDGES];
     let mut scratch = [0u8; Book::TEXT];
-    print_arrays(
-        book,
-        &mut headers,
-        &mut states,
-        &mut edges,
-        separator,
-        mode,
-        records,
-        pool,
-        &mut scratch,
-        out,
-    )
+    match book::load_arrays(book, &mut headers, &mut states, &mut edges) {
+        BookAnswer::Accepted(rules) => print_arrays(
+            &headers,
+            &states,
+            &edges,
+            rules,
+            separator,
+            mode,
+            records,
+            pool,
+            &mut scratch,
+            out,
+        ),
+        BookAnswer::Refused(refusal) => PrintAnswer::Refused(refusal),
+    }
 }
 
 fn print_arrays(
-    book: &[u8],
-    headers: &mut [u64; Book::RULES],
-    states: &mut [u16; Book::CELLS],
-    edges: &mut [u64; Book::EDGES],
+    headers: &[u64; Book::RULES],
+    states: &[u16; Book::CELLS],
+    edges: &[u64; Book::EDGES],
+    rules: usize,
     separator: TokenRecord,
     mode: u32,
     records: &[u8],
@@ -64,15 +66,16 @@ fn print_arrays(
     scratch: &mut [u8; Book::TEXT],
     out: &mut [u8],
 ) -> PrintAnswer
-    requires { ⌜ Fresh (now headers) (now states) (now edges) ⌝ }
+    requires { ⌜ Held (now headers) (now states) (now edges) rules ⌝ }
     requires { ⌜ length (now scratch) ≡ maxText ⌝ }
-    ensures { λ r. ⌜ Answered (separatedOutcome (now (book .entry)) separator mode (now (records .entry)) (now (pool .entry)) (now (out .entry))) r (now (out .exit)) ⌝ }
+    ensures { λ r. ⌜ ((rs : List Rule) → Holds (now (headers .entry)) (now (states .entry)) (now (edges .entry)) rules rs
+        → Answered (separatedRules rs separator mode (now (records .entry)) (now (pool .entry)) (now (out .entry))) r (now (out .exit))) ⌝ }
 {
-    print_book(
-        book,
+    print_rules(
         headers,
         states,
         edges,
+        rules,
         separator,
         mode,
         records,
@@ -80,39 +83,6 @@ fn print_arrays(
         scratch,
         out,
     )
-}
-
-fn print_book(
-    book: &[u8],
-    headers: &mut [u64],
-    states: &mut [u16],
-    edges: &mut [u64],
-    separator: TokenRecord,
-    mode: u32,
-    records: &[u8],
-    pool: &[u8],
-    scratch: &mut [u8],
-    out: &mut [u8],
-) -> PrintAnswer
-    requires { ⌜ Fresh (now headers) (now states) (now edges) ⌝ }
-    requires { ⌜ length (now scratch) ≡ maxText ⌝ }
-    ensures { λ r. ⌜ Answered (separatedOutcome (now (book .entry)) separator mode (now (records .entry)) (now (pool .entry)) (now (out .entry))) r (now (out .exit)) ⌝ }
-{
-    match book::load(book, headers, states, edges) {
-        BookAnswer::Accepted(rules) => print_rules(
-            headers,
-            states,
-            edges,
-            rules,
-            separator,
-            mode,
-            records,
-            pool,
-            scratch,
-            out,
-        ),
-        BookAnswer::Refused(refusal) => PrintAnswer::Refused(refusal),
-    }
 }
 
 // The same by rules that the tables hold.

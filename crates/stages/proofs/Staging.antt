@@ -8,7 +8,7 @@ use native.Mathlib.Omega.{arith}
 use lib.Dec.{ltb, eqb}
 use lib.ListN.{length, take, drop}
 use lib.Seq.{paste, take-append-seam, length-take-le}
-use borrow.Author.Tests.{ltb-true, ltb-false, eq-eqb, ne-eqb, eqb-true, eqb-false}
+use borrow.Author.Tests.{ltb-true, ltb-false, eqb-true, eqb-false}
 use Rattle.automaton.specs.Choice.{if}
 use Rattle.automaton.specs.Rule.{Rule}
 use Rattle.automaton.proofs.Tests.{clash}
@@ -23,20 +23,22 @@ use Rattle.reading.specs.Limits.{maxText, maxTokens}
 use Rattle.records.specs.Records.{recordCount}
 use Rattle.cutting.proofs.Held.{held-empty}
 use Rattle.lexer.proofs.Outcomes.{loaded-rules}
-use Rattle.printer.specs.declared.PrintAnswer.{PrintAnswer}
-use Rattle.printer.specs.declared.PrintAnswer.the-variants as print
+use Rattle.printing.specs.declared.PrintAnswer.{PrintAnswer}
+use Rattle.printing.specs.declared.PrintAnswer.the-variants as print
 use Rattle.pooled.specs.declared.TokenRecord.{TokenRecord}
 use Rattle.pooled.specs.Tokens.{recordAt, recordsOf, tokensOf}
 use Rattle.pooled.specs.Faults.{faultOf}
 use Rattle.lists.specs.Checks.{firstFault, firstExtended}
 use Rattle.pooled.specs.Answers.{Small}
 use Rattle.lists.specs.Answers.{Fitting, Laid, extendedAt}
-use Rattle.printer.specs.Outcome.{printChecked, printRules, printOutcome, Answered}
+use Rattle.printing.specs.Outcome.{printChecked, printRules, Answered}
+use Rattle.printer.specs.Outcome.{printOutcome}
 use Rattle.lists.proofs.Passes.{faultless-pool, Measuring, measuring-start, measuring-refused, measuring-next, measuring-end, Joining, joining-start, joining-pool, joining-room, joining-next, joining-end, Extending, extending-start, extending-found, extending-next, extending-end}
 use Rattle.rehearsal.proofs.Finding.{measured-bytes}
-use Rattle.printer.proofs.Outcomes.{answered-long, answered-extended, answered-short, answered-printed, answered-many, answered-fault, answered-checked, answered-book, answered-refused}
+use Rattle.printing.proofs.Outcomes.{answered-long, answered-extended, answered-short, answered-printed, answered-many, answered-fault, answered-checked}
+use Rattle.printer.proofs.Outcomes.{answered-book, answered-refused}
 use Rattle.stages.specs.declared.Stage.{Stage}
-use Rattle.stages.specs.Stages.{going, done, refusing, passOver, movedOn, Steps, Stepped, firstStage, Begins, Finishes}
+use Rattle.stages.specs.Stages.{going, done, refusing, passOver, movedOn, Steps, Stepped, firstStage, begun, Begins, Finishes}
 
 -- ---- the first stage
 
@@ -48,8 +50,8 @@ module _ {bytes hs ss es : List ℕ} {count : ℕ} {b : BookAnswer} {r : Stage} 
       subst (Begins bytes count hs ss es) (sym e) (record { refuses = λ _. (refl, f); starts = λ p. clash refl p })
 
   module _ {n : ℕ} (a : b ≡ book.Accepted n) where
-    pub begins-many : maxTokens < count → r ≡ refusing 16 0 → Begins bytes count hs ss es r
-    begins-many m e =
+    many : maxTokens < count → r ≡ refusing 16 0 → Begins bytes count hs ss es r
+    many m e =
         refused 16 0 e
         (λ records pool out q. answered-book l a records pool out out _ (λ rules h. answered-many rules records pool out (subst (λ (k : ℕ). maxTokens < k) (sym q) m) refl))
 
@@ -58,11 +60,16 @@ module _ {bytes hs ss es : List ℕ} {count : ℕ} {b : BookAnswer} {r : Stage} 
         let w = loaded-rules l a in
         record { refuses = λ p. clash p f; starts = λ _. (w .0, (n, (w .1 .0, (w .1 .1, (m, e))))) }
 
-    pub begins-empty : count ≡ 0 → r ≡ done 0 → Begins bytes count hs ss es r
-    begins-empty z e = started (omega arith) (ap (λ (s : Stage). s .refused) e) (rw (eq-eqb count 0 z) e)
+    first : count ≤ maxTokens → (t : Bool) → eqb count 0 ≡ t → r ≡ if t (done 0) (going 0 0 0 0 n) → Begins bytes count hs ss es r
+    first m true z e = started m (ap (λ (s : Stage). s .refused) e) (rw z e)
+    first m false z e = started m (ap (λ (s : Stage). s .refused) e) (rw z e)
 
-    pub begins-first : count ≤ maxTokens → (count ≡ 0 → ⊥) → r ≡ going 0 0 0 0 n → Begins bytes count hs ss es r
-    begins-first m z e = started m (ap (λ (s : Stage). s .refused) e) (rw (ne-eqb count 0 z) e)
+    pub begins-book : r ≡ begun n count → Begins bytes count hs ss es r
+    begins-book e = go (ltb maxTokens count) refl e
+      where
+        go : (t : Bool) → ltb maxTokens count ≡ t → r ≡ if t (refusing 16 0) (firstStage n count) → Begins bytes count hs ss es r
+        go true z q = many (ltb-true _ _ z) q
+        go false z q = first (ltb-false _ _ z) (eqb count 0) refl q
 
   pub begins-refused : {f : Refusal} → b ≡ book.Refused f → r ≡ refusing (f .number) (f .place) → Begins bytes count hs ss es r
   begins-refused {f} a e = refused (f .number) (f .place) e (λ records pool out q. answered-refused l a records pool out)

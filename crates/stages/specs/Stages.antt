@@ -13,12 +13,13 @@ use Rattle.refusal.specs.declared.Refusal.{Refusal}
 use Rattle.cutting.specs.Answers.{Holds, Held, Chooses}
 use Rattle.reading.specs.Limits.{maxText, maxTokens}
 use Rattle.records.specs.Records.{recordCount}
-use Rattle.printer.specs.declared.PrintAnswer.{PrintAnswer}
-use Rattle.printer.specs.declared.PrintAnswer.the-variants as print
+use Rattle.printing.specs.declared.PrintAnswer.{PrintAnswer}
+use Rattle.printing.specs.declared.PrintAnswer.the-variants as print
 use Rattle.pooled.specs.declared.TokenRecord.{TokenRecord}
 use Rattle.pooled.specs.Answers.{Small}
 use Rattle.pooled.specs.Faults.{faultOf}
-use Rattle.printer.specs.Outcome.{printOutcome, Answered}
+use Rattle.printing.specs.Outcome.{Answered}
+use Rattle.printer.specs.Outcome.{printOutcome}
 use Rattle.stages.specs.declared.Stage.{Stage}
 
 -- ---- the stages
@@ -86,6 +87,10 @@ pub record Stepped (hs ss es scratch after pool : List ℕ) (s : Stage) (t : Tok
 
 abbrev pub firstStage : ℕ → ℕ → Stage
 firstStage rules count = if (eqb count 0) (done 0) (going 0 0 0 0 rules)
+
+-- 16 before it
+abbrev pub begun : ℕ → ℕ → Stage
+begun rules count = if (ltb maxTokens count) (refusing 16 0) (firstStage rules count)
 
 -- the first stage of printing `count` tokens: refused by the book or by 16, or the first token
 pub record Begins (book : List ℕ) (count : ℕ) (hs ss es : List ℕ) (r : Stage) : Type 0 where

@@ -4,7 +4,7 @@
 use book::BookAnswer;
 use cutting::Choice;
 use pooled::TokenRecord;
-use printer::PrintAnswer;
+use printing::PrintAnswer;
 use reading::Book;
 use refusal::Refusal;
 use token::Token;
@@ -20,7 +20,7 @@ ghost use Rattle.reading.specs.Limits.{maxText, maxTokens};
 ghost use Rattle.pooled.specs.Answers.{Small};
 ghost use Rattle.pooled.specs.Faults.{faultOf};
 ghost use Rattle.token.specs.Encoding.{recordIn};
-ghost use Rattle.stages.specs.Stages.{going, done, refusing, movedOn, checked, Reads, Steps, Stepped, Begins, Finishes};
+ghost use Rattle.stages.specs.Stages.{going, done, refusing, movedOn, checked, Reads, Steps, Stepped, begun, Begins, Finishes};
 
 // Where printing stands: the pass, the number of the token to be read, and how many bytes its pass is past; `total` is known
 // after the first pass. Where no token is to be read, all have passed, or the call is refused.
@@ -238,27 +238,15 @@ pub fn step(
     step_pass(headers, states, edges, scratch, pool, stage, said, count)
 }
 
-fn begin_book(
-    book: &[u8],
-    headers: &mut [u64],
-    states: &mut [u16],
-    edges: &mut [u64],
-    count: usize,
-) -> Stage
-    requires { ⌜ Fresh (now headers) (now states) (now edges) ⌝ }
-    ensures { λ r. ⌜ Begins (now (book .entry)) count (now (headers .exit)) (now (states .exit)) (now (edges .exit)) r ⌝ }
+fn begin_rules(rules: usize, count: usize) -> Stage
+    ensures { λ r. ⌜ r ≡ begun rules count ⌝ }
 {
-    match book::load(book, headers, states, edges) {
-        BookAnswer::Accepted(rules) => {
-            if Book::TOKENS < count {
-                refuse(Refusal::TOO_MANY_TOKENS, 0)
-            } else if count == 0 {
-                end(0)
-            } else {
-                go(Stage::CHECK, 0, 0, 0, rules)
-            }
-        }
-        BookAnswer::Refused(refusal) => refuse(refusal.number, refusal.place),
+    if Book::TOKENS < count {
+        refuse(Refusal::TOO_MANY_TOKENS, 0)
+    } else if count == 0 {
+        end(0)
+    } else {
+        go(Stage::CHECK, 0, 0, 0, rules)
     }
 }
 
@@ -273,7 +261,10 @@ pub fn begin(
     requires { ⌜ Fresh (now headers) (now states) (now edges) ⌝ }
     ensures { λ r. ⌜ Begins (now (book .entry)) count (now (headers .exit)) (now (states .exit)) (now (edges .exit)) r ⌝ }
 {
-    begin_book(book, headers, states, edges, count)
+    match book::load_arrays(book, headers, states, edges) {
+        BookAnswer::Accepted(rules) => begin_rules(rules, count),
+        BookAnswer::Refused(refusal) => refuse(refusal.number, refusal.place),
+    }
 }
 
 fn finish_scratch(scratch: &[u8], stage: Stage, out: &mut [u8]) -> PrintAnswer

@@ -9,15 +9,16 @@ use Rattle.automaton.specs.Rule.{Rule}
 use Rattle.automaton.specs.Tables.{ruleAt}
 use Rattle.automaton.proofs.Tests.{clash}
 use Rattle.book.specs.Reading.{readBook, accepted}
-use Rattle.lexer.specs.declared.LexAnswer.the-variants as answer
+use Rattle.lexing.specs.declared.LexAnswer.the-variants as answer
 use Rattle.cutting.specs.Lexer.{lex}
 use Rattle.records.specs.Records.{recordOf, recordCount}
 use Rattle.cutting.specs.Answers.{Holds}
 use Rattle.reading.specs.Limits.{maxText}
-use Rattle.lexer.specs.Outcome.{lexOutcome, Answered}
+use Rattle.lexing.specs.Outcome.{Answered}
+use Rattle.lexer.specs.Outcome.{lexOutcome}
 use Rattle.cutting.proofs.Turns.{cutting-within, cutting-stop, lex-stop}
 use Rattle.records.proofs.Filling.{Filling, filling-start, filling-room, filling-next, filling-stop}
-use Rattle.lexer.proofs.Outcomes.{answered-lexed}
+use Rattle.lexing.proofs.Outcomes.{answered-lexed}
 use Rattle.turns.specs.declared.Turn.{Turn}
 use Rattle.turns.specs.Turns.{answerOf, refusalOf, Chosen, Turns, Ready, Begun}
 use Rattle.token.proofs.Encoding.{tenBytes, two-bytes}

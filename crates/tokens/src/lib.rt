@@ -1,7 +1,7 @@
 // Token lists as slices of token structs, for callers inside the server: lexing fills a slice, printing reads one.
 // What is decided stands below, in functions over plain data; the functions that hold a slice of tokens are one loop each.
-use lexer::LexAnswer;
-use printer::PrintAnswer;
+use lexing::LexAnswer;
+use printing::PrintAnswer;
 use reading::Book;
 use token::Token;
 ghost use mathlib.Core.Path.{_≡_};

@@ -8,13 +8,14 @@ use Rattle.refusal.specs.declared.Refusal.{Refusal}
 use Rattle.book.specs.declared.BookAnswer.{BookAnswer}
 use Rattle.book.specs.declared.BookAnswer.the-variants as book
 use Rattle.book.specs.Loading.{Loaded}
-use Rattle.lexer.specs.declared.LexAnswer.the-variants as answer
+use Rattle.lexing.specs.declared.LexAnswer.the-variants as answer
 use Rattle.cutting.specs.Lexer.{lex}
 use Rattle.cutting.specs.Answers.{Holds, Cuts}
 use Rattle.reading.specs.Limits.{maxText}
 use Rattle.records.specs.Records.{recordCount}
-use Rattle.lexer.specs.Outcome.{lexRules, Answered}
-use Rattle.lexer.proofs.Outcomes.{answered-long, answered-few, loaded-rules, answered-book, answered-refused}
+use Rattle.lexing.specs.Outcome.{lexRules, Answered}
+use Rattle.lexing.proofs.Outcomes.{answered-long, answered-few}
+use Rattle.lexer.proofs.Outcomes.{loaded-rules, answered-book, answered-refused}
 use Rattle.turns.specs.declared.Turn.{Turn}
 use Rattle.turns.specs.Turns.{refusing, refusalOf, Turns, Started, Opens, Begun}
 use Rattle.automaton.proofs.Tests.{clash}

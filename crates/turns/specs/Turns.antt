@@ -10,13 +10,14 @@ use Rattle.automaton.specs.Rule.{Rule}
 use Rattle.automaton.specs.Tables.{ruleAt}
 use Rattle.book.specs.Reading.{readBook, accepted}
 use Rattle.refusal.specs.declared.Refusal.{Refusal}
-use Rattle.lexer.specs.declared.LexAnswer.{LexAnswer}
-use Rattle.lexer.specs.declared.LexAnswer.the-variants as answer
+use Rattle.lexing.specs.declared.LexAnswer.{LexAnswer}
+use Rattle.lexing.specs.declared.LexAnswer.the-variants as answer
 use Rattle.cutting.specs.Lexer.{choose, lex}
 use Rattle.cutting.specs.Answers.{Holds, Held, Chooses}
 use Rattle.reading.specs.Limits.{maxText}
 use Rattle.records.specs.Records.{recordCount}
-use Rattle.lexer.specs.Outcome.{lexRules, lexOutcome, Answered}
+use Rattle.lexing.specs.Outcome.{lexRules, Answered}
+use Rattle.lexer.specs.Outcome.{lexOutcome}
 use Rattle.token.specs.Encoding.{noToken}
 use Rattle.turns.specs.declared.Turn.{Turn}
 

@@ -1,6 +1,6 @@
 // Lexing into a slice of tokens. A turn holds the next token to store; all that is decided of it stands in `begin` and `next`.
 use book::BookAnswer;
-use lexer::LexAnswer;
+use lexing::LexAnswer;
 use reading::Book;
 use refusal::Refusal;
 use token::Token;
@@ -120,21 +120,18 @@ fn begin_rules(
     turn_at(headers, states, edges, rules, text, 0, 0)
 }
 
-fn begin_book(
-    book: &[u8],
-    headers: &mut [u64],
-    states: &mut [u16],
-    edges: &mut [u64],
+fn begin_arrays(
+    headers: &[u64; Book::RULES],
+    states: &[u16; Book::CELLS],
+    edges: &[u64; Book::EDGES],
+    rules: usize,
     text: &[u8],
     room: usize,
 ) -> Turn
-    requires { ⌜ Fresh (now headers) (now states) (now edges) ⌝ }
-    ensures { λ r. ⌜ Begun (now (book .entry)) (now (text .entry)) room (now (headers .exit)) (now (states .exit)) (now (edges .exit)) r ⌝ }
+    requires { ⌜ Held (now headers) (now states) (now edges) rules ⌝ }
+    ensures { λ r. ⌜ ((rs : List Rule) → Holds (now (headers .entry)) (now (states .entry)) (now (edges .entry)) rules rs → Opens rs (now (text .entry)) rules room r) ⌝ }
 {
-    match book::load(book, headers, states, edges) {
-        BookAnswer::Accepted(rules) => begin_rules(headers, states, edges, rules, text, room),
-        BookAnswer::Refused(refusal) => refuse(refusal.number, refusal.place),
-    }
+    begin_rules(headers, states, edges, rules, text, room)
 }
 
 // The first turn of lexing `text` by a book into `room` tokens; the tables are lent fresh, and hold the book's rules afterwards.
@@ -149,7 +146,10 @@ pub fn begin(
     requires { ⌜ Fresh (now headers) (now states) (now edges) ⌝ }
     ensures { λ r. ⌜ Begun (now (book .entry)) (now (text .entry)) room (now (headers .exit)) (now (states .exit)) (now (edges .exit)) r ⌝ }
 {
-    begin_book(book, headers, states, edges, text, room)
+    match book::load_arrays(book, headers, states, edges) {
+        BookAnswer::Accepted(rules) => begin_arrays(headers, states, edges, rules, text, room),
+        BookAnswer::Refused(refusal) => refuse(refusal.number, refusal.place),
+    }
 }
 
 // The turn after `turn`.

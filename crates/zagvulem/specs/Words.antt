@@ -5,11 +5,11 @@ use Prim.Native.Nat.{ℕ, _+_, _*_, min}
 use Rattle.refusal.specs.declared.Refusal.{Refusal}
 use Rattle.book.specs.declared.BookAnswer.{BookAnswer}
 use Rattle.book.specs.declared.BookAnswer.the-variants as book
-use Rattle.lexer.specs.declared.LexAnswer.{LexAnswer}
-use Rattle.lexer.specs.declared.LexAnswer.the-variants as lexer
+use Rattle.lexing.specs.declared.LexAnswer.{LexAnswer}
+use Rattle.lexing.specs.declared.LexAnswer.the-variants as lexer
 use Rattle.pooled.specs.declared.TokenRecord.{TokenRecord}
-use Rattle.printer.specs.declared.PrintAnswer.{PrintAnswer}
-use Rattle.printer.specs.declared.PrintAnswer.the-variants as printer
+use Rattle.printing.specs.declared.PrintAnswer.{PrintAnswer}
+use Rattle.printing.specs.declared.PrintAnswer.the-variants as printer
 
 abbrev pub largestPlace : ℕ
 largestPlace = 72057594037927935

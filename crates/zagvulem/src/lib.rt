@@ -1,8 +1,8 @@
 // The library as C calls it: numbers and byte slices, answers in 64 bits. include/zagvulem.h declares these functions.
 use book::BookAnswer;
-use lexer::LexAnswer;
+use lexing::LexAnswer;
 use pooled::TokenRecord;
-use printer::PrintAnswer;
+use printing::PrintAnswer;
 use refusal::Refusal;
 ghost use mathlib.Core.Path.{_≡_};
 ghost use Prim.Native.Nat.{min};

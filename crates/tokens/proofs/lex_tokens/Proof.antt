@@ -51,10 +51,11 @@ use denote.Exit.{yes}
 use Rattle.automaton.specs.Rule.{Rule}
 use Rattle.reading.proofs.Filling.{fresh-zeros}
 use Rattle.cutting.specs.Answers.{Holds}
-use Rattle.lexer.specs.Outcome.{lexOutcome, Answered}
-use Rattle.lexer.specs.declared.LexAnswer.{LexAnswer}
-use Rattle.lexer.proofs.LexAnswer as L
-use Rattle.lexer.proofs.LexAnswer.Laws as L′
+use Rattle.lexing.specs.Outcome.{Answered}
+use Rattle.lexer.specs.Outcome.{lexOutcome}
+use Rattle.lexing.specs.declared.LexAnswer.{LexAnswer}
+use Rattle.lexing.proofs.LexAnswer as L
+use Rattle.lexing.proofs.LexAnswer.Laws as L′
 use Rattle.token.specs.Encoding.{encoded}
 use Rattle.token.specs.Encoding.{noToken}
 use Rattle.turns.specs.Turns.{answerOf, Turns, Ready, Begun}

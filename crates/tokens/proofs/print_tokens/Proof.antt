@@ -49,12 +49,13 @@ use denote.Exit.{yes}
 use Rattle.reading.proofs.Filling.{fresh-zeros}
 use Rattle.reading.specs.Limits.{maxText}
 use Rattle.records.specs.Records.{recordCount}
-use Rattle.printer.specs.declared.PrintAnswer.{PrintAnswer}
+use Rattle.printing.specs.declared.PrintAnswer.{PrintAnswer}
 use Rattle.pooled.specs.Tokens.{recordAt}
 use Rattle.pooled.specs.Answers.{Small}
-use Rattle.printer.specs.Outcome.{printOutcome, Answered}
-use Rattle.printer.proofs.PrintAnswer as L
-use Rattle.printer.proofs.PrintAnswer.Laws as L′
+use Rattle.printing.specs.Outcome.{Answered}
+use Rattle.printer.specs.Outcome.{printOutcome}
+use Rattle.printing.proofs.PrintAnswer as L
+use Rattle.printing.proofs.PrintAnswer.Laws as L′
 use Rattle.token.specs.Encoding.{encoded, Fits}
 use Rattle.token.specs.Encoding.{noToken}
 use Rattle.token.specs.Encoding.{recordIn}

@@ -1,8 +1,8 @@
 -- `rest_rules`: the place that `count` answers. Assumes nothing.
-use Rattle.lexer.proofs.Outcomes.{rest-long, rest-cut}
+use Rattle.lexing.proofs.Outcomes.{rest-long, rest-cut}
 use borrow.Author.Needs.{needs}
-use Rattle.lexer.proofs.rest_rules.Statement.{statement}
-use Rattle.lexer.proofs.rest_rules.Tie as tie
+use Rattle.lexing.proofs.rest_rules.Statement.{statement}
+use Rattle.lexing.proofs.rest_rules.Tie as tie
 
 count-requires : tie.Need-count-requires
 count-requires c κs = search needs

@@ -9,10 +9,10 @@ use Rattle.automaton.specs.Rule.{Rule}
 use Rattle.cutting.specs.Lexer.{lex}
 use Rattle.cutting.specs.Answers.{Holds}
 use Rattle.records.specs.Records.{recordCount}
-use Rattle.lexer.proofs.Outcomes.{answered-long, answered-few, answered-lexed, enough, room-of}
+use Rattle.lexing.proofs.Outcomes.{answered-long, answered-few, answered-lexed, enough, room-of}
 use borrow.Author.Needs.{needs}
-use Rattle.lexer.proofs.lex_rules.Statement.{statement}
-use Rattle.lexer.proofs.lex_rules.Tie as tie
+use Rattle.lexing.proofs.lex_rules.Statement.{statement}
+use Rattle.lexing.proofs.lex_rules.Tie as tie
 
 -- the records are enough, counted or not
 fits : (c : tie.Joined2) (rs : List Rule) → Holds (now (c .before .before .before .before .before .before .before .args .headers)) (now (c .before .before .before .before .before .before .before .args .states)) (now (c .before .before .before .before .before .before .before .args .edges)) (c .before .before .before .before .before .before .before .args .rules) rs → length ((lex rs (now (c .before .before .before .before .before .before .before .args .text))) .tokens) ≤ recordCount (now (c .before .before .before .before .before .before .before .args .records))

@@ -1,13 +1,13 @@
 -- `print_rules`: 16, what is wrong with the list, 22, or its bytes. Assumes nothing.
 use native.Mathlib.Omega.{arith}
-use Rattle.printer.proofs.Outcomes.{answered-many, answered-troubled, clean-short, clean-printed}
+use Rattle.printing.proofs.Outcomes.{answered-many, answered-troubled, clean-short, clean-printed}
 use borrow.Author.Needs.{needs}
-use Rattle.printer.proofs.print_rules.Statement.{statement}
-use Rattle.printer.proofs.print_rules.Tie as tie
-use Rattle.printer.proofs.print_rules.Reads as reads
-use Rattle.printer.proofs.print_rules.Lts as lts
+use Rattle.printing.proofs.print_rules.Statement.{statement}
+use Rattle.printing.proofs.print_rules.Tie as tie
+use Rattle.printing.proofs.print_rules.Reads as reads
+use Rattle.printing.proofs.print_rules.Lts as lts
 use Rattle.copying.proofs.copy.Reads as copy-reads
-use Rattle.printer.proofs.refused.Reads as refused-reads
+use Rattle.printing.proofs.refused.Reads as refused-reads
 use Rattle.rehearsal.proofs.find_refusal.Reads as find-refusal-reads
 use Rattle.rehearsal.proofs.rehearse.Reads as rehearse-reads
 

@@ -1,0 +1,2 @@
+-- What lexing a text by rules answers and leaves.
+pub mod Outcome

@@ -1,0 +1,2 @@
+-- The outcome of printing by rules.
+pub mod Outcome
