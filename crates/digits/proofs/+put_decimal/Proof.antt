@@ -3,17 +3,17 @@ use mathlib.Core.List.{List}
 use mathlib.Core.Path.{_∙_, sym, subst}
 use native.Mathlib.Omega.{arith}
 use denote.Ref.{now}
-use Rattle.listing.specs.Lines.{Puts}
-use Rattle.listing.proofs.Putting.{puts-then, decimal-digit, decimal-more, length-digit, length-more}
+use Rattle.digits.specs.Putting.{Puts}
+use Rattle.digits.proofs.Putting.{puts-then, decimal-digit, decimal-more, length-digit, length-more}
 use Prim.Native.Nat.{ℕ, _<_}
 use borrow.Fn.Kinds.{In}
 use borrow.Fn.PlainCycle.{Measures, is, falls, and}
-use Rattle.listing.proofs.put_decimal.Reads as put-decimal
-use Rattle.listing.proofs.put_decimal.Kinds as put-decimal-kinds
-use Rattle.listing.proofs.+put_decimal.Lts-put_decimal as put-decimal-lts
-use Rattle.listing.proofs.put_byte.Reads as put-byte-reads
-use Rattle.listing.proofs.+put_decimal.{statement}
-use Rattle.listing.proofs.+put_decimal.Tie.{close}
+use Rattle.digits.proofs.put_decimal.Reads as put-decimal
+use Rattle.digits.proofs.put_decimal.Kinds as put-decimal-kinds
+use Rattle.digits.proofs.+put_decimal.Lts-put_decimal as put-decimal-lts
+use Rattle.digits.proofs.put_byte.Reads as put-byte-reads
+use Rattle.digits.proofs.+put_decimal.{statement}
+use Rattle.digits.proofs.+put_decimal.Tie.{close}
 
 abbrev μ-put-decimal : Measures 1 put-decimal-kinds.ps ℕ
 μ-put-decimal κs a = a .1 .1 .0

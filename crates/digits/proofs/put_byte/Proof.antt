@@ -1,9 +1,9 @@
 -- `put_byte`: one store. Assumes nothing.
 use native.Mathlib.Omega.{arith}
-use Rattle.listing.proofs.Putting.{puts-byte}
+use Rattle.digits.proofs.Putting.{puts-byte}
 use borrow.Author.Needs.{needs}
-use Rattle.listing.proofs.put_byte.Statement.{statement}
-use Rattle.listing.proofs.put_byte.Tie as tie
+use Rattle.digits.proofs.put_byte.Statement.{statement}
+use Rattle.digits.proofs.put_byte.Tie as tie
 
 slice-write-out : tie.Need-slice-write-out
 slice-write-out c = omega (arith, c .pre .room)

@@ -1,10 +1,10 @@
 -- `put_token`: three texts, one behind the other. Assumes nothing.
-use Rattle.listing.proofs.Putting.{puts-then, room-first, room-second}
-use Rattle.listing.specs.Lines.{tokenLine}
+use Rattle.digits.proofs.Putting.{puts-then, room-first, room-second}
+use Rattle.lines.specs.Lines.{tokenLine}
 use mathlib.Core.Path.{_∙_}
 use borrow.Author.Needs.{needs}
-use Rattle.listing.proofs.put_token.Statement.{statement}
-use Rattle.listing.proofs.put_token.Tie as tie
+use Rattle.lines.proofs.put_token.Statement.{statement}
+use Rattle.lines.proofs.put_token.Tie as tie
 
 put-field-requires : tie.Need-put-field-requires
 unfolding tokenLine

@@ -1,12 +1,8 @@
 -- `put_record`: the line of the numbers that the record holds. Assumes nothing.
-use Rattle.listing.proofs.Listing.{room-record, puts-record}
+use Rattle.lines.proofs.Recording.{room-record, puts-record}
 use borrow.Author.Needs.{needs}
-use Rattle.listing.proofs.put_record.Statement.{statement}
-use Rattle.listing.proofs.put_record.Tie as tie
-use Rattle.listing.proofs.put_record.Reads as reads
-use Rattle.listing.proofs.put_record.Lts as lts
-use Rattle.listing.proofs.put_token.Reads as put-token-reads
-use Rattle.pooled.proofs.read_record.Reads as read-record-reads
+use Rattle.lines.proofs.put_record.Statement.{statement}
+use Rattle.lines.proofs.put_record.Tie as tie
 
 read-record-requires : tie.Need-read-record-requires
 read-record-requires c κs = search needs

@@ -1,8 +1,8 @@
 -- `put_field`: a number, then a byte. Assumes nothing.
-use Rattle.listing.proofs.Putting.{puts-then, room-first, room-second}
+use Rattle.digits.proofs.Putting.{puts-then, room-first, room-second}
 use borrow.Author.Needs.{needs}
-use Rattle.listing.proofs.put_field.Statement.{statement}
-use Rattle.listing.proofs.put_field.Tie as tie
+use Rattle.digits.proofs.put_field.Statement.{statement}
+use Rattle.digits.proofs.put_field.Tie as tie
 
 put-decimal-requires : tie.Need-put-decimal-requires
 put-decimal-requires c κs = room-first _ (c .before .before .pre)

@@ -1,9 +1,9 @@
 -- `put_last_two`: two numbers, one behind the other. Assumes nothing.
-use Rattle.listing.proofs.Putting.{puts-then, room-first, room-second}
-use Rattle.listing.specs.Lines.{lastTwo}
+use Rattle.digits.proofs.Putting.{puts-then, room-first, room-second}
+use Rattle.digits.specs.Decimal.{lastTwo}
 use borrow.Author.Needs.{needs}
-use Rattle.listing.proofs.put_last_two.Statement.{statement}
-use Rattle.listing.proofs.put_last_two.Tie as tie
+use Rattle.digits.proofs.put_last_two.Statement.{statement}
+use Rattle.digits.proofs.put_last_two.Tie as tie
 
 put-field-requires : tie.Need-put-field-requires
 unfolding lastTwo

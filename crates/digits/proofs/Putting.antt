@@ -7,11 +7,12 @@ use native.Mathlib.Omega.{arith}
 use native.Mathlib.Nat.{pow-suc}
 use native.Mathlib.Numerals.{add-one}
 use lib.Dec.{ltb}
-use lib.ListN.{length, getD, take, drop, set, length-append, length-set, take-append-drop}
-use lib.Seq.{length-take-le, take-length, take-at, drop-at, drop-drop, set-split, append-snoc, paste, paste-zero, paste-suc}
+use lib.ListN.{length, take, drop, set, length-append, take-append-drop}
+use lib.Seq.{length-take-le, take-at, drop-at, drop-drop, set-split, append-snoc}
 use borrow.Author.Tests.{lt-ltb, le-ltb, ltb-true, ltb-false}
 use Rattle.automaton.specs.Choice.{if}
-use Rattle.listing.specs.Lines.{decimalFor, decimal, Room, Puts}
+use Rattle.digits.specs.Decimal.{decimalFor, decimal}
+use Rattle.digits.specs.Putting.{Room, Puts}
 
 -- ---- writing
 
@@ -60,30 +61,6 @@ room-first {at} {xs} {out} ys r = record { room = omega (arith, length-append xs
 pub room-second : {entry middle xs ys : List ℕ} {at m : ℕ} → Puts entry at xs m middle → length middle ≡ length entry → Room at (xs ++ ys) entry
     → Room m ys middle
 room-second {entry} {middle} {xs} {ys} p e r = record { room = omega (arith, length-append xs ys, p .behind, r .room) }
-
--- ---- a word, byte by byte
-
--- the first i bytes of the word are written
-pub record Copying (entry : List ℕ) (at : ℕ) (word : List ℕ) (out : List ℕ) (i : ℕ) : Type 0 where
-  pub within : i ≤ length word
-  pub same : length out ≡ length entry
-  pub copied : out ≡ paste entry at word i
-
-pub copying-start : (entry : List ℕ) (at : ℕ) (word : List ℕ) → Copying entry at word entry 0
-copying-start entry at word = record { within = omega arith; same = refl; copied = paste-zero entry at word }
-
-module _ {entry : List ℕ} {at : ℕ} {word out : List ℕ} {i : ℕ} (w : Copying entry at word out i) (r : Room at word entry) where
-  pub copying-next : i < length word → Copying entry at word (set out (at + i) (getD word i 0)) (i + 1)
-  copying-next l = record {
-    within = omega arith;
-    same = simp length-set (w .same);
-    copied = rw (w .copied, add-one) (paste-suc entry at word i 0 (omega (arith, r .room)) l);
-  }
-
-  pub copying-end : length word ≤ i → Puts entry at word (at + i) out
-  copying-end l =
-      let e : i ≡ length word = omega (arith, w .within) in
-      record { behind = rw e; written = w .copied ∙ rw (e, take-length) }
 
 -- ---- numbers
 
