@@ -11,7 +11,8 @@ use Rattle.pooled.specs.Tokens.{recordAt, recordsFrom, recordsOf, tokensIn}
 use Rattle.pooled.specs.Faults.{aloneIn, faultOf}
 use Rattle.lists.specs.Checks.{refuse, firstFault, firstExtended}
 use Rattle.printer.specs.Outcome as print
-use Rattle.used.specs.Bytes.{usedByKind, shared, lowestFrom, sharedByte}
+use Rattle.byteset.specs.Marks.{lowestFrom}
+use Rattle.used.specs.Bytes.{usedByKind, shared, sharedByte}
 use Rattle.used.specs.Kinds.{separates}
 use Rattle.spacing.specs.Separators.{meaning, follows, separated}
 use Rattle.checks.specs.Refusals.{orElse, separatorFault, plainFault, sharing, listRefusal, separatedRefusal}

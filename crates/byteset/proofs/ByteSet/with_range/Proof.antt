@@ -2,11 +2,9 @@
 use Prim.Native.Nat.{_+_, _-_}
 use native.Mathlib.Omega.{arith}
 use borrow.Author.Needs.{needs}
-use Rattle.used.proofs.Marking.{Ranging, ranging-start, ranging-next, ranging-end}
-use Rattle.used.proofs.bytes.ByteSet.with_range.Statement.{statement}
-use Rattle.used.proofs.bytes.ByteSet.with_range.Tie as tie
-use Rattle.used.proofs.bytes.ByteSet.with_range.Reads as reads
-use Rattle.used.proofs.bytes.ByteSet.with_range.Lts as lts
+use Rattle.byteset.proofs.Marking.{Ranging, ranging-start, ranging-next, ranging-end}
+use Rattle.byteset.proofs.ByteSet.with_range.Statement.{statement}
+use Rattle.byteset.proofs.ByteSet.with_range.Tie as tie
 
 abbrev Inv-loop : tie.InvT-loop
 Inv-loop low high self₀ b₀ self b = Ranging low high b (self₀ .marks) (self .marks)

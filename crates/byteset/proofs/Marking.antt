@@ -11,8 +11,7 @@ use lib.ListN.{length, getD, set, replicate, length-set}
 use lib.Seq.{getD-set-same, getD-set-other}
 use borrow.Author.Tests.{le-leb, lt-ltb, le-ltb, leb-true, ltb-true, ltb-false, eqb-true, eqb-false}
 use Rattle.automaton.proofs.Tests.{and-false-right}
-use Rattle.used.specs.Bytes.{lowestFrom}
-use Rattle.used.specs.Marks.{between}
+use Rattle.byteset.specs.Marks.{between, lowestFrom}
 
 -- ---- tests of a number below a bound that grows by one
 

@@ -1,9 +1,8 @@
-// Used bytes as a set: 256 marks in one record, by value.
+// A set of bytes: 256 marks in one record, by value.
 ghost use mathlib.Core.Path.{_≡_};
 ghost use mathlib.Core.Bool.{true, false, _||_, _&&_};
 ghost use Prim.Native.Nat.{ℕ, _<_};
-ghost use Rattle.used.specs.Bytes.{lowestFrom};
-ghost use Rattle.used.specs.Marks.{mark, between, lowestOf};
+ghost use Rattle.byteset.specs.Marks.{mark, between, lowestFrom, lowestOf};
 
 pub struct ByteSet {
     pub marks: [bool; 256],

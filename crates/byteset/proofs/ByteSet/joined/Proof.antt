@@ -2,11 +2,9 @@
 use Prim.Native.Nat.{_-_}
 use native.Mathlib.Omega.{arith}
 use borrow.Author.Needs.{needs}
-use Rattle.used.proofs.Marking.{Merging, merging-start, merging-mark, merging-pass, merging-end}
-use Rattle.used.proofs.bytes.ByteSet.joined.Statement.{statement}
-use Rattle.used.proofs.bytes.ByteSet.joined.Tie as tie
-use Rattle.used.proofs.bytes.ByteSet.joined.Reads as reads
-use Rattle.used.proofs.bytes.ByteSet.joined.Lts as lts
+use Rattle.byteset.proofs.Marking.{Merging, merging-start, merging-mark, merging-pass, merging-end}
+use Rattle.byteset.proofs.ByteSet.joined.Statement.{statement}
+use Rattle.byteset.proofs.ByteSet.joined.Tie as tie
 
 abbrev Inv-loop : tie.InvT-loop
 Inv-loop self₀ other b₀ self b = Merging (other .marks) b (self₀ .marks) (self .marks)

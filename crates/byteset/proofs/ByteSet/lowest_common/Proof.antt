@@ -3,12 +3,10 @@ use Prim.Native.Nat.{ℕ, _-_}
 use mathlib.Core.Path.{sym, ap}
 use native.Mathlib.Omega.{arith}
 use mathlib.Core.Bool.{_&&_}
-use Rattle.used.proofs.Marking.{Seeking, seeking-start, seeking-next, seeking-found, seeking-end}
-use Rattle.used.specs.Marks.{mark, lowestOf}
-use Rattle.used.proofs.bytes.ByteSet.lowest_common.Statement.{statement}
-use Rattle.used.proofs.bytes.ByteSet.lowest_common.Tie as tie
-use Rattle.used.proofs.bytes.ByteSet.lowest_common.Reads as reads
-use Rattle.used.proofs.bytes.ByteSet.lowest_common.Lts as lts
+use Rattle.byteset.proofs.Marking.{Seeking, seeking-start, seeking-next, seeking-found, seeking-end}
+use Rattle.byteset.specs.Marks.{mark, lowestOf}
+use Rattle.byteset.proofs.ByteSet.lowest_common.Statement.{statement}
+use Rattle.byteset.proofs.ByteSet.lowest_common.Tie as tie
 
 abbrev Inv-loop : tie.InvT-loop
 Inv-loop self other b₀ b = Seeking (λ (x : ℕ). mark self x && mark other x) 256 b
