@@ -3,13 +3,10 @@ use Rattle.pooled.specs.Tokens.{bytesIn}
 use mathlib.Core.List.{_++_}
 use lib.ListN.{drop}
 use denote.Ref.{now}
-use Rattle.spacing.proofs.Putting.{both-full, both-put}
+use Rattle.placing.proofs.Placing.{both-full, both-put}
 use borrow.Author.Needs.{needs}
-use Rattle.spacing.proofs.put_both.Statement.{statement}
-use Rattle.spacing.proofs.put_both.Tie as tie
-use Rattle.spacing.proofs.put_both.Reads as reads
-use Rattle.spacing.proofs.put_both.Lts as lts
-use Rattle.spacing.proofs.put_before.Reads as put-before-reads
+use Rattle.placing.proofs.put_both.Statement.{statement}
+use Rattle.placing.proofs.put_both.Tie as tie
 
 put-before-requires : tie.Need-put-before-requires
 put-before-requires c κs = (c .before .before .before .pre .1 .0 .in-pool, c .before .before .before .pre .1 .1)

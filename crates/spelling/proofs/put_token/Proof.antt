@@ -4,15 +4,11 @@ use native.Mathlib.Omega.{arith}
 use lib.ListN.{drop}
 use denote.Ref.{now}
 use Rattle.pooled.specs.Tokens.{bytesIn}
-use Rattle.spacing.proofs.Putting.{behind, token-alone, token-both, token-full, token-ahead}
+use Rattle.placing.proofs.Placing.{behind}
+use Rattle.spelling.proofs.Putting.{token-alone, token-both, token-full, token-ahead}
 use borrow.Author.Needs.{needs}
-use Rattle.spacing.proofs.put_token.Statement.{statement}
-use Rattle.spacing.proofs.put_token.Tie as tie
-use Rattle.spacing.proofs.put_token.Reads as reads
-use Rattle.spacing.proofs.put_token.Lts as lts
-use Rattle.spacing.proofs.is_due.Reads as is-due-reads
-use Rattle.spacing.proofs.put_before.Reads as put-before-reads
-use Rattle.spacing.proofs.put_both.Reads as put-both-reads
+use Rattle.spelling.proofs.put_token.Statement.{statement}
+use Rattle.spelling.proofs.put_token.Tie as tie
 
 put-before-requires : tie.Need-put-before-requires
 put-before-requires c κs = (c .before .before .before .before .before .before .pre .1 .0 .in-pool, c .before .before .before .before .before .before .pre .1 .1 .1)

@@ -1,12 +1,9 @@
 -- `put_before` puts the bytes in front, or there is no room. Assumes nothing.
 use native.Mathlib.Omega.{arith}
-use Rattle.spacing.proofs.Putting.{before-full, before-put}
+use Rattle.placing.proofs.Placing.{before-full, before-put}
 use borrow.Author.Needs.{needs}
-use Rattle.spacing.proofs.put_before.Statement.{statement}
-use Rattle.spacing.proofs.put_before.Tie as tie
-use Rattle.spacing.proofs.put_before.Reads as reads
-use Rattle.spacing.proofs.put_before.Lts as lts
-use Rattle.lists.proofs.copy.Reads as copy-reads
+use Rattle.placing.proofs.put_before.Statement.{statement}
+use Rattle.placing.proofs.put_before.Tie as tie
 
 returns : tie.Need-returns
 returns c = before-full _ _ _ _ _ (c .before .before .before .pre .0) (c .before .before .before .pre .1) (c .if1 .taken)

@@ -7,13 +7,10 @@ use borrow.Author.Needs.{needs}
 use denote.Ref.{now}
 use Rattle.automaton.specs.Rule.{Rule}
 use Rattle.cutting.specs.Answers.{Holds}
-use Rattle.spacing.proofs.Putting.{Putting, spaced-inside, spaced-alone, from, from-last, putting-start, putting-next, putting-full, putting-end}
-use Rattle.spacing.proofs.put_list.Statement.{statement}
-use Rattle.spacing.proofs.put_list.Tie as tie
-use Rattle.spacing.proofs.put_list.Reads as reads
-use Rattle.spacing.proofs.put_list.Lts as lts
-use Rattle.pooled.proofs.read_record.Reads as read-record-reads
-use Rattle.spacing.proofs.put_token.Reads as put-token-reads
+use Rattle.spacing.proofs.Separated.{from, from-last}
+use Rattle.spelling.proofs.Putting.{Putting, spaced-inside, spaced-alone, putting-start, putting-next, putting-full, putting-end}
+use Rattle.spelling.proofs.put_list.Statement.{statement}
+use Rattle.spelling.proofs.put_list.Tie as tie
 
 abbrev Inv-loop : tie.InvT-loop
 Inv-loop headers states edges rules separator mode records pool scratch₀ count at₀ k₀ scratch at k = (length scratch ≡ length scratch₀) × ((rs : List Rule) → Holds headers states edges rules rs → Putting rs separator mode records pool scratch at k)
