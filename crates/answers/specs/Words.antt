@@ -7,7 +7,6 @@ use Rattle.book.specs.declared.BookAnswer.{BookAnswer}
 use Rattle.book.specs.declared.BookAnswer.the-variants as book
 use Rattle.lexer.specs.declared.LexAnswer.{LexAnswer}
 use Rattle.lexer.specs.declared.LexAnswer.the-variants as lexer
-use Rattle.pooled.specs.declared.TokenRecord.{TokenRecord}
 use Rattle.printer.specs.declared.PrintAnswer.{PrintAnswer}
 use Rattle.printer.specs.declared.PrintAnswer.the-variants as printer
 
@@ -37,7 +36,3 @@ lexWord (lexer.Refused f) = refusalWord f
 abbrev pub printWord : PrintAnswer → ℕ
 printWord (printer.Printed bytes) = acceptedWord bytes 0
 printWord (printer.Refused f) = refusalWord f
-
--- the separator token, from its three numbers
-abbrev pub separator : ℕ → ℕ → ℕ → TokenRecord
-separator tag place length = record { tag = tag; place = place; len = length }

@@ -1,12 +1,8 @@
 use mathlib.Core.Path.{_≡_, sym, _∙_, ap}
-use Rattle.zagvulem.specs.Words.{lexWord}
+use Rattle.answers.specs.Words.{lexWord}
 use borrow.Author.Needs.{needs}
-use Rattle.zagvulem.proofs.lexed.Statement.{statement}
-use Rattle.zagvulem.proofs.lexed.Tie as tie
-use Rattle.zagvulem.proofs.lexed.Reads as reads
-use Rattle.zagvulem.proofs.lexed.Lts as lts
-use Rattle.zagvulem.proofs.accepted.Reads as accepted-reads
-use Rattle.zagvulem.proofs.refused.Reads as refused-reads
+use Rattle.answers.proofs.lexed.Statement.{statement}
+use Rattle.answers.proofs.lexed.Tie as tie
 
 enum-known-answer : tie.Need-enum-known-answer
 enum-known-answer c = search needs
