@@ -27,10 +27,10 @@ use Rattle.reading.specs.Limits.{maxTokens}
 use Rattle.lists.proofs.Passes.{left, left-start, left-next, left-end}
 use Rattle.checks.specs.declared.Checked.{Checked}
 use Rattle.checks.specs.declared.Checked.the-variants as checked
-use Rattle.used.specs.declared.bytes.Lowest.the-variants as lowest
+use Rattle.byteset.specs.declared.Lowest.the-variants as lowest
 use Rattle.used.specs.Kinds.{separatorKind, separates}
 use Rattle.used.specs.Bytes.{sharedByte}
-use Rattle.used.specs.Marks.{lowestOf}
+use Rattle.byteset.specs.Marks.{lowestOf}
 use Rattle.checks.specs.Refusals.{orElse, separatorFault, plainFault, sharing, listRefusal, separatedRefusal, checkedOf, differs}
 
 -- ---- the search for a separator rule

@@ -1,8 +1,8 @@
 // What is refused before anything is put together: shared bytes, the mode, the separator token, the tokens of the list.
+use byteset::Lowest;
 use pooled::TokenRecord;
 use reading::Book;
 use refusal::Refusal;
-use used::bytes::Lowest;
 ghost use mathlib.Core.Path.{_≡_};
 ghost use mathlib.Core.List.{List};
 ghost use Prim.Native.Nat.{ℕ, _≤_};

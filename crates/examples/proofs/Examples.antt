@@ -13,12 +13,15 @@ use Rattle.pooled.specs.Faults.{aloneIn, faultOf}
 use Rattle.lists.specs.Checks.{refuse, firstFault, firstExtended}
 use Rattle.printing.specs.Outcome as print
 use Rattle.printer.specs.Outcome.{printOutcome}
-use Rattle.used.specs.Bytes.{usedByKind, shared, lowestFrom, sharedByte}
+use Rattle.byteset.specs.Marks.{lowestFrom}
+use Rattle.used.specs.Bytes.{usedByKind, shared, sharedByte}
 use Rattle.used.specs.Kinds.{separates}
 use Rattle.spacing.specs.Separators.{meaning, follows, separated}
 use Rattle.checks.specs.Refusals.{orElse, separatorFault, plainFault, sharing, listRefusal, separatedRefusal}
 use Rattle.separated.specs.Outcome.{writing, separatedRules, separatedOutcome}
-use Rattle.listing.specs.Lines.{decimalFor, decimal, lastTwo, tokenLine, restLine, refusedLine, recordLine, recordLines, listing}
+use Rattle.digits.specs.Decimal.{decimalFor, decimal, lastTwo}
+use Rattle.lines.specs.Lines.{tokenLine, recordLine}
+use Rattle.listing.specs.Lines.{restLine, refusedLine, recordLines, listing}
 use Rattle.examples.specs.Table.{table, Examples}
 
 pub examples : Examples

@@ -21,8 +21,11 @@ use Rattle.lexer.specs.Outcome.{lexReading, lexOutcome}
 use Rattle.cutting.proofs.Lexing.{lex-lengths}
 use Rattle.records.proofs.Records.{length-records, tokenAt, placeAt, records-at, laid-within, four-value}
 use Rattle.pooled.specs.Tokens.{twoAt, fourAt, recordAt}
-use Rattle.listing.specs.Lines.{decimal, field, blank, lineEnd, lastTwo, tokenLine, restWord, restLine, recordLine, recordLines, recordBytes, outputBytes, linesOf, listing, Fit, Puts}
-use Rattle.listing.proofs.Putting.{digits}
+use Rattle.digits.specs.Decimal.{decimal, field, blank, lineEnd, lastTwo}
+use Rattle.digits.specs.Putting.{Puts}
+use Rattle.digits.proofs.Putting.{digits}
+use Rattle.lines.specs.Lines.{tokenLine, recordLine}
+use Rattle.listing.specs.Lines.{restWord, restLine, recordLines, recordBytes, outputBytes, linesOf, listing, Fit}
 
 -- ---- lines
 

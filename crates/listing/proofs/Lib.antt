@@ -1,5 +1,5 @@
 -- What the proofs of this crate share, and the laws for the layers above.
-pub mod Putting
+pub mod Words
 pub mod Listing
 pub mod Bounds
 pub mod Tokens

@@ -11,10 +11,11 @@ use lib.ListN.{length, length-append}
 use Rattle.refusal.specs.declared.Refusal.{Refusal}
 use Rattle.lexing.specs.declared.LexAnswer.{LexAnswer}
 use Rattle.lexing.specs.declared.LexAnswer.the-variants.{Lexed, Refused}
-use Rattle.pooled.specs.declared.TokenRecord.{TokenRecord}
-use Rattle.pooled.specs.Tokens.{recordAt}
-use Rattle.listing.specs.Lines.{decimal, field, blank, lineEnd, lastTwo, tokenLine, restLine, refusedWord, refusedLine, refusedBytes, recordLine, recordLines, Fit, linesOf, Room, Puts}
-use Rattle.listing.proofs.Putting.{puts-nothing, puts-then, room-second, digits}
+use Rattle.digits.specs.Decimal.{decimal, field, blank, lineEnd, lastTwo}
+use Rattle.digits.specs.Putting.{Room, Puts}
+use Rattle.digits.proofs.Putting.{puts-nothing, puts-then, room-second, digits}
+use Rattle.lines.specs.Lines.{recordLine}
+use Rattle.listing.specs.Lines.{restLine, refusedWord, refusedLine, refusedBytes, recordLines, Fit, linesOf}
 
 lines-more : (records : List ℕ) (k : ℕ) → recordLines records (k + 1) ≡ recordLines records k ++ recordLine records k
 unfolding recordLines
@@ -35,18 +36,6 @@ lines-within records k (suc n) l = go (ltb k n) refl (lines-within records k n)
         let f : n ≤ k = ltb-false k n e in
         let q : k ≡ n = omega arith in
         rw q (omega (arith, both))
-
--- the line of a record, by the numbers read from it
-module _ (records : List ℕ) (k : ℕ) {r : TokenRecord} (e : r ≡ recordAt records k) where
-  line-of : recordLine records k ≡ tokenLine k (r .tag) (r .place) (r .len)
-  unfolding recordLine
-  line-of = rw e
-
-  pub room-record : {at : ℕ} {out : List ℕ} → Room at (recordLine records k) out → Room at (tokenLine k (r .tag) (r .place) (r .len)) out
-  room-record {at} {out} h = subst (λ (l : List ℕ). Room at l out) line-of h
-
-  pub puts-record : {at next : ℕ} {out after : List ℕ} → Puts out at (tokenLine k (r .tag) (r .place) (r .len)) next after → Puts out at (recordLine records k) next after
-  puts-record {at} {next} {out} {after} p = subst (λ (l : List ℕ). Puts out at l next after) (sym line-of) p
 
 -- the lines of the first k records are written
 pub record Going (entry records : List ℕ) (n : ℕ) (out : List ℕ) (at k : ℕ) : Type 0 where

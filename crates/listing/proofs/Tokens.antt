@@ -23,7 +23,8 @@ use Rattle.cutting.proofs.Choosing.{choose-some}
 use Rattle.cutting.proofs.Lexing.{lex-lengths}
 use Rattle.records.proofs.Records.{tokenAt, placeAt, laid-within, two-value}
 use Rattle.pooled.specs.Tokens.{twoAt, recordAt}
-use Rattle.listing.specs.Lines.{tokenLine, tokenLines, restLine, recordLine, recordLines, listing}
+use Rattle.lines.specs.Lines.{tokenLine, tokenLines, recordLine}
+use Rattle.listing.specs.Lines.{restLine, recordLines, listing}
 use Rattle.listing.proofs.Bounds.{byte-at, place-is, length-is}
 
 -- ---- a token more

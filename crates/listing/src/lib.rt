@@ -1,10 +1,11 @@
 // The lines of the program cutlist, written into a lent buffer.
 ghost use mathlib.Core.Path.{_≡_};
-ghost use mathlib.Core.List.{_++_, _∷_, []};
-ghost use Prim.Native.Nat.{_+_, _*_, _≤_, _<_};
+ghost use mathlib.Core.List.{_++_};
+ghost use Prim.Native.Nat.{_*_, _≤_};
 ghost use lib.ListN.{length, drop};
 ghost use Rattle.lexer.specs.Outcome.{lexOutcome};
-ghost use Rattle.listing.specs.Lines.{decimal, field, lastTwo, tokenLine, restLine, refusedLine, recordLine, recordLines, recordBytes, outputBytes, linesOf, listing, Fit, Room, Puts};
+ghost use Rattle.digits.specs.Putting.{Room, Puts};
+ghost use Rattle.listing.specs.Lines.{restLine, refusedLine, recordLines, recordBytes, outputBytes, linesOf, listing, Fit};
 use lexing::LexAnswer;
 
 // The bytes of the 6,000 records that are lent to `list`, and of the output, which no listing passes.
@@ -12,40 +13,7 @@ pub const RECORD_BYTES: usize = 60000;
 
 pub const OUTPUT_BYTES: usize = 144024;
 
-const BLANK: u8 = b' ';
-
-const LINE_END: u8 = b'\n';
-
 // Each `put` writes from `at` on and answers the place behind what it wrote.
-
-fn put_byte(out: &mut [u8], at: usize, byte: u8) -> usize
-    requires { ⌜ Room at (byte ∷ []) (now out) ⌝ }
-    ensures { λ r. ⌜ Puts (now (out .entry)) at (byte ∷ []) r (now (out .exit)) ⌝ }
-{
-    out[at] = byte;
-    at + 1
-}
-
-// A number in decimal.
-fn put_decimal(out: &mut [u8], at: usize, n: usize) -> usize
-    requires { ⌜ Room at (decimal n) (now out) ⌝ }
-    ensures { λ r. ⌜ Puts (now (out .entry)) at (decimal n) r (now (out .exit)) ⌝ }
-{
-    if n < 10 {
-        return put_byte(out, at, 48 + n as u8);
-    }
-    let last = put_decimal(out, at, n / 10);
-    put_byte(out, last, 48 + (n % 10) as u8)
-}
-
-// A number and the byte behind it.
-fn put_field(out: &mut [u8], at: usize, n: usize, after: u8) -> usize
-    requires { ⌜ Room at (field n after) (now out) ⌝ }
-    ensures { λ r. ⌜ Puts (now (out .entry)) at (field n after) r (now (out .exit)) ⌝ }
-{
-    let end = put_decimal(out, at, n);
-    put_byte(out, end, after)
-}
 
 fn put_word(out: &mut [u8], at: usize, word: &[u8]) -> usize
     requires { ⌜ Room at (now word) (now out) ⌝ }
@@ -59,37 +27,12 @@ fn put_word(out: &mut [u8], at: usize, word: &[u8]) -> usize
     at + i
 }
 
-// The two numbers that end a line.
-fn put_last_two(out: &mut [u8], at: usize, a: usize, b: usize) -> usize
-    requires { ⌜ Room at (lastTwo a b) (now out) ⌝ }
-    ensures { λ r. ⌜ Puts (now (out .entry)) at (lastTwo a b) r (now (out .exit)) ⌝ }
-{
-    let next = put_field(out, at, a, BLANK);
-    put_field(out, next, b, LINE_END)
-}
-
-fn put_token(
-    out: &mut [u8],
-    at: usize,
-    number: usize,
-    tag: usize,
-    place: usize,
-    len: usize,
-) -> usize
-    requires { ⌜ Room at (tokenLine number tag place len) (now out) ⌝ }
-    ensures { λ r. ⌜ Puts (now (out .entry)) at (tokenLine number tag place len) r (now (out .exit)) ⌝ }
-{
-    let second = put_field(out, at, number, BLANK);
-    let third = put_field(out, second, tag, BLANK);
-    put_last_two(out, third, place, len)
-}
-
 fn put_rest(out: &mut [u8], at: usize, place: usize, len: usize) -> usize
     requires { ⌜ Room at (restLine place len) (now out) ⌝ }
     ensures { λ r. ⌜ Puts (now (out .entry)) at (restLine place len) r (now (out .exit)) ⌝ }
 {
     let next = put_word(out, at, b"rest ");
-    put_last_two(out, next, place, len)
+    digits::put_last_two(out, next, place, len)
 }
 
 fn put_refused(out: &mut [u8], at: usize, number: usize, place: usize) -> usize
@@ -97,17 +40,7 @@ fn put_refused(out: &mut [u8], at: usize, number: usize, place: usize) -> usize
     ensures { λ r. ⌜ Puts (now (out .entry)) at (refusedLine number place) r (now (out .exit)) ⌝ }
 {
     let next = put_word(out, at, b"refused ");
-    put_last_two(out, next, number, place)
-}
-
-// The line of record number `k`.
-fn put_record(out: &mut [u8], at: usize, records: &[u8], k: usize) -> usize
-    requires { ⌜ 10 * k + 10 ≤ length (now records) ⌝ }
-    requires { ⌜ Room at (recordLine (now records) k) (now out) ⌝ }
-    ensures { λ r. ⌜ Puts (now (out .entry)) at (recordLine (now (records .entry)) k) r (now (out .exit)) ⌝ }
-{
-    let r = pooled::read_record(records, k);
-    put_token(out, at, k, r.tag as usize, r.place, r.len)
+    digits::put_last_two(out, next, number, place)
 }
 
 // The lines of the first `n` records, from the start of `out`.
@@ -119,7 +52,7 @@ fn put_records(out: &mut [u8], records: &[u8], n: usize) -> usize
     let mut at = 0;
     let mut k = 0;
     while k < n {
-        at = put_record(out, at, records, k);
+        at = lines::put_record(out, at, records, k);
         k += 1;
     }
     at

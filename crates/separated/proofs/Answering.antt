@@ -21,12 +21,13 @@ use Rattle.printing.specs.declared.PrintAnswer.the-variants as print
 use Rattle.pooled.specs.declared.TokenRecord.{TokenRecord}
 use Rattle.printing.specs.Outcome.{check, unless, Answered}
 use Rattle.checks.specs.declared.Checked.the-variants as checked
-use Rattle.spacing.specs.declared.Placed.{Placed}
-use Rattle.spacing.specs.declared.Placed.the-variants as placed
+use Rattle.placing.specs.declared.Placed.{Placed}
+use Rattle.placing.specs.declared.Placed.the-variants as placed
 use Rattle.checks.specs.Refusals.{separatedRefusal, checkedOf}
 use Rattle.separated.specs.Outcome.{writing, separatedRules, separatedOutcome}
 use Rattle.spacing.specs.Separators.{spelled}
-use Rattle.spacing.specs.Answers.{Stands, Spaceable}
+use Rattle.placing.specs.Answers.{Stands}
+use Rattle.spelling.specs.Answers.{Spaceable}
 use Rattle.separated.specs.Answers.{Passed}
 use Rattle.cutting.specs.Lexer.{Alone}
 use Rattle.pooled.specs.Answers.{InPool}

@@ -24,7 +24,8 @@ use Rattle.lists.specs.Checks.{refuse, firstFault}
 use Rattle.printing.specs.Outcome.{PrintOutcome, printAccepted, check, unless}
 use Rattle.pooled.proofs.Faults.{faultless, fault-none}
 use Rattle.used.specs.Kinds.{plainKind, separatorKind, separates}
-use Rattle.used.specs.Bytes.{usedByKind, shared, lowestFrom, sharedByte}
+use Rattle.byteset.specs.Marks.{lowestFrom}
+use Rattle.used.specs.Bytes.{usedByKind, shared, sharedByte}
 use Rattle.checks.specs.Refusals.{orElse, separatorFault, plainFault, sharing, listRefusal, separatedRefusal}
 use Rattle.separated.specs.Outcome.{writing, separatedRules}
 use Rattle.spacing.specs.Separators.{spelled}

@@ -2,11 +2,11 @@
 // a scratch of the call's own, so that the output stands as it was where the list is refused.
 use book::BookAnswer;
 use checks::Checked;
+use placing::Placed;
 use pooled::TokenRecord;
 use printing::PrintAnswer;
 use reading::Book;
 use refusal::Refusal;
-use spacing::Placed;
 ghost use mathlib.Core.Path.{_≡_};
 ghost use mathlib.Core.List.{List};
 ghost use Prim.Native.Nat.{_≤_};
@@ -147,7 +147,7 @@ fn print_passed(
     ensures { λ r. ⌜ ((rs : List Rule) → Holds (now (headers .entry)) (now (states .entry)) (now (edges .entry)) rules rs
         → Answered (writing (spelled rs separator mode (now (records .entry)) (now (pool .entry))) (now (out .entry))) r (now (out .exit))) ⌝ }
 {
-    match spacing::put_list(
+    match spelling::put_list(
         headers,
         states,
         edges,

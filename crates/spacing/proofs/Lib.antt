@@ -1,2 +1,3 @@
 -- What the proofs of this crate share, and the laws for the layers above.
-pub mod Putting
+pub mod Due
+pub mod Separated

@@ -17,8 +17,8 @@ use Rattle.automaton.specs.Tables.{stateCount, lowOf, highOf, toOf, nextOf, Cha
 use Rattle.automaton.proofs.Tests.{and-false-right}
 use Rattle.automaton.proofs.Chains.{At}
 use Rattle.used.specs.Kinds.{plainKind, separatorKind}
-use Rattle.used.specs.Bytes.{usedByKind, shared, lowestFrom, sharedByte}
-use Rattle.used.specs.Marks.{leads, between}
+use Rattle.byteset.specs.Marks.{between, lowestFrom}
+use Rattle.used.specs.Bytes.{leads, usedByKind, shared, sharedByte}
 
 -- ---- one chain
 

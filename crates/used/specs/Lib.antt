@@ -1,4 +1,3 @@
--- The kinds of rules, the bytes that they use, and the marks of a set of bytes.
+-- The kinds of rules, and the bytes that they use.
 pub mod Kinds
 pub mod Bytes
-pub mod Marks

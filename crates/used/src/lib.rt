@@ -1,9 +1,7 @@
 // The used bytes of the rules that the tables hold, and refusal 23.
-pub mod bytes;
-
 use automaton::STATES;
-use bytes::ByteSet;
-use bytes::Lowest;
+use byteset::ByteSet;
+use byteset::Lowest;
 ghost use mathlib.Core.Path.{_≡_};
 ghost use mathlib.Core.Bool.{_||_};
 ghost use mathlib.Core.List.{List};
@@ -12,8 +10,8 @@ ghost use Rattle.automaton.specs.Choice.{any};
 ghost use Rattle.automaton.specs.Rule.{Transition, Rule, used};
 ghost use Rattle.automaton.specs.Tables.{Chain, Chained, Table, Tabled};
 ghost use Rattle.cutting.specs.Answers.{Holds, Held};
-ghost use Rattle.used.specs.Bytes.{usedByKind, sharedByte};
-ghost use Rattle.used.specs.Marks.{mark, leads, lowestOf};
+ghost use Rattle.byteset.specs.Marks.{mark, lowestOf};
+ghost use Rattle.used.specs.Bytes.{leads, usedByKind, sharedByte};
 
 // The set with the ranges of the chain's transitions to states other than the error state.
 fn with_chain(edges: &[u64], head: usize, error: u64, set: ByteSet) -> ByteSet

@@ -1,2 +1,2 @@
--- The words that the C interface answers.
-pub mod Words
+-- What the C interface is given.
+pub mod Separator

@@ -1,17 +1,14 @@
 // The library as C calls it: numbers and byte slices, answers in 64 bits. include/zagvulem.h declares these functions.
 use book::BookAnswer;
-use lexing::LexAnswer;
 use pooled::TokenRecord;
-use printing::PrintAnswer;
-use refusal::Refusal;
 ghost use mathlib.Core.Path.{_≡_};
-ghost use Prim.Native.Nat.{min};
 ghost use Rattle.book.specs.Reading.{readBook, answer};
 ghost use Rattle.lexer.specs.Outcome.{lexOutcome};
 ghost use Rattle.tables.specs.Book.{builtinBytes};
 ghost use Rattle.printer.specs.Outcome.{printOutcome};
 ghost use Rattle.separated.specs.Outcome.{separatedOutcome};
-ghost use Rattle.zagvulem.specs.Words.{refusalWord, acceptedWord, bookWord, lexWord, printWord, separator};
+ghost use Rattle.answers.specs.Words.{bookWord, lexWord, printWord};
+ghost use Rattle.zagvulem.specs.Separator.{separator};
 
 // Reads a book: the number of its rules and 0, or the refusal.
 #[no_mangle]
@@ -19,8 +16,8 @@ pub extern "C" fn zgv_read_book(book: &[u8]) -> u64
     ensures { λ r. ⌜ r ≡ bookWord (answer (readBook (now (book .entry)))) ⌝ }
 {
     match book::read(book) {
-        BookAnswer::Accepted(rules) => accepted(rules, 0),
-        BookAnswer::Refused(refusal) => refused(refusal),
+        BookAnswer::Accepted(rules) => answers::accepted(rules, 0),
+        BookAnswer::Refused(refusal) => answers::refused(refusal),
     }
 }
 
@@ -30,7 +27,7 @@ pub extern "C" fn zgv_lex(book: &[u8], text: &[u8], records: &mut [u8]) -> u64
     ensures { λ r. ⌜ r ≡ lexWord ((lexOutcome (now (book .entry)) (now (text .entry)) (now (records .entry))) .answer) ⌝ }
     ensures { λ r. ⌜ now (records .exit) ≡ (lexOutcome (now (book .entry)) (now (text .entry)) (now (records .entry))) .records ⌝ }
 {
-    lexed(lexer::lex(book, text, records))
+    answers::lexed(lexer::lex(book, text, records))
 }
 
 // Lexes a text by the built-in book, through its byte classes: as `zgv_lex` with the book's command bytes.
@@ -39,7 +36,7 @@ pub extern "C" fn zgv_lex_builtin(text: &[u8], records: &mut [u8]) -> u64
     ensures { λ r. ⌜ r ≡ lexWord ((lexOutcome builtinBytes (now (text .entry)) (now (records .entry))) .answer) ⌝ }
     ensures { λ r. ⌜ now (records .exit) ≡ (lexOutcome builtinBytes (now (text .entry)) (now (records .entry))) .records ⌝ }
 {
-    lexed(builtin::lex_builtin(text, records))
+    answers::lexed(builtin::lex_builtin(text, records))
 }
 
 // Prints the tokens that the records say with a pool: the number of bytes and 0, or the refusal.
@@ -48,7 +45,7 @@ pub extern "C" fn zgv_print(book: &[u8], records: &[u8], pool: &[u8], out: &mut 
     ensures { λ r. ⌜ r ≡ printWord ((printOutcome (now (book .entry)) (now (records .entry)) (now (pool .entry)) (now (out .entry))) .answer) ⌝ }
     ensures { λ r. ⌜ now (out .exit) ≡ (printOutcome (now (book .entry)) (now (records .entry)) (now (pool .entry)) (now (out .entry))) .out ⌝ }
 {
-    printed(printer::print(book, records, pool, out))
+    answers::printed(printer::print(book, records, pool, out))
 }
 
 // Prints the tokens with a separator token between them: the number of bytes and 0, or the refusal.
@@ -71,44 +68,5 @@ pub extern "C" fn zgv_print_separated(
         place: separator_place as usize,
         len: separator_length as usize,
     };
-    printed(separated::print_separated(book, token, mode, records, pool, out))
-}
-
-fn printed(answer: PrintAnswer) -> u64
-    ensures { λ r. ⌜ r ≡ printWord answer ⌝ }
-{
-    match answer {
-        PrintAnswer::Printed(bytes) => accepted(bytes, 0),
-        PrintAnswer::Refused(refusal) => refused(refusal),
-    }
-}
-
-fn lexed(answer: LexAnswer) -> u64
-    ensures { λ r. ⌜ r ≡ lexWord answer ⌝ }
-{
-    match answer {
-        LexAnswer::Lexed { tokens, rest } => accepted(tokens, rest),
-        LexAnswer::Refused(refusal) => refused(refusal),
-    }
-}
-
-fn refused(refusal: Refusal) -> u64
-    ensures { λ r. ⌜ r ≡ refusalWord refusal ⌝ }
-{
-    let number = refusal.number;
-    let place = refusal.place;
-    (number as u64) * 72057594037927936 + least(place, 72057594037927935)
-}
-
-fn accepted(first: usize, second: usize) -> u64
-    ensures { λ r. ⌜ r ≡ acceptedWord first second ⌝ }
-{
-    least(first, 268435455) * 268435456 + least(second, 268435455)
-}
-
-fn least(a: usize, b: u64) -> u64
-    ensures { λ r. ⌜ r ≡ min a b ⌝ }
-{
-    let n = a as u64;
-    if n < b { n } else { b }
+    answers::printed(separated::print_separated(book, token, mode, records, pool, out))
 }

@@ -1,14 +1,10 @@
 -- `is_due` answers `follows`, by what is chosen at the token. Assumes nothing.
 use mathlib.Core.Path.{sym, _∙_}
 use Rattle.cutting.proofs.Held.{held-empty}
-use Rattle.spacing.proofs.Putting.{due-last, due-always, due-more, due-no}
+use Rattle.spacing.proofs.Due.{due-last, due-always, due-more, due-no}
 use borrow.Author.Needs.{needs}
 use Rattle.spacing.proofs.is_due.Statement.{statement}
 use Rattle.spacing.proofs.is_due.Tie as tie
-use Rattle.spacing.proofs.is_due.Reads as reads
-use Rattle.spacing.proofs.is_due.Lts as lts
-use Rattle.cutting.proofs.choose_at.Reads as choose-at-reads
-use Rattle.spacing.proofs.meaning_of.Reads as meaning-of-reads
 
 returns : tie.Need-returns
 returns c = λ rs h t us a. due-last _ a (c .if1 .taken)

@@ -1,9 +1,7 @@
 -- `meaning_of` answers `meaning`. Assumes nothing.
-use Rattle.spacing.proofs.Putting.{meaning-zero, meaning-other}
+use Rattle.spacing.proofs.Due.{meaning-zero, meaning-other}
 use Rattle.spacing.proofs.meaning_of.Statement.{statement}
 use Rattle.spacing.proofs.meaning_of.Tie as tie
-use Rattle.spacing.proofs.meaning_of.Reads as reads
-use Rattle.spacing.proofs.meaning_of.Lts as lts
 
 returns : tie.Need-returns
 returns c = meaning-zero _ (c .if1 .taken)

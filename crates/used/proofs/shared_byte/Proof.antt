@@ -1,14 +1,10 @@
 -- `shared_byte` answers the lowest byte of both kinds. Assumes nothing.
 use mathlib.Core.Path.{ap, _∙_}
-use Rattle.used.specs.Marks.{mark, lowestOf}
+use Rattle.byteset.specs.Marks.{mark, lowestOf}
 use Rattle.used.proofs.Gathering.{shared-lowest}
 use borrow.Author.Needs.{needs}
 use Rattle.used.proofs.shared_byte.Statement.{statement}
 use Rattle.used.proofs.shared_byte.Tie as tie
-use Rattle.used.proofs.shared_byte.Reads as reads
-use Rattle.used.proofs.shared_byte.Lts as lts
-use Rattle.used.proofs.bytes.ByteSet.lowest_common.Reads as lowest-common-reads
-use Rattle.used.proofs.used_by_kind.Reads as used-by-kind-reads
 
 used-by-kind-requires : tie.Need-used-by-kind-requires
 used-by-kind-requires c κs = search needs

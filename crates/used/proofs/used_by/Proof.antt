@@ -9,10 +9,6 @@ use Rattle.automaton.proofs.Walks.{header-error}
 use Rattle.used.proofs.Gathering.{Gathered, gathered-start, gathered-next, gathered-end}
 use Rattle.used.proofs.used_by.Statement.{statement}
 use Rattle.used.proofs.used_by.Tie as tie
-use Rattle.used.proofs.used_by.Reads as reads
-use Rattle.used.proofs.used_by.Lts as lts
-use Rattle.used.proofs.bytes.ByteSet.empty.Reads as empty-reads
-use Rattle.used.proofs.with_chain.Reads as with-chain-reads
 
 abbrev Inv-loop : tie.InvT-loop
 Inv-loop headers states edges rule error base set₀ s₀ set s = (s ≤ 256) × ((m : Rule) → Table headers states edges rule m → Gathered m s (set .marks))

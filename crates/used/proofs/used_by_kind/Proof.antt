@@ -13,12 +13,6 @@ use Rattle.cutting.proofs.Held.{table-at}
 use Rattle.used.proofs.Gathering.{Kinds, kinds-start, kinds-join, kinds-pass, kinds-end}
 use Rattle.used.proofs.used_by_kind.Statement.{statement}
 use Rattle.used.proofs.used_by_kind.Tie as tie
-use Rattle.used.proofs.used_by_kind.Reads as reads
-use Rattle.used.proofs.used_by_kind.Lts as lts
-use Rattle.automaton.proofs.kind_of.Reads as kind-of-reads
-use Rattle.used.proofs.bytes.ByteSet.empty.Reads as empty-reads
-use Rattle.used.proofs.bytes.ByteSet.joined.Reads as joined-reads
-use Rattle.used.proofs.used_by.Reads as used-by-reads
 
 abbrev Inv-loop : tie.InvT-loop
 Inv-loop headers states edges rules kind set₀ next₀ set next = (next ≤ rules) × ((rs : List Rule) → Holds headers states edges rules rs → Kinds rs kind next (set .marks))

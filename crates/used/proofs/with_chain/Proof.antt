@@ -5,9 +5,6 @@ use Rattle.automaton.proofs.Chains.{At}
 use Rattle.used.proofs.Gathering.{Gathering, gathering-start, gathering-at, gathering-pass, gathering-mark, gathering-end}
 use Rattle.used.proofs.with_chain.Statement.{statement}
 use Rattle.used.proofs.with_chain.Tie as tie
-use Rattle.used.proofs.with_chain.Reads as reads
-use Rattle.used.proofs.with_chain.Lts as lts
-use Rattle.used.proofs.bytes.ByteSet.with_range.Reads as with-range-reads
 
 abbrev Inv-loop : tie.InvT-loop
 Inv-loop edges head error marked₀ h₀ marked h = Gathering edges head h error (marked₀ .marks) (marked .marks)

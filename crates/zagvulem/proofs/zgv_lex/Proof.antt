@@ -1,12 +1,8 @@
 use mathlib.Core.Path.{_≡_, sym, _∙_, ap}
-use Rattle.zagvulem.specs.Words.{lexWord}
+use Rattle.answers.specs.Words.{lexWord}
 use borrow.Author.Needs.{needs}
 use Rattle.zagvulem.proofs.zgv_lex.Statement.{statement}
 use Rattle.zagvulem.proofs.zgv_lex.Tie as tie
-use Rattle.zagvulem.proofs.zgv_lex.Reads as reads
-use Rattle.zagvulem.proofs.zgv_lex.Lts as lts
-use Rattle.lexer.proofs.lex.Reads as lex-reads
-use Rattle.zagvulem.proofs.lexed.Reads as lexed-reads
 
 lex-requires : tie.Need-lex-requires
 lex-requires c κs = search needs

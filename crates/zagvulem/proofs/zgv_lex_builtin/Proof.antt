@@ -1,12 +1,8 @@
 use mathlib.Core.Path.{_≡_, sym, _∙_, ap}
-use Rattle.zagvulem.specs.Words.{lexWord}
+use Rattle.answers.specs.Words.{lexWord}
 use borrow.Author.Needs.{needs}
 use Rattle.zagvulem.proofs.zgv_lex_builtin.Statement.{statement}
 use Rattle.zagvulem.proofs.zgv_lex_builtin.Tie as tie
-use Rattle.zagvulem.proofs.zgv_lex_builtin.Reads as reads
-use Rattle.zagvulem.proofs.zgv_lex_builtin.Lts as lts
-use Rattle.builtin.proofs.lex_builtin.Reads as lex-builtin-reads
-use Rattle.zagvulem.proofs.lexed.Reads as lexed-reads
 
 lex-builtin-requires : tie.Need-lex-builtin-requires
 lex-builtin-requires c κs = search needs

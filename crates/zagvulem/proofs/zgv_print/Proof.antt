@@ -1,12 +1,8 @@
 use mathlib.Core.Path.{_≡_, sym, _∙_, ap}
-use Rattle.zagvulem.specs.Words.{printWord}
+use Rattle.answers.specs.Words.{printWord}
 use borrow.Author.Needs.{needs}
 use Rattle.zagvulem.proofs.zgv_print.Statement.{statement}
 use Rattle.zagvulem.proofs.zgv_print.Tie as tie
-use Rattle.zagvulem.proofs.zgv_print.Reads as reads
-use Rattle.zagvulem.proofs.zgv_print.Lts as lts
-use Rattle.printer.proofs.print.Reads as print-reads
-use Rattle.zagvulem.proofs.printed.Reads as printed-reads
 
 print-requires : tie.Need-print-requires
 print-requires c κs = search needs

@@ -1,12 +1,8 @@
 use mathlib.Core.Path.{_≡_, sym, _∙_, ap}
-use Rattle.zagvulem.specs.Words.{printWord}
+use Rattle.answers.specs.Words.{printWord}
 use borrow.Author.Needs.{needs}
 use Rattle.zagvulem.proofs.zgv_print_separated.Statement.{statement}
 use Rattle.zagvulem.proofs.zgv_print_separated.Tie as tie
-use Rattle.zagvulem.proofs.zgv_print_separated.Reads as reads
-use Rattle.zagvulem.proofs.zgv_print_separated.Lts as lts
-use Rattle.separated.proofs.print_separated.Reads as print-separated-reads
-use Rattle.zagvulem.proofs.printed.Reads as printed-reads
 
 print-separated-requires : tie.Need-print-separated-requires
 print-separated-requires c κs = search needs

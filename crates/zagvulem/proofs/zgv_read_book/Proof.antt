@@ -1,13 +1,8 @@
 use mathlib.Core.Path.{_≡_, sym, _∙_, ap}
-use Rattle.zagvulem.specs.Words.{bookWord}
+use Rattle.answers.specs.Words.{bookWord}
 use borrow.Author.Needs.{needs}
 use Rattle.zagvulem.proofs.zgv_read_book.Statement.{statement}
 use Rattle.zagvulem.proofs.zgv_read_book.Tie as tie
-use Rattle.zagvulem.proofs.zgv_read_book.Reads as reads
-use Rattle.zagvulem.proofs.zgv_read_book.Lts as lts
-use Rattle.book.proofs.read.Reads as read-reads
-use Rattle.zagvulem.proofs.accepted.Reads as accepted-reads
-use Rattle.zagvulem.proofs.refused.Reads as refused-reads
 
 read-requires : tie.Need-read-requires
 read-requires c κs = search needs

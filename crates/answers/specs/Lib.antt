@@ -1,0 +1,2 @@
+-- The words that the C interface answers.
+pub mod Words

@@ -1,0 +1,2 @@
+-- What a set of bytes says.
+pub mod Marks

@@ -1,0 +1,3 @@
+-- Numbers in decimal, and what writing puts where.
+pub mod Decimal
+pub mod Putting

@@ -1,0 +1,2 @@
+-- The lines of tokens.
+pub mod Lines

@@ -1,0 +1,2 @@
+-- What the code asks.
+pub mod Answers
