@@ -1,6 +1,5 @@
 // Runs the book reader over the cases of standard input, the examples and edges of document 01, and prints what it answers, a
 // line for each book.
-ghost use Prim.Native.Nat.{_<_};
 use book::BookAnswer;
 use libc::STDIN_FILENO;
 use libc::STDOUT_FILENO;
@@ -11,12 +10,18 @@ fn main() {
 }
 
 fn run(room: &mut [u8; 40000]) {
-    cases(room);
+    let text = read(room);
+    cases(room, text);
 }
 
-// The text is read to the front of `room`; the books are made behind it, one after the other in one place.
-fn cases(room: &mut [u8]) {
+// Reads standard input to the front of `room` and ends its last line; where the text ends.
+fn read(room: &mut [u8]) -> usize {
     let text = io::read_full(STDIN_FILENO, room);
+    put(room, text, b'\n')
+}
+
+// The books are made behind the text, each in the place of the one before, which ends at `book`.
+fn cases(room: &mut [u8], text: usize) {
     let mut start = 0;
     let mut book = text;
     let mut i = 0;
@@ -27,46 +32,25 @@ fn cases(room: &mut [u8]) {
             start = i;
         }
     }
-    line(room, start, text, text, book);
 }
 
-// The line at start..end; the last book made so far lies at text..book. Where the last book ends now.
+// Answers where the last book ends, 0 where the line has none.
 fn line(room: &mut [u8], start: usize, end: usize, text: usize, book: usize) -> usize {
-    if start == end || get(room, start) == b'#' {
+    let first = get(room, start);
+    if first == b'#' || first == b'\n' {
         return book;
     }
     let mark = find_mark(room, start, end);
-    if start < mark {
-        if mark < end {
-            write_part(room, start, mark - 1);
-            let to = make(room, mark, end, text, book);
-            answer(room, text, to);
-            return to;
-        }
-    }
-    write_part(room, start, end);
-    no_case();
-    0
+    write_part(room, start, mark);
+    let to = make(room, mark, end, text, book);
+    answer(room, text, to);
+    to
 }
 
-// The book that a line has behind its mark.
-fn make(room: &mut [u8], mark: usize, end: usize, text: usize, book: usize) -> usize
-    requires { ⌜ mark < end ⌝ }
-{
-    match get(room, mark) {
-        b'=' => decode(room, mark + 1, end, text),
-        b'+' => decode(room, mark + 1, end, book),
-        _ => {
-            let to = decode(room, mark + 1, end, text);
-            repeat(room, text, to)
-        }
-    }
-}
-
-// The first place of a mark, or `end`.
+// The place before the first mark, or `end`.
 fn find_mark(room: &[u8], start: usize, end: usize) -> usize {
     for i in start..end {
-        if is_mark(get(room, i)) {
+        if is_mark(get(room, i + 1)) {
             return i;
         }
     }
@@ -77,12 +61,27 @@ fn is_mark(byte: u8) -> bool {
     byte == b'=' || byte == b'+' || byte == b'*'
 }
 
-// Stores from `to` on the bytes that stand in a line as a blank and two hexadecimal digits each; where they end, or 0 where
-// other characters stand there.
-fn decode(room: &mut [u8], from: usize, end: usize, book: usize) -> usize {
+// The book of a line.
+fn make(room: &mut [u8], mark: usize, end: usize, text: usize, book: usize) -> usize {
+    if mark >= end {
+        return 0;
+    }
+    let at = mark + 1;
+    let kind = get(room, at);
+    let to = decode(room, at, end, if kind == b'+' { book } else { text });
+    if kind == b'*' {
+        repeat(room, text, to)
+    } else {
+        to
+    }
+}
+
+// Stores from `book` on the bytes that stand behind a mark as a blank and two hexadecimal digits each; where they end, or 0
+// where other characters stand there.
+fn decode(room: &mut [u8], mark: usize, end: usize, book: usize) -> usize {
     let mut to = book;
-    let mut digits = 0;
-    let mut i = from;
+    let mut digits = MARK;
+    let mut i = mark;
     while i < end {
         digits = next_digits(digits, get(room, i));
         i += 1;
@@ -94,12 +93,18 @@ fn decode(room: &mut [u8], from: usize, end: usize, book: usize) -> usize {
     if digits == 0 { to } else { 0 }
 }
 
-// The digits of a byte behind a 1: 1 after the blank, 1h after a digit, 1hh after both. OTHER once another character came.
+// The digits of a byte behind a 1: 1 after the blank, 1h after a digit, 1hh after both.
 const BYTE: u16 = 256;
 
+// Once a character came that cannot stand there.
 const OTHER: u16 = 32;
 
+const MARK: u16 = 33;
+
 fn next_digits(digits: u16, byte: u8) -> u16 {
+    if digits == MARK {
+        return 0;
+    }
     if digits == 0 {
         return if byte == b' ' { 1 } else { OTHER };
     }
@@ -130,20 +135,16 @@ fn repeat(room: &mut [u8], text: usize, to: usize) -> usize {
         return 0;
     }
     let command = get(room, text);
-    let count = number(get(room, text + 1), get(room, text + 2));
-    fill(room, text, command, book_size(command, count))
+    let size = book_size(command, get(room, text + 1), get(room, text + 2));
+    fill(room, text, command, size)
 }
 
-fn number(high: u8, low: u8) -> u32 {
-    high as u32 * 256 + low as u32
-}
-
-fn book_size(command: u8, count: u32) -> u64 {
-    let n = count as u64;
+fn book_size(command: u8, high: u8, low: u8) -> u64 {
+    let count = high as u64 * 256 + low as u64;
     match command {
-        1 => 9 * n + 1,
-        5 => 10 + 4 * n,
-        _ => 10 + 2 * n,
+        1 => 9 * count + 1,
+        5 => 4 * count + 10,
+        _ => 2 * count + 10,
     }
 }
 
@@ -157,11 +158,17 @@ fn fill(room: &mut [u8], text: usize, command: u8, size: u64) -> usize {
 
 // The byte with `i` before it and `left` from it on.
 fn book_byte(command: u8, i: u64, left: u64) -> u8 {
-    if left < 3 {
-        return if left == 2 { 7 } else { 8 };
+    if left == 1 {
+        return 8;
     }
-    if i < 8 || command == 1 {
-        return rule_byte(i % 9, (i / 9 % 64) as u8 + 1);
+    if left == 2 {
+        return 7;
+    }
+    if command == 1 {
+        return rule_byte(i % 9, i / 9);
+    }
+    if i < 8 {
+        return rule_byte(i, 0);
     }
     if command == 5 {
         return step_byte(i - 8);
@@ -169,11 +176,11 @@ fn book_byte(command: u8, i: u64, left: u64) -> u8 {
     if i % 2 == 0 { command } else { 1 }
 }
 
-// RULE with this tag, START 0, ERROR 9, CLOSE.
-fn rule_byte(i: u64, tag: u8) -> u8 {
+// RULE number `rule`, START 0, ERROR 9, CLOSE.
+fn rule_byte(i: u64, rule: u64) -> u8 {
     match i {
         0 => 1,
-        2 => tag,
+        2 => (rule % 64) as u8 + 1,
         4 => 2,
         6 => 3,
         7 => 9,
@@ -216,20 +223,15 @@ fn answer(room: &[u8], from: usize, to: usize) {
     if from <= to && to <= room.len() {
         print(book::read(&room[from..to]));
     } else {
-        no_case();
+        io::write_all(STDOUT_FILENO, b": not a case\n");
     }
-}
-
-fn no_case() {
-    io::write_all(STDOUT_FILENO, b": not a case\n");
 }
 
 fn print(answer: BookAnswer) {
     match answer {
         BookAnswer::Accepted(rules) => print_number(b": accepted ", rules as u64),
         BookAnswer::Refused(refusal) => {
-            io::write_all(STDOUT_FILENO, b": refused ");
-            io::print_decimal(STDOUT_FILENO, refusal.number as u64);
+            print_number(b": refused ", refusal.number as u64);
             print_number(b" ", refusal.place as u64);
         }
     }

@@ -9,7 +9,6 @@ use Rattle.book_cases.proofs.cases.Reads as reads
 use Rattle.book_cases.proofs.cases.Lts as lts
 use Rattle.book_cases.proofs.get.Reads as get-reads
 use Rattle.book_cases.proofs.line.Reads as line-reads
-use Rattle.io.proofs.read_full.Reads as read-full-reads
 
 abbrev Inv-loop : tie.InvT-loop
 Inv-loop room₀ text start₀ book₀ i₀ room start book i = length room ≡ length room₀
@@ -17,11 +16,8 @@ Inv-loop room₀ text start₀ book₀ i₀ room start book i = length room ≡ 
 abbrev μ-loop : tie.MeasureT-loop
 μ-loop room₀ text start₀ book₀ i₀ room start book i = text - i
 
-read-full-requires : tie.Need-read-full-requires Inv-loop μ-loop
-read-full-requires c κs = search needs
-
 loop-holds : tie.Need-loop-holds Inv-loop μ-loop
-loop-holds c = search needs
+loop-holds c = refl
 
 add-i : tie.Need-add-i Inv-loop μ-loop
 add-i c = search needs
@@ -50,9 +46,6 @@ loop-less-2 c = search needs
 loop-again-2 : tie.Need-loop-again-2 Inv-loop μ-loop
 loop-again-2 c = search needs
 
-line-requires-2 : tie.Need-line-requires-2 Inv-loop μ-loop
-line-requires-2 c κs = search needs
-
 same-length : tie.Need-same-length Inv-loop μ-loop
 same-length c = search needs
 
@@ -65,7 +58,6 @@ cases-spec =
     (tie.spec
     Inv-loop
     μ-loop
-    read-full-requires
     loop-holds
     add-i
     sub-get
@@ -76,6 +68,5 @@ cases-spec =
     loop-again
     loop-less-2
     loop-again-2
-    line-requires-2
     same-length
     returns)

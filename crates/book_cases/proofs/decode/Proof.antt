@@ -12,10 +12,10 @@ use Rattle.book_cases.proofs.next_digits.Reads as next-digits-reads
 use Rattle.book_cases.proofs.put.Reads as put-reads
 
 abbrev Inv-loop : tie.InvT-loop
-Inv-loop room₀ from end book to₀ digits₀ i₀ room to digits i = length room ≡ length room₀
+Inv-loop room₀ mark end book to₀ digits₀ i₀ room to digits i = length room ≡ length room₀
 
 abbrev μ-loop : tie.MeasureT-loop
-μ-loop room₀ from end book to₀ digits₀ i₀ room to digits i = end - i
+μ-loop room₀ mark end book to₀ digits₀ i₀ room to digits i = end - i
 
 loop-holds : tie.Need-loop-holds Inv-loop μ-loop
 loop-holds c = refl

@@ -1,5 +1,5 @@
-use mathlib.Core.Path.{_≡_, refl, sym, _∙_}
-use Prim.Native.Nat.{ℕ, _-_, _<_, _≤_}
+use mathlib.Core.Path.{_≡_, refl, _∙_}
+use Prim.Native.Nat.{_-_}
 use native.Mathlib.Omega.{arith}
 use lib.ListN.{length}
 use borrow.Author.Needs.{needs}
@@ -11,13 +11,16 @@ use Rattle.book_cases.proofs.get.Reads as get-reads
 use Rattle.book_cases.proofs.is_mark.Reads as is-mark-reads
 
 abbrev Inv-loop : tie.InvT-loop
-Inv-loop room start end i₀ i = i ≤ i
+Inv-loop room start end i₀ i = i ≡ i
 
 abbrev μ-loop : tie.MeasureT-loop
 μ-loop room start end i₀ i = end - i
 
 loop-holds : tie.Need-loop-holds Inv-loop μ-loop
-loop-holds c = omega arith
+loop-holds c = refl
+
+add-get : tie.Need-add-get Inv-loop μ-loop
+add-get c = search needs
 
 get-requires : tie.Need-get-requires Inv-loop μ-loop
 get-requires c κs = search needs
@@ -35,7 +38,7 @@ loop-less : tie.Need-loop-less Inv-loop μ-loop
 loop-less c = search needs
 
 loop-again : tie.Need-loop-again Inv-loop μ-loop
-loop-again c = omega arith
+loop-again c = refl
 
 returns-2 : tie.Need-returns-2 Inv-loop μ-loop
 returns-2 c = search needs
@@ -47,6 +50,7 @@ find-mark-spec =
     Inv-loop
     μ-loop
     loop-holds
+    add-get
     get-requires
     is-mark-requires
     returns
