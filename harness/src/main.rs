@@ -1,6 +1,6 @@
 //! Compares libzagvulem.a with a second implementation of document 01: answers, places and every byte of every lent buffer.
 //!
-//! harness [--cases N] [--seed S] [--case K] [--plant FAULT] [--verbose]
+//! harness [--cases N] [--seed S] [--case K] [--plant FAULT] [--threads N] [--verbose]
 
 mod calls;
 mod edges;
@@ -18,23 +18,26 @@ use library::{Against, Library};
 use plant::Fault;
 use random::Random;
 use std::collections::{BTreeMap, BTreeSet};
+use std::sync::Mutex;
 
 struct Options {
     cases: u64,
     seed: u64,
     only: Option<u64>,
     plant: Option<Fault>,
+    threads: u64,
     verbose: bool,
 }
 
 fn usage() -> ! {
-    eprintln!("usage: harness [--cases N] [--seed S] [--case K] [--plant FAULT] [--verbose]");
+    eprintln!("usage: harness [--cases N] [--seed S] [--case K] [--plant FAULT] [--threads N] [--verbose]");
     eprintln!("faults: {}", plant::FAULTS.iter().map(|f| f.name()).collect::<Vec<_>>().join(", "));
     std::process::exit(2)
 }
 
 fn options() -> Options {
-    let mut options = Options { cases: 20_000, seed: 1, only: None, plant: None, verbose: false };
+    let threads = std::thread::available_parallelism().map_or(1, |n| n.get() as u64);
+    let mut options = Options { cases: 20_000, seed: 1, only: None, plant: None, threads, verbose: false };
     let mut words = std::env::args().skip(1);
     while let Some(word) = words.next() {
         let mut number = || words.next().and_then(|n| n.parse().ok()).unwrap_or_else(|| usage());
@@ -46,6 +49,7 @@ fn options() -> Options {
                 let name = words.next().unwrap_or_else(|| usage());
                 options.plant = Some(Fault::of(&name).unwrap_or_else(|| usage()));
             }
+            "--threads" => options.threads = number(),
             "--verbose" => options.verbose = true,
             _ => usage(),
         }
@@ -60,35 +64,35 @@ struct Run {
     library: Library,
     plant: Option<Fault>,
     met: Met,
-    calls: u64,
 }
 
 impl Run {
-    fn case(&mut self, seed: u64, case: u64) {
-        for call in generate::case(&mut Random::of(seed, case)) {
-            self.compare(&format!("case {case} of seed {seed}"), &call);
-        }
+    fn new(plant: Option<Fault>) -> Run {
+        Run { library: Library::new(), plant, met: Met::new() }
     }
 
-    /// Compares one call; a difference ends the program with a reproduction.
-    fn compare(&mut self, what: &str, call: &Call) {
+    fn case(&mut self, seed: u64, case: u64) -> Result<(), String> {
+        let calls = generate::case(&mut Random::of(seed, case));
+        calls.iter().try_for_each(|call| self.compare(&format!("case {case} of seed {seed}"), call))
+    }
+
+    /// Compares one call; of a difference, what is printed, with a reproduction.
+    fn compare(&mut self, what: &str, call: &Call) -> Result<(), String> {
         let second = calls::expected(call);
         for against in [Against::Front, Against::Back] {
             if let Some(difference) = self.difference(call, against, &second) {
-                println!("DIFFERENCE in {what}: {difference}");
                 let small = report::shrink(call, |c| self.difference(c, against, &calls::expected(c)).is_some());
                 let ours = plant::run(self.plant, &mut self.library, &small, against);
-                println!("{}", report::reproduction(&small, &ours, &calls::expected(&small)));
-                std::process::exit(1);
+                let reproduction = report::reproduction(&small, &ours, &calls::expected(&small));
+                return Err(format!("DIFFERENCE in {what}: {difference}\n{reproduction}"));
             }
         }
         if let Some(difference) = round_trip::broken(&mut self.library, call) {
-            println!("ROUND TRIP in {what}: {difference}");
-            println!("{}", report::reproduction(call, &Ok(second.clone()), &second));
-            std::process::exit(1);
+            let reproduction = report::reproduction(call, &Ok(second.clone()), &second);
+            return Err(format!("ROUND TRIP in {what}: {difference}\n{reproduction}"));
         }
-        self.calls += 1;
         *self.met.entry((call.operation, Answer(second.answer).number())).or_default() += 1;
+        Ok(())
     }
 
     fn difference(&mut self, call: &Call, against: Against, second: &Outcome) -> Option<String> {
@@ -136,37 +140,114 @@ fn never_met(met: &Met) -> Vec<String> {
     missing
 }
 
+/// The random cases, then the edges, each by its number, for as many threads as take them.
+struct Work<'a> {
+    options: &'a Options,
+    edges: &'a [(String, Call)],
+    state: Mutex<State>,
+}
+
+#[derive(Default)]
+struct State {
+    next: u64,
+    running: BTreeSet<u64>,
+    /// The least number with a difference so far, and what is printed of it.
+    first: Option<(u64, String)>,
+}
+
+impl Work<'_> {
+    fn run(&self) -> Met {
+        let mut run = Run::new(self.options.plant);
+        while let Some(number) = self.take() {
+            let result = self.one(&mut run, number);
+            self.done(number, result);
+        }
+        run.met
+    }
+
+    /// The next number; none where there is no more or one before it has a difference.
+    fn take(&self) -> Option<u64> {
+        let mut state = self.state.lock().unwrap();
+        let number = state.next;
+        if state.first.is_some() || number >= self.options.cases + self.edges.len() as u64 {
+            return None;
+        }
+        state.next += 1;
+        state.running.insert(number);
+        Some(number)
+    }
+
+    /// Ends the program once a number has a difference and every one before it has none, so that the same difference is
+    /// reported whatever the number of threads.
+    fn done(&self, number: u64, result: Result<(), String>) {
+        let mut state = self.state.lock().unwrap();
+        state.running.remove(&number);
+        if let Err(difference) = result {
+            if state.first.as_ref().is_none_or(|(n, _)| number < *n) {
+                state.first = Some((number, difference));
+            }
+        }
+        if let Some((n, difference)) = &state.first {
+            if state.running.range(..n).next().is_none() {
+                differs(difference);
+            }
+        }
+    }
+
+    fn one(&self, run: &mut Run, number: u64) -> Result<(), String> {
+        let Options { cases, seed, verbose, .. } = *self.options;
+        if number < cases {
+            if verbose {
+                eprintln!("case {number}");
+            }
+            return run.case(seed, number);
+        }
+        let (name, call) = &self.edges[(number - cases) as usize];
+        if verbose {
+            eprintln!("{name}");
+        }
+        run.compare(name, call)
+    }
+}
+
+/// As large as that of a main thread.
+const STACK: usize = 8 << 20;
+
+fn differs(difference: &str) -> ! {
+    println!("{difference}");
+    std::process::exit(1)
+}
+
 fn main() {
     let options = options();
-    let mut run = Run { library: Library::new(), plant: options.plant, met: Met::new(), calls: 0 };
     if let Some(case) = options.only {
-        run.case(options.seed, case);
+        if let Err(difference) = Run::new(options.plant).case(options.seed, case) {
+            differs(&difference);
+        }
         println!("case {case} of seed {}: no difference", options.seed);
         return;
     }
-    let wrong = if options.plant.is_none() { examples::run(&mut run.library) } else { 0 };
+    let wrong = if options.plant.is_none() { examples::run(&mut Library::new()) } else { 0 };
     // random cases first: a difference among them is smaller than one at an edge
-    for case in 0..options.cases {
-        if options.verbose {
-            eprintln!("case {case}");
-        }
-        run.case(options.seed, case);
-    }
     let edges = edges::calls();
-    for (name, call) in &edges {
-        if options.verbose {
-            eprintln!("{name}");
-        }
-        run.compare(name, call);
+    let work = Work { options: &options, edges: &edges, state: Mutex::default() };
+    let each: Vec<Met> = std::thread::scope(|scope| {
+        let spawn = |_| std::thread::Builder::new().stack_size(STACK).spawn_scoped(scope, || work.run()).unwrap();
+        let started: Vec<_> = (0..options.threads).map(spawn).collect();
+        started.into_iter().map(|thread| thread.join().unwrap()).collect()
+    });
+    let mut met = Met::new();
+    for (answer, count) in each.into_iter().flatten() {
+        *met.entry(answer).or_default() += count;
     }
-    let missing = never_met(&run.met);
-    let numbers: BTreeSet<u8> = run.met.keys().map(|(_, n)| *n).filter(|n| *n > 0).collect();
+    let missing = never_met(&met);
+    let numbers: BTreeSet<u8> = met.keys().map(|(_, n)| *n).filter(|n| *n > 0).collect();
     println!(
         "seed {}: {} cases, {} edges, {} calls, {} refusal numbers met, {wrong} examples wrong, no difference",
         options.seed,
         options.cases,
         edges.len(),
-        run.calls,
+        met.values().sum::<u64>(),
         numbers.len()
     );
     if !missing.is_empty() {

@@ -1,211 +1,207 @@
-// Runs the book reader over the examples and edges of document 01 and prints what it answers, a line for each book.
+// Runs the book reader over the cases of standard input, the examples and edges of document 01, and prints what it answers, a
+// line for each book.
 use book::BookAnswer;
+use libc::STDIN_FILENO;
 use libc::STDOUT_FILENO;
 
 fn main() {
-    accepted_books();
-    cut_short();
-    misplaced();
-    out_of_range();
-    twice_or_missing();
-    refused_at_close();
-    first_of_two();
-    first_of_two_at_close();
     let mut room = [0u8; 40000];
-    large_books(&mut room);
+    run(&mut room);
 }
 
-// Accepted.
-fn accepted_books() {
-    show(
-        b"one rule, tag 1, matches a",
-        b"\x01\x00\x01\x00\x02\x00\x03\x02\x04\x01\x05\x00\x61\x01\x07\x08",
-    );
-    show(
-        b"the start is the error state",
-        b"\x01\x00\x01\x00\x02\x00\x03\x00\x04\x01\x07\x08",
-    );
-    show(
-        b"commands in another order, FINAL repeated",
-        b"\x01\x00\x01\x01\x04\x01\x06\x00\x61\x7a\x01\x04\x01\x03\x02\x02\x00\x07\x08",
-    );
-    show(
-        b"two spans side by side",
-        b"\x01\x00\x01\x00\x02\x00\x03\x02\x06\x00\x61\x62\x01\x06\x00\x63\x64\x01\x07\x08",
-    );
-    show(
-        b"one byte from two states",
-        b"\x01\x00\x01\x00\x02\x00\x03\x02\x05\x00\x61\x01\x05\x01\x61\x01\x07\x08",
-    );
+fn run(room: &mut [u8; 40000]) {
+    let text = read(room);
+    cases(room, text);
 }
 
-// 2.
-fn cut_short() {
-    show(b"the empty book", b"");
-    show(b"stops in a rule", b"\x01\x00\x01\x00\x02\x00");
-    show(
-        b"stops between rules",
-        b"\x01\x00\x01\x00\x02\x00\x03\x02\x07",
-    );
-    show(b"2 RULE without its kind", b"\x01\x00\x01");
-    show(
-        b"2 STEP without its target",
-        b"\x01\x00\x01\x00\x05\x00\x61",
-    );
+// Reads standard input to the front of `room` and ends its last line; where the text ends.
+fn read(room: &mut [u8]) -> usize {
+    let text = io::read_full(STDIN_FILENO, room);
+    put(room, text, b'\n')
 }
 
-// 3 and 4.
-fn misplaced() {
-    show(b"3 no command", b"\x00");
-    show(b"3 no command in a rule", b"\x01\x00\x01\x00\x09");
-    show(b"3 START outside", b"\x02\x00");
-    show(b"3 RULE inside", b"\x01\x00\x01\x00\x01\x00\x02\x00");
-    show(b"3 END inside", b"\x01\x00\x01\x00\x08");
-    show(
-        b"4 a byte after END",
-        b"\x01\x00\x01\x00\x02\x00\x03\x02\x07\x08\x00",
-    );
-}
-
-// 6 and 7.
-fn out_of_range() {
-    show(b"6 tag 0", b"\x01\x00\x00\x00");
-    show(b"6 kind 2", b"\x01\x00\x01\x02");
-    show(b"6 low above high", b"\x01\x00\x01\x00\x06\x00\x62\x61\x01");
-    show(
-        b"7 tag 1 twice",
-        b"\x01\x00\x01\x00\x02\x00\x03\x02\x07\x01\x00\x01\x00",
-    );
-}
-
-// 8 and 13.
-fn twice_or_missing() {
-    show(b"8 START twice", b"\x01\x00\x01\x00\x02\x00\x02\x00");
-    show(b"8 ERROR twice", b"\x01\x00\x01\x00\x03\x00\x03\x01");
-    show(b"8 no START", b"\x01\x00\x01\x00\x03\x02\x07\x08");
-    show(b"8 no ERROR", b"\x01\x00\x01\x00\x02\x00\x07\x08");
-    show(b"13 no rule", b"\x08");
-}
-
-// 9 to 12.
-fn refused_at_close() {
-    show(
-        b"9 two spans share b",
-        b"\x01\x00\x01\x00\x02\x00\x03\x02\x06\x00\x61\x62\x01\x06\x00\x62\x63\x01\x07\x08",
-    );
-    show(
-        b"9 a step inside a span",
-        b"\x01\x00\x01\x00\x02\x00\x03\x02\x06\x00\x61\x7a\x01\x05\x00\x6d\x01\x07\x08",
-    );
-    show(
-        b"10 a step from the error state",
-        b"\x01\x00\x01\x00\x02\x00\x03\x02\x05\x02\x61\x01\x07\x08",
-    );
-    show(
-        b"11 the error state is final",
-        b"\x01\x00\x01\x00\x02\x00\x03\x02\x04\x02\x07\x08",
-    );
-    show(
-        b"12 the start is final",
-        b"\x01\x00\x01\x00\x02\x00\x03\x02\x04\x00\x07\x08",
-    );
-}
-
-// Two faults in one command or book: the one that is listed or stands first.
-fn first_of_two() {
-    show(b"3 before 2: SPAN outside, cut off", b"\x06\x00");
-    show(b"2 before 6: tag 0 without a kind", b"\x01\x00\x00");
-    show(
-        b"6 before 7: kind 2 with a used tag",
-        b"\x01\x00\x01\x00\x02\x00\x03\x02\x07\x01\x00\x01\x02",
-    );
-    show(
-        b"the earlier command: 8 in a rule, then 4",
-        b"\x01\x00\x01\x00\x02\x00\x02\x00\x03\x01\x07\x08\x08",
-    );
-    show(b"13 before 4: no rule, bytes after END", b"\x08\x08");
-}
-
-// Two faults at CLOSE.
-fn first_of_two_at_close() {
-    show(
-        b"8 before 9: no START, an overlap",
-        b"\x01\x00\x01\x00\x03\x02\x05\x00\x61\x01\x05\x00\x61\x01\x07",
-    );
-    show(
-        b"9 before 10: an overlap at the error state",
-        b"\x01\x00\x01\x00\x02\x00\x03\x02\x05\x02\x61\x01\x05\x02\x61\x01\x07",
-    );
-    show(
-        b"10 before 11",
-        b"\x01\x00\x01\x00\x02\x00\x03\x02\x04\x02\x05\x02\x61\x01\x07",
-    );
-    show(
-        b"11 before 12: the error state is the start and final",
-        b"\x01\x00\x01\x00\x02\x00\x03\x00\x04\x00\x07",
-    );
-}
-
-fn large_books(room: &mut [u8; 40000]) {
-    books_at_the_limits(room);
-}
-
-// The limits.
-fn books_at_the_limits(room: &mut [u8]) {
-    show_long(b"32768 bytes", room, 16379, 32768);
-    show_long(b"1 32769 bytes", room, 16379, 32769);
-    show_rules(b"32 rules", room, 32);
-    show_rules(b"5 a 33rd rule", room, 33);
-    show_moves(b"512 moves", room, 512);
-    show_moves(b"5 a 513th move", room, 513);
-}
-
-// A rule with so many FINALs, and the first `size` bytes of the book.
-fn show_long(name: &[u8], room: &mut [u8], finals: usize, size: usize) {
-    let mut at = begin(room, 0, 1);
-    for _ in 0..finals {
-        at = put(room, at, 4);
-        at = put(room, at, 1);
+// The books are made behind the text, each in the place of the one before, which ends at `book`.
+fn cases(room: &mut [u8], text: usize) {
+    let mut start = 0;
+    let mut book = text;
+    let mut i = 0;
+    while i < text {
+        i += 1;
+        if get(room, i - 1) == b'\n' {
+            book = line(room, start, i - 1, text, book);
+            start = i;
+        }
     }
-    at = put(room, at, 7);
-    at = put(room, at, 8);
-    put(room, at, 0);
-    show_front(name, room, size);
 }
 
-fn show_rules(name: &[u8], room: &mut [u8], rules: u8) {
-    let mut at = 0;
-    for k in 0..rules {
-        at = begin(room, at, k % 64 + 1);
-        at = put(room, at, 7);
+// Answers where the last book ends, 0 where the line has none.
+fn line(room: &mut [u8], start: usize, end: usize, text: usize, book: usize) -> usize {
+    let first = get(room, start);
+    if first == b'#' || first == b'\n' {
+        return book;
     }
-    at = put(room, at, 8);
-    show_front(name, room, at);
+    let mark = find_mark(room, start, end);
+    write_part(room, start, mark);
+    let to = make(room, mark, end, text, book);
+    answer(room, text, to);
+    to
 }
 
-fn show_moves(name: &[u8], room: &mut [u8], moves: usize) {
-    let mut at = begin(room, 0, 1);
-    for i in 0..moves {
-        at = put(room, at, 5);
-        at = put(room, at, (i / 256 % 256) as u8);
-        at = put(room, at, (i % 256) as u8);
-        at = put(room, at, 1);
+// The place before the first mark, or `end`.
+fn find_mark(room: &[u8], start: usize, end: usize) -> usize {
+    for i in start..end {
+        if is_mark(get(room, i + 1)) {
+            return i;
+        }
     }
-    at = put(room, at, 7);
-    at = put(room, at, 8);
-    show_front(name, room, at);
+    end
 }
 
-// RULE with this tag, START 0, ERROR 9; the next place.
-fn begin(room: &mut [u8], at: usize, tag: u8) -> usize {
-    let mut next = put(room, at, 1);
-    next = put(room, next, 0);
-    next = put(room, next, tag);
-    next = put(room, next, 0);
-    next = put(room, next, 2);
-    next = put(room, next, 0);
-    next = put(room, next, 3);
-    put(room, next, 9)
+fn is_mark(byte: u8) -> bool {
+    byte == b'=' || byte == b'+' || byte == b'*'
+}
+
+// The book of a line.
+fn make(room: &mut [u8], mark: usize, end: usize, text: usize, book: usize) -> usize {
+    if mark >= end {
+        return 0;
+    }
+    let at = mark + 1;
+    let kind = get(room, at);
+    let to = decode(room, at, end, if kind == b'+' { book } else { text });
+    if kind == b'*' {
+        repeat(room, text, to)
+    } else {
+        to
+    }
+}
+
+// Stores from `book` on the bytes that stand behind a mark as a blank and two hexadecimal digits each; where they end, or 0
+// where other characters stand there.
+fn decode(room: &mut [u8], mark: usize, end: usize, book: usize) -> usize {
+    let mut to = book;
+    let mut digits = MARK;
+    let mut i = mark;
+    while i < end {
+        digits = next_digits(digits, get(room, i));
+        i += 1;
+        if digits >= BYTE {
+            to = put(room, to, (digits % 256) as u8);
+            digits = 0;
+        }
+    }
+    if digits == 0 { to } else { 0 }
+}
+
+// The digits of a byte behind a 1: 1 after the blank, 1h after a digit, 1hh after both.
+const BYTE: u16 = 256;
+
+// Once a character came that cannot stand there.
+const OTHER: u16 = 32;
+
+const MARK: u16 = 33;
+
+fn next_digits(digits: u16, byte: u8) -> u16 {
+    if digits == MARK {
+        return 0;
+    }
+    if digits == 0 {
+        return if byte == b' ' { 1 } else { OTHER };
+    }
+    if digits < OTHER {
+        let digit = hex_value(byte);
+        if digit < 16 {
+            return digits * 16 + digit;
+        }
+    }
+    OTHER
+}
+
+// 16 where it is no digit.
+fn hex_value(byte: u8) -> u16 {
+    match byte {
+        b'0'..=b'9' => (byte - b'0') as u16,
+        b'a'..=b'f' => (byte - b'a' + 10) as u16,
+        _ => 16,
+    }
+}
+
+// The book that the three bytes at text..to name, in their place; where it ends, or 0 where there are not three.
+fn repeat(room: &mut [u8], text: usize, to: usize) -> usize {
+    if to < text {
+        return 0;
+    }
+    if to - text != 3 {
+        return 0;
+    }
+    let command = get(room, text);
+    let size = book_size(command, get(room, text + 1), get(room, text + 2));
+    fill(room, text, command, size)
+}
+
+fn book_size(command: u8, high: u8, low: u8) -> u64 {
+    let count = high as u64 * 256 + low as u64;
+    match command {
+        1 => 9 * count + 1,
+        5 => 4 * count + 10,
+        _ => 2 * count + 10,
+    }
+}
+
+fn fill(room: &mut [u8], text: usize, command: u8, size: u64) -> usize {
+    let mut to = text;
+    for i in 0..size {
+        to = put(room, to, book_byte(command, i, size - i));
+    }
+    to
+}
+
+// The byte with `i` before it and `left` from it on.
+fn book_byte(command: u8, i: u64, left: u64) -> u8 {
+    if left == 1 {
+        return 8;
+    }
+    if left == 2 {
+        return 7;
+    }
+    if command == 1 {
+        return rule_byte(i % 9, i / 9);
+    }
+    if i < 8 {
+        return rule_byte(i, 0);
+    }
+    if command == 5 {
+        return step_byte(i - 8);
+    }
+    if i % 2 == 0 { command } else { 1 }
+}
+
+// RULE number `rule`, START 0, ERROR 9, CLOSE.
+fn rule_byte(i: u64, rule: u64) -> u8 {
+    match i {
+        0 => 1,
+        2 => (rule % 64) as u8 + 1,
+        4 => 2,
+        6 => 3,
+        7 => 9,
+        8 => 7,
+        _ => 0,
+    }
+}
+
+// STEPs on each byte from state 0, then from 1, and so on, to state 1.
+fn step_byte(i: u64) -> u8 {
+    match i % 4 {
+        0 => 5,
+        1 => (i / 1024 % 256) as u8,
+        2 => (i / 4 % 256) as u8,
+        _ => 1,
+    }
+}
+
+// A byte, or 0 behind the last.
+fn get(room: &[u8], at: usize) -> u8 {
+    if at < room.len() { room[at] } else { 0 }
 }
 
 // Stores a byte where there is room; the next place.
@@ -217,26 +213,32 @@ fn put(room: &mut [u8], at: usize, byte: u8) -> usize {
     at
 }
 
-fn show_front(name: &[u8], room: &[u8], size: usize) {
-    if size <= room.len() {
-        show(name, &room[..size]);
+fn write_part(room: &[u8], from: usize, to: usize) {
+    if from <= to && to <= room.len() {
+        io::write_all(STDOUT_FILENO, &room[from..to]);
     }
 }
 
-fn show(name: &[u8], book: &[u8]) {
-    io::write_all(STDOUT_FILENO, name);
-    match book::read(book) {
-        BookAnswer::Accepted(rules) => line(b": accepted ", rules as u64),
+fn answer(room: &[u8], from: usize, to: usize) {
+    if from <= to && to <= room.len() {
+        print(book::read(&room[from..to]));
+    } else {
+        io::write_all(STDOUT_FILENO, b": not a case\n");
+    }
+}
+
+fn print(answer: BookAnswer) {
+    match answer {
+        BookAnswer::Accepted(rules) => print_number(b": accepted ", rules as u64),
         BookAnswer::Refused(refusal) => {
-            io::write_all(STDOUT_FILENO, b": refused ");
-            io::print_decimal(STDOUT_FILENO, refusal.number as u64);
-            line(b" ", refusal.place as u64);
+            print_number(b": refused ", refusal.number as u64);
+            print_number(b" ", refusal.place as u64);
         }
     }
+    io::write_all(STDOUT_FILENO, b"\n");
 }
 
-fn line(before: &[u8], n: u64) {
+fn print_number(before: &[u8], n: u64) {
     io::write_all(STDOUT_FILENO, before);
     io::print_decimal(STDOUT_FILENO, n);
-    io::write_all(STDOUT_FILENO, b"\n");
 }

@@ -5,7 +5,10 @@ use mathlib.Core.List.{List, [], _∷_, _++_, append-assoc}
 use native.Mathlib.Omega.{arith}
 use native.Mathlib.Nat.{add-zero, add-assoc, div-add-mod', div-div-eq-div-mul}
 use native.Mathlib.Numerals.{add-one, add-two, add-three, add-four, add-five, add-six, add-seven, add-eight}
-use lib.ListN.{length, getD, take, drop, set, length-append}
+use lib.ListN.{length, getD, take, drop, set, length-set, length-append}
+use mir.Syntax.{w8, w64}
+use mir.Val.{Fits}
+use borrow.Author.Needs.{needs}
 use lib.Seq.{sets, sets-eq, take-append-seam, drop-append-add}
 use Rattle.automaton.specs.Rule.{Rule}
 use Rattle.cutting.specs.Lexer.{Token, lex, join}
@@ -20,6 +23,40 @@ pub stored : (l : List ℕ) (i a b c d e f g h j k : ℕ)
 stored l i a b c d e f g h j k =
     let nine : i + 9 ≡ suc (suc (suc (suc (suc (suc (suc (suc (suc i)))))))) = omega arith in
     rw (add-one, add-two, add-three, add-four, add-five, add-six, add-seven, add-eight, nine)
+
+-- each byte fits, and each place is within the list, after the stores before it too
+pub byte-fits : (n : ℕ) → Fits w8 (n % 256)
+byte-fits n = search needs
+
+pub place-fits : (n i k : ℕ) → i + 10 ≤ n → n < 18446744073709551616 → k ≤ 10 → Fits w64 (i + k)
+place-fits n i k h f l = omega arith
+
+pub room-1 : (l : List ℕ) (i a : ℕ) → i + 10 ≤ length l → i + 1 < length (set l i a)
+room-1 l i a p = simp length-set (omega arith)
+
+pub room-2 : (l : List ℕ) (i a b : ℕ) → i + 10 ≤ length l → i + 2 < length (set (set l i a) (i + 1) b)
+room-2 l i a b p = simp length-set (omega arith)
+
+pub room-3 : (l : List ℕ) (i a b c : ℕ) → i + 10 ≤ length l → i + 3 < length (set (set (set l i a) (i + 1) b) (i + 2) c)
+room-3 l i a b c p = simp length-set (omega arith)
+
+pub room-4 : (l : List ℕ) (i a b c d : ℕ) → i + 10 ≤ length l → i + 4 < length (set (set (set (set l i a) (i + 1) b) (i + 2) c) (i + 3) d)
+room-4 l i a b c d p = simp length-set (omega arith)
+
+pub room-5 : (l : List ℕ) (i a b c d e : ℕ) → i + 10 ≤ length l → i + 5 < length (set (set (set (set (set l i a) (i + 1) b) (i + 2) c) (i + 3) d) (i + 4) e)
+room-5 l i a b c d e p = simp length-set (omega arith)
+
+pub room-6 : (l : List ℕ) (i a b c d e f : ℕ) → i + 10 ≤ length l → i + 6 < length (set (set (set (set (set (set l i a) (i + 1) b) (i + 2) c) (i + 3) d) (i + 4) e) (i + 5) f)
+room-6 l i a b c d e f p = simp length-set (omega arith)
+
+pub room-7 : (l : List ℕ) (i a b c d e f g : ℕ) → i + 10 ≤ length l → i + 7 < length (set (set (set (set (set (set (set l i a) (i + 1) b) (i + 2) c) (i + 3) d) (i + 4) e) (i + 5) f) (i + 6) g)
+room-7 l i a b c d e f g p = simp length-set (omega arith)
+
+pub room-8 : (l : List ℕ) (i a b c d e f g h : ℕ) → i + 10 ≤ length l → i + 8 < length (set (set (set (set (set (set (set (set l i a) (i + 1) b) (i + 2) c) (i + 3) d) (i + 4) e) (i + 5) f) (i + 6) g) (i + 7) h)
+room-8 l i a b c d e f g h p = simp length-set (omega arith)
+
+pub room-9 : (l : List ℕ) (i a b c d e f g h j : ℕ) → i + 10 ≤ length l → i + 9 < length (set (set (set (set (set (set (set (set (set l i a) (i + 1) b) (i + 2) c) (i + 3) d) (i + 4) e) (i + 5) f) (i + 6) g) (i + 7) h) (i + 8) j)
+room-9 l i a b c d e f g h j p = simp length-set (omega arith)
 
 pub record-stored : (l : List ℕ) (i tag place len : ℕ) → i + 10 ≤ length l
     → sets l i (recordOf tag place len) ≡ take i l ++ recordOf tag place len ++ drop (i + 10) l
