@@ -24,7 +24,7 @@ use contract.Monad.{Fun, fact}
 use contract.Running.{givenOf, tables, tablesOf}
 use types.Kit.{Given, Item, ‵, raw, _⊛_, ⋆, some, later, runs, anyQ, atRet, Sq, _$_, _∵_, !, qed, by, move, keep, drop, use1, use2, split, join, pick, rewrite, fsplit, fjoin, suffices, frame, await, done}
 use types.Run.{look, init, store, store-raw, forget, stop, hop, fld, from, load, lit, addr, of-opd, bin, and-then, no-more, land, land-last, assigns, first, blocks, returns, enter, alloc1, alloc0, params1, pass1, pass0, free1, free0, exec, Below, again, loops}
-use types.Part.{whole, sub, look-in, rep}
+use types.Part.{whole, sub, look-in}
 use sound.WpLaws.{fmOf, WpFn-mono}
 use denote.RattleType.{owns}
 use denote.Memory.{pointee, partAt}
@@ -63,7 +63,8 @@ use Rattle.token.specs.declared.Token.{Token}
 use Rattle.token.proofs.Encoding.{length-encoded, count-encoded, encoded-set}
 use Rattle.tokens.proofs.Turning.{Going, going-start, going-stop, going-room, going-ready, going-left, going-next}
 use Rattle.tokens.proofs.Tests.{tests}
-use Rattle.tokens.proofs.Arrays.{Words, words, ref-at, zeros-typed, lends-zeros, takes-back, shares-lying, gives-up}
+use Rattle.tokens.proofs.Locals.{frees-tail}
+use Rattle.tokens.proofs.Arrays.{Words, words, ref-at, fills, lends-lying, takes-back, shares-lying, gives-up}
 use Rattle.turns.proofs.Turn as S
 use Rattle.turns.proofs.Turn.Laws as S′
 use Rattle.token.proofs.Token as T
@@ -350,7 +351,7 @@ module _ {M : Type 1} (𝓤 : URA M) (H : Heap 𝓤) (A : Atoms 𝓤) (W : Given
             land-last ! (from ! (stop !)) (store ! 30 refl (LL.lawful S.the-type S′.the-laws 𝓤 H A W .typed r _ is .0)) $
             rewrite ! 30 (λ (z : Val). ‵ (fat fullShare S′.mir l₇ 0 z)) (ap only (LL.tells S.the-type S′.the-laws r _ is)) refl $
             forget ! 8 refl $ forget ! 10 refl $ forget ! 12 refl $ forget ! 22 refl $
-            keep ! (3 ∷ 2 ∷ 1 ∷ 4 ∷ 5 ∷ 6 ∷ 7 ∷ 8 ∷ 9 ∷ 10 ∷ 11 ∷ 12 ∷ 13 ∷ 14 ∷ 15 ∷ 16 ∷ 17 ∷ 18 ∷ 19 ∷ 20 ∷ 21 ∷ 22 ∷ 23 ∷ 24 ∷ 25 ∷ 26 ∷ 27 ∷ 28 ∷ 29 ∷ 30 ∷ 31 ∷ 32 ∷ 33 ∷ 34 ∷ 35 ∷ 36 ∷ 37 ∷ 38 ∷ 39 ∷ 40 ∷ 41 ∷ 42 ∷ []) $
+            drop ! $ move ! (2 ∷ 1 ∷ []) $
             again ! Nearer At i (r, (set (i .1 .0) (i .0 .index) (i .0 .token), (i .1 .1 .0 - 1, facts-on i on r said (subst (Is S.the-row r) (LL.tells S.the-type S′.the-laws r _ is) is)))) (omega (arith, going-left gg (is-true (i .0 .more) on)))))))))
             (λ off. exec ! C Λ En body.t-13 (atRet En Post) $
             nothing ! $ use1 W (raw (Answer 𝓤 H A mem run .pre (to-answer (i .0)))) (goes-answer (i .0) ist) $
@@ -368,10 +369,8 @@ module _ {M : Type 1} (𝓤 : URA M) (H : Heap 𝓤) (A : Atoms 𝓤) (W : Given
             move ! (1 ∷ []) $ split ! $ move ! (3 ∷ []) $ split ! $ move ! (11 ∷ []) $ split ! $ move ! (1 ∷ []) $ split ! $ move ! (1 ∷ []) $ split ! $
             -- [edges; text; states; headers; text's lifetime; true; book; book's; room for _6, _5, _4; obs; the borrow; the tokens' lifetime; the answer; _18; …]
             returns ! (look ! 48 refl) $ forget ! 19 refl $ forget ! 31 refl $ forget ! 33 refl $ forget ! 35 refl $ forget ! 37 refl $ forget ! 42 refl $ forget ! 44 refl $ forget ! 46 refl $ forget ! 48 refl $
-            move ! (48 ∷ 49 ∷ []) $ free1 ! $ move ! (46 ∷ 47 ∷ []) $ free1 ! $ move ! (44 ∷ 45 ∷ []) $ free1 ! $ move ! (42 ∷ 43 ∷ []) $ free1 ! $
-            move ! (10 ∷ 41 ∷ []) $ free1 ! $ move ! (9 ∷ 39 ∷ []) $ free1 ! $ move ! (8 ∷ 37 ∷ []) $ free1 ! $
-            move ! (34 ∷ 35 ∷ []) $ free1 ! $ move ! (32 ∷ 33 ∷ []) $ free1 ! $ move ! (30 ∷ 31 ∷ []) $ free1 ! $ move ! (28 ∷ 29 ∷ []) $ free1 ! $ move ! (26 ∷ 27 ∷ []) $ free1 ! $ move ! (24 ∷ 25 ∷ []) $ free1 ! $ move ! (22 ∷ 23 ∷ []) $ free1 ! $
-            move ! (20 ∷ 21 ∷ []) $ free1 ! $ move ! (18 ∷ 19 ∷ []) $ free1 ! $ move ! (16 ∷ 17 ∷ []) $ free1 ! $ move ! (14 ∷ 15 ∷ []) $ free1 ! $ move ! (12 ∷ 13 ∷ []) $ free1 ! $ free0 ! $
+            frees-tail ! 42 4 refl $ move ! (10 ∷ 41 ∷ []) $ free1 ! $ move ! (9 ∷ 39 ∷ []) $ free1 ! $ move ! (8 ∷ 37 ∷ []) $ free1 ! $
+            frees-tail ! 12 12 refl $ free0 ! $
             keep ! (11 ∷ 8 ∷ 9 ∷ 10 ∷ 6 ∷ 7 ∷ 1 ∷ 4 ∷ []) $
             by ! (exits r u (i .1 .0) (i .1 .1 .1 .0) (subst (λ (z : LexAnswer). Answered (lexOutcome bk tx (encoded ys)) z (encoded (i .1 .0))) (sym e) (going-stop gg (is-false (i .0 .more) off)))))))))
           where
@@ -431,11 +430,11 @@ module _ {M : Type 1} (𝓤 : URA M) (H : Heap 𝓤) (A : Atoms 𝓤) (W : Given
           ∷ ‵ (fat fullShare tokens l₃ 0 s) ∷ ‵ (fdies tokens l₃) ∷ ‵ (fat fullShare texts l₂ 0 v) ∷ ‵ (fdies texts l₂) ∷ ‵ (fat fullShare books l₁ 0 vb) ∷ ‵ (fdies books l₁) ∷ ‵ (froom L′.mir l₀ 0) ∷ ‵ (fdies L′.mir l₀)
           ∷ (‵ (flft κ₀ q₀) ⊛ (‵ (flft κ₁ q₁) ⊛ (‵ (flft κ₂ q₂) ⊛ ‵ ftrue))) ∷ ‵ (owns (ShrSlice (named 0) κ₀ u8 ∷ ShrSlice (named 1) κ₁ u8 ∷ MutSlice (named 2) κ₂ T.the-row ∷ []) x at) ∷ []) (runs (𝓣 .C) (𝓣 .Λ) Env₀ body.t-1 (atRet Env₀ Post))
       started =
-          assigns ! (rep ! 32 (lit ! tt)) (from ! (stop !)) (init ! 28 refl (zeros-typed 𝓤 H A W w64 32)) $ assigns ! (rep ! 8192 (lit ! tt)) (from ! (stop !)) (init ! 26 refl (zeros-typed 𝓤 H A W w16 8192)) $ assigns ! (rep ! 8192 (lit ! tt)) (from ! (stop !)) (init ! 24 refl (zeros-typed 𝓤 H A W w64 8192)) $
+          fills ! 28 tt (from ! (stop !)) refl $ fills ! 26 tt (from ! (stop !)) refl $ fills ! 24 tt (from ! (stop !)) refl $
           assigns ! (addr ! (from ! (stop !))) (from ! (stop !)) (init ! 12 refl (tt, tt)) $ assigns ! (addr ! (from ! (stop !))) (from ! (stop !)) (init ! 10 refl (tt, tt)) $ assigns ! (addr ! (from ! (stop !))) (from ! (stop !)) (init ! 8 refl (tt, tt)) $
           assigns ! (of-opd ! (load ! (from ! (fld ! refl (stop !))) (look-in ! 30 (sub ! 1 refl (whole !))))) (from ! (stop !)) (init ! 6 refl (tt, record { fits = room .0 })) $
           -- the tables are lent
-          move ! (28 ∷ []) $ lends-zeros ! tt (named 1) w64 32 l₄ (λ ν₁ γ₁. move ! (29 ∷ []) $ lends-zeros ! tt (named 2) w16 8192 l₅ (λ ν₂ γ₂. move ! (30 ∷ []) $ lends-zeros ! tt (named 3) w64 8192 l₆ (λ ν₃ γ₃.
+          move ! (28 ∷ []) $ lends-lying ! tt (named 1) w64 32 l₄ (replicate 32 0) (λ ν₁ γ₁. move ! (29 ∷ []) $ lends-lying ! tt (named 2) w16 8192 l₅ (replicate 8192 0) (λ ν₂ γ₂. move ! (30 ∷ []) $ lends-lying ! tt (named 3) w64 8192 l₆ (replicate 8192 0) (λ ν₃ γ₃.
           -- [edges; lent; its lifetime; states; lent; its; headers; lent; its; _18; …; the tokens; what is owned]: the borrow of the tokens is opened
           move ! (45 ∷ []) $ fsplit ! $ move ! (1 ∷ []) $ fsplit ! $ move ! (1 ∷ []) $ fsplit ! $ fsplit ! $ move ! (1 ∷ []) $ fsplit ! $ move ! (50 ∷ []) $ split ! $ move ! (1 ∷ []) $ split ! $ move ! (1 ∷ []) $ split ! $
           move ! (4 ∷ 5 ∷ 0 ∷ []) $ opens-slice ! tt T.the-row ys b o $
@@ -459,7 +458,7 @@ module _ {M : Type 1} (𝓤 : URA M) (H : Heap 𝓤) (A : Atoms 𝓤) (W : Given
           move ! (1 ∷ []) $ split ! $ move ! (0 ∷ 17 ∷ 7 ∷ []) $ takes-back ! tt w16 8192 l₅ ν₂ γ₂ (ls .1 .1 .0) $
           move ! (1 ∷ []) $ split ! $ move ! (0 ∷ 16 ∷ 6 ∷ []) $ takes-back ! tt w64 8192 l₆ ν₃ γ₃ (ls .1 .1 .1 .0) $
           -- [edges; text's lifetime; states; headers; book's lifetime; the turn; …; text; book; the row; the open borrow; obs; auth; the fact; true; _18; …]
-          keep ! (0 ∷ 1 ∷ 2 ∷ 3 ∷ 4 ∷ 7 ∷ 8 ∷ 9 ∷ 10 ∷ 11 ∷ 12 ∷ 15 ∷ 16 ∷ 17 ∷ 18 ∷ 19 ∷ 20 ∷ 21 ∷ 22 ∷ 23 ∷ 24 ∷ 25 ∷ 26 ∷ 27 ∷ 28 ∷ 29 ∷ 30 ∷ 31 ∷ 32 ∷ 33 ∷ 34 ∷ 35 ∷ 36 ∷ 37 ∷ 38 ∷ 39 ∷ 40 ∷ 41 ∷ 42 ∷ 43 ∷ 44 ∷ 45 ∷ 46 ∷ 47 ∷ 48 ∷ 49 ∷ []) $
+          move ! (5 ∷ 6 ∷ 13 ∷ 14 ∷ []) $ drop ! $ drop ! $ drop ! $ drop ! $
           shared-out (ls .1 .0) (ls .1 .1 .0) (ls .1 .1 .1 .0) r begun (subst (Is S.the-row r) (LL.tells S.the-type S′.the-laws r _ is) is)))))))))
 
     walk : ent 𝓤 (onEntry 𝓤 H A lex-tokens.signature κs (q₀, (q₁, (q₂, tt))) x at) (WpFn 𝓤 H (𝓣 .C) (𝓣 .Λ) code.function (vb ∷ v ∷ s ∷ []) Post)

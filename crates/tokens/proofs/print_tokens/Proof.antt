@@ -24,7 +24,7 @@ use contract.Monad.{Fun, fact}
 use contract.Running.{givenOf, tables, tablesOf}
 use types.Kit.{Given, Item, ‵, raw, _⊛_, ⋆, some, later, runs, anyQ, atRet, Sq, _$_, _∵_, !, qed, by, move, keep, drop, use1, use2, use3, split, join, pick, rewrite, fsplit, fjoin, feqL, suffices, frame, await, done}
 use types.Run.{look, look-raw, init, store, forget, stop, hop, fld, from, load, lit, addr, of-opd, bin, and-then, no-more, land, land-last, assigns, first, blocks, returns, enter, alloc1, alloc0, params1, pass1, pass0, free1, free0, exec, Below, again, loops}
-use types.Part.{agg, whole, sub, look-in, rep}
+use types.Part.{agg, whole, sub, look-in}
 use sound.WpLaws.{fmOf, WpFn-mono}
 use denote.RattleType.{owns}
 use denote.Memory.{pointee, partAt}
@@ -64,7 +64,8 @@ use Rattle.token.specs.declared.Token.{Token}
 use Rattle.token.proofs.Encoding.{length-encoded, count-encoded, record-encoded}
 use Rattle.stages.proofs.Staging.{Going, going-start, going-index, going-steps, going-next, going-total, going-finish}
 use Rattle.tokens.proofs.Tests.{tests}
-use Rattle.tokens.proofs.Arrays.{Words, words, ref-at, zeros-typed, lies-zeros, lends-lying, lends-zeros, takes-back, shares-lying, gives-up}
+use Rattle.tokens.proofs.Locals.{frees-tail}
+use Rattle.tokens.proofs.Arrays.{Words, words, ref-at, fills, lends-lying, takes-back, shares-lying, gives-up}
 use Rattle.stages.proofs.Stage as S
 use Rattle.stages.proofs.Stage.Laws as S′
 use Rattle.token.proofs.Token as T
@@ -405,7 +406,7 @@ module _ {M : Type 1} (𝓤 : URA M) (H : Heap 𝓤) (A : Atoms 𝓤) (W : Given
             land-last ! (from ! (stop !)) (store ! 41 refl (LL.lawful S.the-type S′.the-laws 𝓤 H A W .typed r _ is .0)) $
             rewrite ! 41 (λ (z : Val). ‵ (fat fullShare S′.mir l₁₀ 0 z)) (ap only (LL.tells S.the-type S′.the-laws r _ is)) refl $
             forget ! 25 refl $ forget ! 33 refl $ forget ! 23 refl $ forget ! 21 refl $ forget ! 19 refl $ forget ! 17 refl $
-            keep ! (0 ∷ 7 ∷ 5 ∷ 4 ∷ 3 ∷ 1 ∷ 9 ∷ 8 ∷ 10 ∷ 11 ∷ 12 ∷ 13 ∷ 14 ∷ 15 ∷ 16 ∷ 17 ∷ 18 ∷ 19 ∷ 20 ∷ 21 ∷ 22 ∷ 23 ∷ 24 ∷ 25 ∷ 26 ∷ 27 ∷ 28 ∷ 29 ∷ 30 ∷ 31 ∷ 32 ∷ 33 ∷ 34 ∷ 35 ∷ 36 ∷ 37 ∷ 38 ∷ 39 ∷ 40 ∷ 41 ∷ 42 ∷ 43 ∷ 44 ∷ 45 ∷ 46 ∷ 47 ∷ 48 ∷ 49 ∷ 50 ∷ 51 ∷ 52 ∷ 53 ∷ 54 ∷ 55 ∷ 56 ∷ 57 ∷ 58 ∷ []) $
+            move ! (2 ∷ 6 ∷ 0 ∷ 7 ∷ 5 ∷ 4 ∷ 3 ∷ 1 ∷ 9 ∷ 8 ∷ []) $ drop ! $ drop ! $
             again ! Nearer At i (r, (zs .1 .1 .1 .0, (i .1 .1 .0 - 1, facts-on i on g said (subst (Is S.the-row r) (LL.tells S.the-type S′.the-laws r _ is) is)))) (omega (arith, going-index gg (is-true (i .0 .more) on) .1)))))))))))
             (λ off. exec ! C Λ En body.t-14 (atRet En Post) $
             assigns ! (addr ! (from ! (stop !))) (from ! (stop !)) (init ! 13 refl (tt, tt)) $
@@ -426,7 +427,7 @@ module _ {M : Type 1} (𝓤 : URA M) (H : Heap 𝓤) (A : Atoms 𝓤) (W : Given
             move ! (1 ∷ []) $ split ! $ move ! (1 ∷ []) $ split ! $ move ! (2 ∷ 5 ∷ []) $ gives-up ! tt w8 65536 l₈ ν (i .1 .0) $ move ! (11 ∷ 9 ∷ []) $ gives-up ! tt w64 32 l₅ ν₁ hs $ move ! (11 ∷ 9 ∷ []) $ gives-up ! tt w16 8192 l₆ ν₂ ss $ move ! (11 ∷ 9 ∷ []) $ gives-up ! tt w64 8192 l₇ ν₃ es $
             move ! (10 ∷ []) $ split ! $ drop ! $ split ! $ drop ! $ split ! $ drop ! $
             returns ! (look ! 60 refl) $ forget ! 28 refl $ forget ! 14 refl $ forget ! 16 refl $ forget ! 18 refl $ forget ! 38 refl $ forget ! 40 refl $ forget ! 42 refl $ forget ! 44 refl $ forget ! 46 refl $ forget ! 52 refl $ forget ! 54 refl $ forget ! 56 refl $ forget ! 58 refl $ forget ! 60 refl $
-            move ! (60 ∷ 61 ∷ []) $ free1 ! $ move ! (58 ∷ 59 ∷ []) $ free1 ! $ move ! (56 ∷ 57 ∷ []) $ free1 ! $ move ! (54 ∷ 55 ∷ []) $ free1 ! $ move ! (52 ∷ 53 ∷ []) $ free1 ! $ move ! (3 ∷ 51 ∷ []) $ free1 ! $ move ! (2 ∷ 49 ∷ []) $ free1 ! $ move ! (1 ∷ 47 ∷ []) $ free1 ! $ move ! (1 ∷ 45 ∷ []) $ free1 ! $ move ! (42 ∷ 43 ∷ []) $ free1 ! $ move ! (40 ∷ 41 ∷ []) $ free1 ! $ move ! (38 ∷ 39 ∷ []) $ free1 ! $ move ! (36 ∷ 37 ∷ []) $ free1 ! $ move ! (34 ∷ 35 ∷ []) $ free1 ! $ move ! (32 ∷ 33 ∷ []) $ free1 ! $ move ! (30 ∷ 31 ∷ []) $ free1 ! $ move ! (28 ∷ 29 ∷ []) $ free1 ! $ move ! (26 ∷ 27 ∷ []) $ free1 ! $ move ! (24 ∷ 25 ∷ []) $ free1 ! $ move ! (22 ∷ 23 ∷ []) $ free1 ! $ move ! (20 ∷ 21 ∷ []) $ free1 ! $ move ! (18 ∷ 19 ∷ []) $ free1 ! $ move ! (16 ∷ 17 ∷ []) $ free1 ! $ move ! (14 ∷ 15 ∷ []) $ free1 ! $ move ! (12 ∷ 13 ∷ []) $ free1 ! $ move ! (10 ∷ 11 ∷ []) $ free1 ! $ free0 ! $
+            frees-tail ! 52 5 refl $ move ! (3 ∷ 51 ∷ []) $ free1 ! $ move ! (2 ∷ 49 ∷ []) $ free1 ! $ move ! (1 ∷ 47 ∷ []) $ free1 ! $ move ! (1 ∷ 45 ∷ []) $ free1 ! $ frees-tail ! 10 17 refl $ free0 ! $
             keep ! (3 ∷ 4 ∷ 1 ∷ 6 ∷ 5 ∷ 8 ∷ 9 ∷ 0 ∷ 7 ∷ []) $
             by ! (exits r u (zs .1 .1 .0) same (going-finish gg (is-false (i .0 .more) off) said))))))))))
           where
@@ -484,16 +485,16 @@ module _ {M : Type 1} (𝓤 : URA M) (H : Heap 𝓤) (A : Atoms 𝓤) (W : Given
           ∷ ‵ (fat fullShare outs l₄ 0 (w (length os))) ∷ ‵ (fdies outs l₄) ∷ ‵ (fat fullShare pools l₃ 0 v) ∷ ‵ (fdies pools l₃) ∷ ‵ (fat fullShare tokens l₂ 0 s) ∷ ‵ (fdies tokens l₂)
           ∷ ‵ (fat fullShare books l₁ 0 vb) ∷ ‵ (fdies books l₁) ∷ ‵ (froom L′.mir l₀ 0) ∷ ‵ (fdies L′.mir l₀) ∷ (‵ (flft κ₀ q₀) ⊛ (‵ (flft κ₁ q₁) ⊛ (‵ (flft κ₂ q₂) ⊛ (‵ (flft κ₃ q₃) ⊛ ‵ ftrue)))) ∷ ‵ (owns (ShrSlice (named 0) κ₀ u8 ∷ ShrSlice (named 1) κ₁ T.the-row ∷ ShrSlice (named 2) κ₂ u8 ∷ MutSlice (named 3) κ₃ u8 ∷ []) x at) ∷ []) (runs (𝓣 .C) (𝓣 .Λ) Env₀ body.t-1 (atRet Env₀ Post))
       started =
-          assigns ! (rep ! 32 (lit ! tt)) (from ! (stop !)) (init ! 40 refl (zeros-typed 𝓤 H A W w64 32)) $
-          assigns ! (rep ! 8192 (lit ! tt)) (from ! (stop !)) (init ! 38 refl (zeros-typed 𝓤 H A W w16 8192)) $
-          assigns ! (rep ! 8192 (lit ! tt)) (from ! (stop !)) (init ! 36 refl (zeros-typed 𝓤 H A W w64 8192)) $
-          assigns ! (rep ! 65536 (lit ! tt)) (from ! (stop !)) (init ! 34 refl (zeros-typed 𝓤 H A W w8 65536)) $
+          fills ! 40 tt (from ! (stop !)) refl $
+          fills ! 38 tt (from ! (stop !)) refl $
+          fills ! 36 tt (from ! (stop !)) refl $
+          fills ! 34 tt (from ! (stop !)) refl $
           assigns ! (of-opd ! (load ! (from ! (fld ! refl (stop !))) (look-in ! 46 (sub ! 1 refl (whole !))))) (from ! (stop !)) (init ! 32 refl (tt, record { fits = room .0 })) $
           assigns ! (addr ! (from ! (stop !))) (from ! (stop !)) (init ! 20 refl (tt, tt)) $
           assigns ! (addr ! (from ! (stop !))) (from ! (stop !)) (init ! 18 refl (tt, tt)) $
           assigns ! (addr ! (from ! (stop !))) (from ! (stop !)) (init ! 16 refl (tt, tt)) $
           -- the tables are lent
-          move ! (34 ∷ []) $ lies-zeros ! w8 65536 l₈ $ move ! (40 ∷ []) $ lends-zeros ! tt (named 1) w64 32 l₅ (λ ν₁ γ₁. move ! (41 ∷ []) $ lends-zeros ! tt (named 2) w16 8192 l₆ (λ ν₂ γ₂. move ! (42 ∷ []) $ lends-zeros ! tt (named 3) w64 8192 l₇ (λ ν₃ γ₃.
+          move ! (40 ∷ 34 ∷ []) $ lends-lying ! tt (named 1) w64 32 l₅ (replicate 32 0) (λ ν₁ γ₁. move ! (41 ∷ []) $ lends-lying ! tt (named 2) w16 8192 l₆ (replicate 8192 0) (λ ν₂ γ₂. move ! (42 ∷ []) $ lends-lying ! tt (named 3) w64 8192 l₇ (replicate 8192 0) (λ ν₃ γ₃.
           move ! (59 ∷ []) $ fsplit ! $ move ! (1 ∷ []) $ fsplit ! $ move ! (1 ∷ []) $ fsplit ! $ move ! (1 ∷ []) $ fsplit ! $ move ! (1 ∷ []) $ drop ! $
           move ! (62 ∷ []) $ split ! $ move ! (1 ∷ []) $ split ! $ move ! (1 ∷ []) $ split ! $ move ! (1 ∷ []) $ split ! $
           move ! (11 ∷ 1 ∷ []) $ join ! $ move ! (13 ∷ 0 ∷ []) $ join ! $ move ! (15 ∷ 0 ∷ []) $ join ! $ move ! (4 ∷ 0 ∷ []) $ join ! $
@@ -508,7 +509,7 @@ module _ {M : Type 1} (𝓤 : URA M) (H : Heap 𝓤) (A : Atoms 𝓤) (W : Given
           land ! (from ! (stop !)) (init ! 46 refl (LL.lawful S.the-type S′.the-laws 𝓤 H A W .typed r _ is .0)) $ rewrite ! 46 (λ (z : Val). ‵ (fat fullShare S′.mir l₁₀ 0 z)) (ap only (LL.tells S.the-type S′.the-laws r _ is)) refl $
           -- the tables are taken back
           move ! (1 ∷ []) $ split ! $ move ! (1 ∷ []) $ split ! $ move ! (1 ∷ []) $ split ! $ move ! (1 ∷ []) $ split ! $ move ! (3 ∷ 18 ∷ 8 ∷ []) $ takes-back ! tt w64 32 l₅ ν₁ γ₁ (zs .1 .0) $ move ! (3 ∷ 16 ∷ 7 ∷ []) $ takes-back ! tt w16 8192 l₆ ν₂ γ₂ (zs .1 .1 .0) $ move ! (2 ∷ 14 ∷ 6 ∷ []) $ takes-back ! tt w64 8192 l₇ ν₃ γ₃ (zs .1 .1 .1 .0) $
-          keep ! (0 ∷ 1 ∷ 2 ∷ 13 ∷ 4 ∷ 7 ∷ 8 ∷ 9 ∷ 10 ∷ 11 ∷ 12 ∷ 6 ∷ 14 ∷ 15 ∷ 16 ∷ 17 ∷ 18 ∷ 19 ∷ 20 ∷ 21 ∷ 22 ∷ 23 ∷ 24 ∷ 25 ∷ 26 ∷ 27 ∷ 28 ∷ 29 ∷ 30 ∷ 31 ∷ 32 ∷ 33 ∷ 34 ∷ 35 ∷ 36 ∷ 37 ∷ 38 ∷ 39 ∷ 40 ∷ 41 ∷ 42 ∷ 43 ∷ 44 ∷ 45 ∷ 46 ∷ 47 ∷ 48 ∷ 49 ∷ 50 ∷ 51 ∷ 52 ∷ 53 ∷ 54 ∷ 55 ∷ 56 ∷ 57 ∷ 58 ∷ 59 ∷ 60 ∷ 61 ∷ []) $
+          move ! (3 ∷ 5 ∷ 0 ∷ 1 ∷ 2 ∷ 13 ∷ 4 ∷ 7 ∷ 8 ∷ 9 ∷ 10 ∷ 11 ∷ 12 ∷ []) $ drop ! $ drop ! $
           shared-out (zs .1 .0) (zs .1 .1 .0) (zs .1 .1 .1 .0) r begun (subst (Is S.the-row r) (LL.tells S.the-type S′.the-laws r _ is) is)))))))))
 
     walk : ent 𝓤 (onEntry 𝓤 H A print-tokens.signature κs (q₀, (q₁, (q₂, (q₃, tt)))) x at) (WpFn 𝓤 H (𝓣 .C) (𝓣 .Λ) code.function (vb ∷ s ∷ v ∷ w (length os) ∷ []) Post)
