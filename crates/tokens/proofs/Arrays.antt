@@ -105,12 +105,12 @@ module _ {M : Type 1} {𝓤 : URA M} {H : Heap 𝓤} {A : Atoms 𝓤} {K : Type 
   filled : K → (k : ℕ) (w : Width) (n l : ℕ) → nth 𝓤 H A k Γ ≡ ‵ (froom (words w n) l 0) → Writes K W Γ (words w n) l 0 (zeros w n) (put 𝓤 H A k (‵ (partAt (Words w n) fullShare (replicate n 0) l 0)) Γ)
   filled t k w n l e = record {
     go = λ P h.
-      via 𝓤 (sep 𝓤 (H .room (words w n) l 0) (⋆ 𝓤 H A (del 𝓤 H A k Γ))) (subst (λ (j : Item 𝓤). ent 𝓤 (⋆ 𝓤 H A Γ) (sep 𝓤 (mean 𝓤 H A j) (⋆ 𝓤 H A (del 𝓤 H A k Γ)))) e (pull 𝓤 H A k Γ))
-      (via 𝓤 (sep 𝓤 (H .room (words w n) l 0) (wand 𝓤 (H .at fullShare (words w n) l 0 (zeros w n)) P))
+        via 𝓤 (sep 𝓤 (H .room (words w n) l 0) (⋆ 𝓤 H A (del 𝓤 H A k Γ))) (subst (λ (j : Item 𝓤). ent 𝓤 (⋆ 𝓤 H A Γ) (sep 𝓤 (mean 𝓤 H A j) (⋆ 𝓤 H A (del 𝓤 H A k Γ)))) e (pull 𝓤 H A k Γ))
+        (via 𝓤 (sep 𝓤 (H .room (words w n) l 0) (wand 𝓤 (H .at fullShare (words w n) l 0 (zeros w n)) P))
         (monoR 𝓤 (H .room (words w n) l 0) (wandI 𝓤 (⋆ 𝓤 H A (del 𝓤 H A k Γ)) (H .at fullShare (words w n) l 0 (zeros w n)) P
-          (via 𝓤 (sep 𝓤 (H .at fullShare (words w n) l 0 (zeros w n)) (⋆ 𝓤 H A (del 𝓤 H A k Γ))) (comm∗ 𝓤 (⋆ 𝓤 H A (del 𝓤 H A k Γ)) (H .at fullShare (words w n) l 0 (zeros w n)))
-          (via 𝓤 (sep 𝓤 (mean 𝓤 H A (‵ (partAt (Words w n) fullShare (replicate n 0) l 0))) (⋆ 𝓤 H A (del 𝓤 H A k Γ))) (monoL 𝓤 (⋆ 𝓤 H A (del 𝓤 H A k Γ)) (zeros-lie 𝓤 H A W w n l))
-          (via 𝓤 (⋆ 𝓤 H A (put 𝓤 H A k (‵ (partAt (Words w n) fullShare (replicate n 0) l 0)) Γ)) (fill 𝓤 H A k (‵ (partAt (Words w n) fullShare (replicate n 0) l 0)) Γ) h)))))
+        (via 𝓤 (sep 𝓤 (H .at fullShare (words w n) l 0 (zeros w n)) (⋆ 𝓤 H A (del 𝓤 H A k Γ))) (comm∗ 𝓤 (⋆ 𝓤 H A (del 𝓤 H A k Γ)) (H .at fullShare (words w n) l 0 (zeros w n)))
+        (via 𝓤 (sep 𝓤 (mean 𝓤 H A (‵ (partAt (Words w n) fullShare (replicate n 0) l 0))) (⋆ 𝓤 H A (del 𝓤 H A k Γ))) (monoL 𝓤 (⋆ 𝓤 H A (del 𝓤 H A k Γ)) (zeros-lie 𝓤 H A W w n l))
+        (via 𝓤 (⋆ 𝓤 H A (put 𝓤 H A k (‵ (partAt (Words w n) fullShare (replicate n 0) l 0)) Γ)) (fill 𝓤 H A k (‵ (partAt (Words w n) fullShare (replicate n 0) l 0)) Γ) h)))))
         (guardI 𝓤 (T (hasTy (words w n) (zeros w n)) × WT (zeros w n)) (sep 𝓤 (H .room (words w n) l 0) (wand 𝓤 (H .at fullShare (words w n) l 0 (zeros w n)) P)) (zeros-typed 𝓤 H A W w n)));
   }
 
