@@ -19,9 +19,6 @@ abbrev μ-loop : tie.MeasureT-loop
 loop-holds : tie.Need-loop-holds Inv-loop μ-loop
 loop-holds c = refl
 
-add-get : tie.Need-add-get Inv-loop μ-loop
-add-get c = search needs
-
 get-requires : tie.Need-get-requires Inv-loop μ-loop
 get-requires c κs = search needs
 
@@ -50,7 +47,6 @@ find-mark-spec =
     Inv-loop
     μ-loop
     loop-holds
-    add-get
     get-requires
     is-mark-requires
     returns
