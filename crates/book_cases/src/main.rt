@@ -41,16 +41,16 @@ fn line(room: &mut [u8], start: usize, end: usize, text: usize, book: usize) -> 
         return book;
     }
     let mark = find_mark(room, start, end);
-    write_part(room, start, mark);
+    write_name(room, start, mark);
     let to = make(room, mark, end, text, book);
     answer(room, text, to);
     to
 }
 
-// The place before the first mark, or `end`.
+// The place of the first mark, or `end`.
 fn find_mark(room: &[u8], start: usize, end: usize) -> usize {
     for i in start..end {
-        if is_mark(get(room, i + 1)) {
+        if is_mark(get(room, i)) {
             return i;
         }
     }
@@ -61,14 +61,10 @@ fn is_mark(byte: u8) -> bool {
     byte == b'=' || byte == b'+' || byte == b'*'
 }
 
-// The book of a line.
+// The book of a line: = has its bytes, + those behind the book before, * names what it repeats.
 fn make(room: &mut [u8], mark: usize, end: usize, text: usize, book: usize) -> usize {
-    if mark >= end {
-        return 0;
-    }
-    let at = mark + 1;
-    let kind = get(room, at);
-    let to = decode(room, at, end, if kind == b'+' { book } else { text });
+    let kind = get(room, mark);
+    let to = decode(room, mark, end, if kind == b'+' { book } else { text });
     if kind == b'*' {
         repeat(room, text, to)
     } else {
@@ -213,18 +209,25 @@ fn put(room: &mut [u8], at: usize, byte: u8) -> usize {
     at
 }
 
-fn write_part(room: &[u8], from: usize, to: usize) {
-    if from <= to && to <= room.len() {
-        io::write_all(STDOUT_FILENO, &room[from..to]);
+// A name ends a blank before its mark.
+fn write_name(room: &[u8], start: usize, mark: usize) {
+    if mark > room.len() {
+        return;
+    }
+    if start < mark {
+        io::write_all(STDOUT_FILENO, &room[start..mark - 1]);
     }
 }
 
 fn answer(room: &[u8], from: usize, to: usize) {
-    if from <= to && to <= room.len() {
-        print(book::read(&room[from..to]));
-    } else {
-        io::write_all(STDOUT_FILENO, b": not a case\n");
+    if to > room.len() {
+        return;
     }
+    if from > to {
+        io::write_all(STDOUT_FILENO, b": not a case\n");
+        return;
+    }
+    print(book::read(&room[from..to]));
 }
 
 fn print(answer: BookAnswer) {

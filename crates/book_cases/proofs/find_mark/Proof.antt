@@ -1,7 +1,5 @@
-use mathlib.Core.Path.{_≡_, refl, _∙_}
+use mathlib.Core.Path.{_≡_, refl}
 use Prim.Native.Nat.{_-_}
-use native.Mathlib.Omega.{arith}
-use lib.ListN.{length}
 use borrow.Author.Needs.{needs}
 use Rattle.book_cases.proofs.find_mark.Statement.{statement}
 use Rattle.book_cases.proofs.find_mark.Tie as tie
@@ -18,9 +16,6 @@ abbrev μ-loop : tie.MeasureT-loop
 
 loop-holds : tie.Need-loop-holds Inv-loop μ-loop
 loop-holds c = refl
-
-add-get : tie.Need-add-get Inv-loop μ-loop
-add-get c = search needs
 
 get-requires : tie.Need-get-requires Inv-loop μ-loop
 get-requires c κs = search needs
@@ -50,7 +45,6 @@ find-mark-spec =
     Inv-loop
     μ-loop
     loop-holds
-    add-get
     get-requires
     is-mark-requires
     returns

@@ -1,6 +1,5 @@
 -- `put_record`: ten stores are one run of stores. Assumes nothing.
 use mathlib.Core.Path.{_∙_}
-use native.Mathlib.Omega.{arith}
 use lib.Dec.{lit≤}
 use lib.ListN.{length-set}
 use denote.Ref.{now}
