@@ -7,8 +7,8 @@ use Rattle.book.specs.declared.BookAnswer.{BookAnswer}
 use Rattle.book.specs.declared.BookAnswer.the-variants as book
 use Rattle.lexing.specs.declared.LexAnswer.{LexAnswer}
 use Rattle.lexing.specs.declared.LexAnswer.the-variants as lexer
-use Rattle.printing.specs.declared.PrintAnswer.{PrintAnswer}
-use Rattle.printing.specs.declared.PrintAnswer.the-variants as printer
+use Rattle.writing.specs.declared.PrintAnswer.{PrintAnswer}
+use Rattle.writing.specs.declared.PrintAnswer.the-variants as printer
 
 abbrev pub largestPlace : ℕ
 largestPlace = 72057594037927935

@@ -1,7 +1,7 @@
 // Answers in 64 bits, for C.
 use lexing::LexAnswer;
-use printing::PrintAnswer;
 use refusal::Refusal;
+use writing::PrintAnswer;
 ghost use mathlib.Core.Path.{_≡_};
 ghost use Prim.Native.Nat.{min};
 ghost use Rattle.answers.specs.Words.{refusalWord, acceptedWord, lexWord, printWord};

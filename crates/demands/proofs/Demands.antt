@@ -19,7 +19,7 @@ use Rattle.pooled.specs.Faults.{aloneIn}
 use Rattle.printer.proofs.Accepting.{written-joins, alone-tagged}
 use Rattle.printer.proofs.RoundTrip.{byte-below, same-rules, Cut, lexed-cut, cut-accepts, stored-say, equal-lists, accepts-printable, output-cut, cut-printed}
 use Rattle.reading.specs.Limits.{maxText}
-use Rattle.printing.specs.declared.PrintAnswer.the-variants as print
+use Rattle.writing.specs.declared.PrintAnswer.the-variants as print
 use Rattle.printing.specs.Outcome.{PrintOutcome}
 use Rattle.spacing.specs.Separators.{spelled}
 use Rattle.separated.specs.Outcome.{separatedOutcome}

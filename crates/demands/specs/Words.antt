@@ -12,7 +12,7 @@ use Rattle.cutting.specs.Lexer.{Token, join}
 use Rattle.reading.specs.Limits.{maxText, maxTokens}
 use Rattle.records.specs.Records.{recordCount}
 use Rattle.lexer.specs.Outcome.{lexOutcome}
-use Rattle.printing.specs.declared.PrintAnswer.the-variants as print
+use Rattle.writing.specs.declared.PrintAnswer.the-variants as print
 use Rattle.pooled.specs.Tokens.{recordsOf, tokensOf}
 use Rattle.pooled.specs.Faults.{aloneIn}
 use Rattle.printer.specs.Outcome.{printOutcome}

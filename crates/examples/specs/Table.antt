@@ -7,8 +7,8 @@ use Rattle.automaton.specs.Choice.{All}
 use Rattle.book.specs.Reading.{Reading, accepted, refused, readBook}
 use Rattle.cutting.specs.Lexer.{Token, Lexed, lex, join}
 use Rattle.records.specs.Records.{recordsAt}
-use Rattle.printing.specs.declared.PrintAnswer.{PrintAnswer}
-use Rattle.printing.specs.declared.PrintAnswer.the-variants as answer
+use Rattle.writing.specs.declared.PrintAnswer.{PrintAnswer}
+use Rattle.writing.specs.declared.PrintAnswer.the-variants as answer
 use Rattle.printing.specs.Outcome.{PrintOutcome}
 use Rattle.printer.specs.Outcome.{printOutcome}
 use Rattle.separated.specs.Outcome.{separatedOutcome}

@@ -20,7 +20,7 @@ use Rattle.cutting.specs.Lexer.{Token, extends, join, Alone, Printable}
 use Rattle.reading.specs.Limits.{maxText, maxTokens}
 use Rattle.records.specs.Records.{recordCount}
 use Rattle.cutting.proofs.First.{nothing}
-use Rattle.printing.specs.declared.PrintAnswer.the-variants as print
+use Rattle.writing.specs.declared.PrintAnswer.the-variants as print
 use Rattle.pooled.specs.declared.TokenRecord.{TokenRecord}
 use Rattle.pooled.specs.Tokens.{recordsOf, bytesIn, tokensIn, tokensOf}
 use Rattle.pooled.specs.Faults.{aloneIn, faultOf}

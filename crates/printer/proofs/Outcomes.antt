@@ -9,8 +9,8 @@ use Rattle.book.specs.declared.BookAnswer.the-variants as book
 use Rattle.book.specs.Loading.{Loaded}
 use Rattle.cutting.specs.Answers.{Holds}
 use Rattle.lexer.proofs.Outcomes.{loaded-rules, loaded-refused}
-use Rattle.printing.specs.declared.PrintAnswer.{PrintAnswer}
-use Rattle.printing.specs.declared.PrintAnswer.the-variants as print
+use Rattle.writing.specs.declared.PrintAnswer.{PrintAnswer}
+use Rattle.writing.specs.declared.PrintAnswer.the-variants as print
 use Rattle.printing.specs.Outcome.{printRules, Answered}
 use Rattle.printer.specs.Outcome.{printOutcome}
 

@@ -27,7 +27,7 @@ use Rattle.cutting.proofs.First.{nothing-empty}
 use Rattle.records.proofs.Records.{length-records}
 use Rattle.cutting.proofs.Choosing.{chosen-shorter, choose-some}
 use Rattle.cutting.proofs.Lexing.{lex-unfolds, joins, lex-few, lex-lengths, printed-lexes, lexed-printable, join-injective}
-use Rattle.printing.specs.declared.PrintAnswer.the-variants as print
+use Rattle.writing.specs.declared.PrintAnswer.the-variants as print
 use Rattle.pooled.specs.Tokens.{recordsOf, tokensOf}
 use Rattle.printing.specs.Outcome.{PrintOutcome, printAccepted}
 use Rattle.printer.specs.Outcome.{printOutcome}

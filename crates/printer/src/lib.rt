@@ -1,8 +1,8 @@
 // Printing a list of tokens, the paper's plain writing: their bytes one behind the other, if lexing them again gives the list back.
 // The bytes are joined in a scratch of the call's own, so that the output stands as it was where the list is refused.
 use book::BookAnswer;
-use printing::PrintAnswer;
 use reading::Book;
+use writing::PrintAnswer;
 ghost use mathlib.Core.Path.{_≡_};
 ghost use mathlib.Core.List.{List};
 ghost use lib.ListN.{length};

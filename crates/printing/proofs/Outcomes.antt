@@ -9,14 +9,15 @@ use native.Mathlib.Omega.{arith}
 use native.Mathlib.Nat.{zero-add}
 use lib.ListN.{length, take, drop}
 use lib.Seq.{paste}
-use borrow.Author.Tests.{lt-ltb, le-ltb}
+use borrow.Author.Tests.{lt-ltb, le-ltb, ltb-true, ltb-false}
 use Rattle.automaton.specs.Rule.{Rule}
 use Rattle.refusal.specs.declared.Refusal.{Refusal}
 use Rattle.cutting.specs.Lexer.{or, Token, join}
 use Rattle.reading.specs.Limits.{maxText, maxTokens}
 use Rattle.records.specs.Records.{recordCount}
-use Rattle.printing.specs.declared.PrintAnswer.{PrintAnswer}
-use Rattle.printing.specs.declared.PrintAnswer.the-variants as print
+use Rattle.writing.specs.Writing.{Writes}
+use Rattle.writing.specs.declared.PrintAnswer.{PrintAnswer}
+use Rattle.writing.specs.declared.PrintAnswer.the-variants as print
 use Rattle.lists.specs.declared.Measured.the-variants as measure
 use Rattle.pooled.specs.Tokens.{recordsOf, tokensOf}
 use Rattle.pooled.specs.Faults.{faultOf}
@@ -99,10 +100,17 @@ module _ (rules : List Rule) (records pool out : List ℕ) where
       unfolding refuse
       nothing-on = w .settled short .apart
 
-      pub clean-short : length out < total → {r : PrintAnswer} → r ≡ print.Refused (record { number = 22; place = total }) → Answered (printRules rules records pool out) r out
+      clean-short : length out < total → {r : PrintAnswer} → r ≡ print.Refused (record { number = 22; place = total }) → Answered (printRules rules records pool out) r out
       clean-short l a =
           answered-checked (w .settled short .faultless) (answered-short rules (tokensOf records pool) out (w .bytes short) short {k = 0} {n = 0} nothing-on (omega arith) l a)
 
-      pub clean-printed : total ≤ length out → {exit : List ℕ} → exit ≡ paste out 0 (drop 0 scratch) total → Answered (printRules rules records pool out) (print.Printed total) exit
+      clean-printed : total ≤ length out → {exit : List ℕ} → exit ≡ paste out 0 (drop 0 scratch) total → Answered (printRules rules records pool out) (print.Printed total) exit
       clean-printed l e =
           answered-checked (w .settled short .faultless) (answered-printed rules (tokensOf records pool) out (w .bytes short) short {k = 0} {n = 0} nothing-on (omega arith) l scratch front e)
+
+      pub clean-written : {r : PrintAnswer} {exit : List ℕ} → Writes scratch 0 total out r exit → Answered (printRules rules records pool out) r exit
+      clean-written {r} {exit} h = go (ltb (length out) total) refl
+        where
+          go : (t : Bool) → ltb (length out) total ≡ t → Answered (printRules rules records pool out) r exit
+          go true l = let g = h .lacks (ltb-true _ _ l) in rw (g .1) (clean-short (ltb-true _ _ l) (g .0))
+          go false l = let g = h .prints (ltb-false _ _ l) in rw (g .0) (clean-printed (ltb-false _ _ l) (g .1))

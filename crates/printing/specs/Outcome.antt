@@ -12,8 +12,8 @@ use Rattle.refusal.specs.declared.Refusal.{Refusal}
 use Rattle.cutting.specs.Lexer.{Token, join}
 use Rattle.reading.specs.Limits.{maxText, maxTokens}
 use Rattle.records.specs.Records.{recordCount}
-use Rattle.printing.specs.declared.PrintAnswer.{PrintAnswer}
-use Rattle.printing.specs.declared.PrintAnswer.the-variants as answer
+use Rattle.writing.specs.declared.PrintAnswer.{PrintAnswer}
+use Rattle.writing.specs.declared.PrintAnswer.the-variants as answer
 use Rattle.pooled.specs.Tokens.{recordsOf, tokensOf}
 use Rattle.pooled.specs.Faults.{faultOf}
 use Rattle.lists.specs.Checks.{firstFault, firstExtended}

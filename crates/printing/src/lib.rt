@@ -1,6 +1,7 @@
 // Printing a list of tokens by rules that lent tables hold.
 use reading::Book;
 use refusal::Refusal;
+use writing::PrintAnswer;
 ghost use mathlib.Core.Path.{_≡_};
 ghost use mathlib.Core.List.{List};
 ghost use lib.ListN.{length};
@@ -8,12 +9,6 @@ ghost use Rattle.automaton.specs.Rule.{Rule};
 ghost use Rattle.reading.specs.Limits.{maxText};
 ghost use Rattle.cutting.specs.Answers.{Holds, Held};
 ghost use Rattle.printing.specs.Outcome.{printRules, Answered};
-
-// What printing answers: the number of bytes written, or a refusal.
-pub enum PrintAnswer {
-    Printed(usize),
-    Refused(Refusal),
-}
 
 // The bytes are joined in the scratch. The list is rehearsed, and only one with which something is wrong is asked what that is.
 pub fn print_rules(
@@ -32,7 +27,7 @@ pub fn print_rules(
         → Answered (printRules rs (now (records .entry)) (now (pool .entry)) (now (out .entry))) r (now (out .exit))) ⌝ }
 {
     if Book::TOKENS < records.len() / 10 {
-        return refused(Refusal::TOO_MANY_TOKENS, 0);
+        return writing::refused(Refusal::TOO_MANY_TOKENS, 0);
     }
     let total = rehearsal::rehearse(headers, states, edges, rules, records, pool, scratch);
     if Book::TEXT < total {
@@ -46,15 +41,5 @@ pub fn print_rules(
             scratch,
         ));
     }
-    if out.len() < total {
-        return refused(Refusal::OUTPUT_TOO_SHORT, total);
-    }
-    copying::copy(scratch, 0, total, out, 0);
-    PrintAnswer::Printed(total)
-}
-
-fn refused(number: u8, place: usize) -> PrintAnswer
-    ensures { λ r. ⌜ r ≡ PrintAnswer.Refused (record { number = number; place = place }) ⌝ }
-{
-    PrintAnswer::Refused(Refusal { number, place })
+    writing::write(scratch, 0, total, out)
 }

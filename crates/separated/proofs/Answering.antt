@@ -1,13 +1,15 @@
 -- What the code answers is the outcome. Assumes nothing.
 use mathlib.Core.Path.{_≡_, refl, ap, _∙_, subst}
 use Prim.Native.Nat.{ℕ, _<_, _≤_}
+use mathlib.Core.Bool.{Bool, true, false}
 use mathlib.Core.Option.{Option, none, some}
 use mathlib.Core.List.{List}
 use native.Mathlib.Omega.{arith}
 use native.Mathlib.Nat.{zero-add}
 use lib.ListN.{length, take, drop}
 use lib.Seq.{paste, take-length}
-use borrow.Author.Tests.{lt-ltb, le-ltb}
+use lib.Dec.{ltb}
+use borrow.Author.Tests.{lt-ltb, le-ltb, ltb-true, ltb-false}
 use Rattle.automaton.specs.Rule.{Rule}
 use Rattle.refusal.specs.declared.Refusal.{Refusal}
 use Rattle.book.specs.declared.BookAnswer.{BookAnswer}
@@ -16,8 +18,9 @@ use Rattle.book.specs.Loading.{Loaded}
 use Rattle.cutting.specs.Answers.{Holds}
 use Rattle.reading.specs.Limits.{maxText}
 use Rattle.lexer.proofs.Outcomes.{loaded-rules, loaded-refused}
-use Rattle.printing.specs.declared.PrintAnswer.{PrintAnswer}
-use Rattle.printing.specs.declared.PrintAnswer.the-variants as print
+use Rattle.writing.specs.Writing.{Writes}
+use Rattle.writing.specs.declared.PrintAnswer.{PrintAnswer}
+use Rattle.writing.specs.declared.PrintAnswer.the-variants as print
 use Rattle.pooled.specs.declared.TokenRecord.{TokenRecord}
 use Rattle.printing.specs.Outcome.{check, unless, Answered}
 use Rattle.checks.specs.declared.Checked.the-variants as checked
@@ -45,15 +48,24 @@ module _ (bytes out : List ℕ) where
   answered-long l a = rw (lt-ltb _ _ l) (record { answer = a; out = refl })
 
   module _ {total : ℕ} (e : total ≡ length bytes) (short : total ≤ maxText) where
-    pub answered-short : length out < total → {r : PrintAnswer} → r ≡ print.Refused (record { number = 22; place = total }) → Answered (writing bytes out) r out
+    answered-short : length out < total → {r : PrintAnswer} → r ≡ print.Refused (record { number = 22; place = total }) → Answered (writing bytes out) r out
     unfolding writing check
     answered-short l a = rw (← e, le-ltb _ _ short, lt-ltb _ _ l) (record { answer = a; out = refl })
 
-    pub answered-printed : total ≤ length out → {exit : List ℕ} → exit ≡ paste out 0 bytes total → Answered (writing bytes out) (print.Printed total) exit
+    answered-printed : total ≤ length out → {exit : List ℕ} → exit ≡ paste out 0 bytes total → Answered (writing bytes out) (print.Printed total) exit
     unfolding writing check
     answered-printed l p =
         let t : take total bytes ≡ bytes = rw e (take-length bytes) in
         rw (← e, le-ltb _ _ short, le-ltb _ _ l) (record { answer = refl; out = p ∙ rw (t, zero-add) })
+
+-- what `write` makes of the bytes of a scratch from `at` on
+pub answered-written : (scratch : List ℕ) (at : ℕ) (out : List ℕ) {total : ℕ} {r : PrintAnswer} {exit : List ℕ} → total ≡ length (drop at scratch) → total ≤ maxText
+    → Writes scratch at total out r exit → Answered (writing (drop at scratch) out) r exit
+answered-written scratch at out {total} {r} {exit} e short h = go (ltb (length out) total) refl
+  where
+    go : (t : Bool) → ltb (length out) total ≡ t → Answered (writing (drop at scratch) out) r exit
+    go true l = let g = h .lacks (ltb-true _ _ l) in rw (g .1) (answered-short (drop at scratch) out e short (ltb-true _ _ l) (g .0))
+    go false l = let g = h .prints (ltb-false _ _ l) in rw (g .0) (answered-printed (drop at scratch) out e short (ltb-false _ _ l) (g .1))
 
 -- what stands at the end of a scratch of that size
 module _ (scratch : List ℕ) (size : length scratch ≡ maxText) where

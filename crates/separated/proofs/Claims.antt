@@ -9,7 +9,7 @@ use Rattle.automaton.specs.Rule.{Rule}
 use Rattle.reading.specs.Valid.{ValidRules}
 use Rattle.book.proofs.Accepted.{accepted-valid}
 use Rattle.cutting.specs.Lexer.{Token, Lexed, join}
-use Rattle.printing.specs.declared.PrintAnswer.the-variants as answer
+use Rattle.writing.specs.declared.PrintAnswer.the-variants as answer
 use Rattle.pooled.specs.declared.TokenRecord.{TokenRecord}
 use Rattle.pooled.specs.Tokens.{recordsOf, tokenIn, tokensIn, tokensOf}
 use Rattle.printing.specs.Outcome.{PrintOutcome}

@@ -16,7 +16,7 @@ use Rattle.cutting.specs.Lexer.{or}
 use Rattle.reading.specs.Limits.{maxText, maxTokens}
 use Rattle.records.specs.Records.{recordCount}
 use Rattle.cutting.proofs.First.{nothing}
-use Rattle.printing.specs.declared.PrintAnswer.the-variants as answer
+use Rattle.writing.specs.declared.PrintAnswer.the-variants as answer
 use Rattle.pooled.specs.declared.TokenRecord.{TokenRecord}
 use Rattle.pooled.specs.Tokens.{recordsOf}
 use Rattle.pooled.specs.Faults.{faultOf}

@@ -13,7 +13,7 @@ use Rattle.reading.specs.Draft.{tagged}
 use Rattle.cutting.specs.Lexer.{lex}
 use Rattle.reading.specs.Limits.{maxText, maxTokens}
 use Rattle.records.specs.Records.{recordCount}
-use Rattle.printing.specs.declared.PrintAnswer.the-variants as answer
+use Rattle.writing.specs.declared.PrintAnswer.the-variants as answer
 use Rattle.pooled.specs.declared.TokenRecord.{TokenRecord}
 use Rattle.pooled.specs.Tokens.{recordsOf, bytesIn, tokenIn, tokensOf}
 use Rattle.pooled.specs.Faults.{aloneIn}

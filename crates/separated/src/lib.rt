@@ -4,9 +4,9 @@ use book::BookAnswer;
 use checks::Checked;
 use placing::Placed;
 use pooled::TokenRecord;
-use printing::PrintAnswer;
 use reading::Book;
 use refusal::Refusal;
+use writing::PrintAnswer;
 ghost use mathlib.Core.Path.{_≡_};
 ghost use mathlib.Core.List.{List};
 ghost use Prim.Native.Nat.{_≤_};
@@ -159,7 +159,7 @@ fn print_passed(
         scratch,
     ) {
         Placed::At(at) => write_from(scratch, at, out),
-        Placed::Full => refused(Refusal::OUTPUT_TOO_LONG, 0),
+        Placed::Full => writing::refused(Refusal::OUTPUT_TOO_LONG, 0),
     }
 }
 
@@ -169,16 +169,5 @@ fn write_from(scratch: &[u8], at: usize, out: &mut [u8]) -> PrintAnswer
     requires { ⌜ at ≤ length (now scratch) ⌝ }
     ensures { λ r. ⌜ Answered (writing (drop at (now (scratch .entry))) (now (out .entry))) r (now (out .exit)) ⌝ }
 {
-    let total = scratch.len() - at;
-    if out.len() < total {
-        return refused(Refusal::OUTPUT_TOO_SHORT, total);
-    }
-    copying::copy(scratch, at, total, out, 0);
-    PrintAnswer::Printed(total)
-}
-
-fn refused(number: u8, place: usize) -> PrintAnswer
-    ensures { λ r. ⌜ r ≡ PrintAnswer.Refused (record { number = number; place = place }) ⌝ }
-{
-    PrintAnswer::Refused(Refusal { number, place })
+    writing::write(scratch, at, scratch.len() - at, out)
 }

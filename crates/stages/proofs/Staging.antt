@@ -23,8 +23,8 @@ use Rattle.reading.specs.Limits.{maxText, maxTokens}
 use Rattle.records.specs.Records.{recordCount}
 use Rattle.cutting.proofs.Held.{held-empty}
 use Rattle.lexer.proofs.Outcomes.{loaded-rules}
-use Rattle.printing.specs.declared.PrintAnswer.{PrintAnswer}
-use Rattle.printing.specs.declared.PrintAnswer.the-variants as print
+use Rattle.writing.specs.declared.PrintAnswer.{PrintAnswer}
+use Rattle.writing.specs.declared.PrintAnswer.the-variants as print
 use Rattle.pooled.specs.declared.TokenRecord.{TokenRecord}
 use Rattle.pooled.specs.Tokens.{recordAt, recordsOf, tokensOf}
 use Rattle.pooled.specs.Faults.{faultOf}

@@ -13,8 +13,8 @@ use Rattle.refusal.specs.declared.Refusal.{Refusal}
 use Rattle.cutting.specs.Answers.{Holds, Held, Chooses}
 use Rattle.reading.specs.Limits.{maxText, maxTokens}
 use Rattle.records.specs.Records.{recordCount}
-use Rattle.printing.specs.declared.PrintAnswer.{PrintAnswer}
-use Rattle.printing.specs.declared.PrintAnswer.the-variants as print
+use Rattle.writing.specs.declared.PrintAnswer.{PrintAnswer}
+use Rattle.writing.specs.declared.PrintAnswer.the-variants as print
 use Rattle.pooled.specs.declared.TokenRecord.{TokenRecord}
 use Rattle.pooled.specs.Answers.{Small}
 use Rattle.pooled.specs.Faults.{faultOf}

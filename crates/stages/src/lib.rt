@@ -4,10 +4,10 @@
 use book::BookAnswer;
 use cutting::Choice;
 use pooled::TokenRecord;
-use printing::PrintAnswer;
 use reading::Book;
 use refusal::Refusal;
 use token::Token;
+use writing::PrintAnswer;
 ghost use mathlib.Core.Path.{_≡_};
 ghost use mathlib.Core.List.{List};
 ghost use Prim.Native.Nat.{_+_, _*_, _^_, _<_, _≤_};
@@ -271,21 +271,13 @@ fn finish_scratch(scratch: &[u8], stage: Stage, out: &mut [u8]) -> PrintAnswer
     requires { ⌜ stage .total ≤ length (now scratch) ⌝ }
     ensures { λ r. ⌜ Finishes (now (scratch .entry)) stage (now (out .entry)) r (now (out .exit)) ⌝ }
 {
-    let total = stage.total;
     if stage.refused {
         return PrintAnswer::Refused(Refusal {
             number: stage.number,
             place: stage.place,
         });
     }
-    if out.len() < total {
-        return PrintAnswer::Refused(Refusal {
-            number: Refusal::OUTPUT_TOO_SHORT,
-            place: total,
-        });
-    }
-    copying::copy(scratch, 0, total, out, 0);
-    PrintAnswer::Printed(total)
+    writing::write(scratch, 0, stage.total, out)
 }
 
 // What is answered when there is no token to be read: the joined bytes are written, or the call is refused.

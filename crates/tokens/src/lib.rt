@@ -1,9 +1,9 @@
 // Token lists as slices of token structs, for callers inside the server: lexing fills a slice, printing reads one.
 // What is decided stands below, in functions over plain data; the functions that hold a slice of tokens are one loop each.
 use lexing::LexAnswer;
-use printing::PrintAnswer;
 use reading::Book;
 use token::Token;
+use writing::PrintAnswer;
 ghost use mathlib.Core.Path.{_≡_};
 ghost use Rattle.lexer.specs.Outcome.{lexOutcome};
 ghost use Rattle.printer.specs.Outcome.{printOutcome};

@@ -1,18 +1,18 @@
--- `print_rules`: 16, what is wrong with the list, 22, or its bytes. Assumes nothing.
+-- `print_rules`: 16, what is wrong with the list, or what `write` answers. Assumes nothing.
 use native.Mathlib.Omega.{arith}
-use Rattle.printing.proofs.Outcomes.{answered-many, answered-troubled, clean-short, clean-printed}
+use Rattle.printing.proofs.Outcomes.{answered-many, answered-troubled, clean-written}
 use borrow.Author.Needs.{needs}
 use Rattle.printing.proofs.print_rules.Statement.{statement}
 use Rattle.printing.proofs.print_rules.Tie as tie
 use Rattle.printing.proofs.print_rules.Reads as reads
 use Rattle.printing.proofs.print_rules.Lts as lts
-use Rattle.copying.proofs.copy.Reads as copy-reads
-use Rattle.printing.proofs.refused.Reads as refused-reads
 use Rattle.rehearsal.proofs.find_refusal.Reads as find-refusal-reads
 use Rattle.rehearsal.proofs.rehearse.Reads as rehearse-reads
+use Rattle.writing.proofs.refused.Reads as refused-reads
+use Rattle.writing.proofs.write.Reads as write-reads
 
 refused-requires : tie.Need-refused-requires
-refused-requires c κs = search needs
+refused-requires c κs = tt
 
 returns : tie.Need-returns
 returns c = λ rs h. answered-many rs _ _ _ (c .before .if1 .taken) (c .refused .ensures)
@@ -29,26 +29,17 @@ same-length c = search needs
 returns-2 : tie.Need-returns-2
 returns-2 c = λ rs h. answered-troubled rs _ _ _ (c .before .before .before .before .before .before .before .if1 .left) (c .find-refusal .ensures rs h)
 
-refused-requires-2 : tie.Need-refused-requires-2
-refused-requires-2 c κs = search needs
+write-requires : tie.Need-write-requires
+write-requires c κs = search needs
 
 same-length-2 : tie.Need-same-length-2
 same-length-2 c = search needs
 
-returns-3 : tie.Need-returns-3
-returns-3 c = λ rs h. clean-short rs _ _ _ (c .before .before .before .before .before .before .before .if1 .left) (c .before .before .before .before .before .rehearse .ensures rs h) (c .before .before .if2 .left) (c .before .if3 .taken) (c .refused2 .ensures)
-
-copy-requires : tie.Need-copy-requires
-copy-requires c κs = search needs
-
 same-length-3 : tie.Need-same-length-3
 same-length-3 c = search needs
 
-same-length-4 : tie.Need-same-length-4
-same-length-4 c = search needs
-
-returns-4 : tie.Need-returns-4
-returns-4 c = λ rs h. clean-printed rs _ _ _ (c .before .before .before .before .before .before .before .before .before .before .before .if1 .left) (c .before .before .before .before .before .before .before .before .before .rehearse .ensures rs h) (c .before .before .before .before .before .before .if2 .left) (c .before .before .before .before .before .if3 .left) (c .before .before .copy .ensures)
+returns-3 : tie.Need-returns-3
+returns-3 c = λ rs h. clean-written rs _ _ _ (c .before .before .before .before .before .before .before .before .before .before .if1 .left) (c .before .before .before .before .before .before .before .before .rehearse .ensures rs h) (c .before .before .before .before .before .if2 .left) (c .before .before .write .ensures)
 
 pub print-rules-spec : {M : Type 1} → statement M
 print-rules-spec =
@@ -60,10 +51,7 @@ print-rules-spec =
     find-refusal-requires
     same-length
     returns-2
-    refused-requires-2
+    write-requires
     same-length-2
-    returns-3
-    copy-requires
     same-length-3
-    same-length-4
-    returns-4)
+    returns-3)

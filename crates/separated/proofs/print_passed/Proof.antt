@@ -8,7 +8,7 @@ use Rattle.separated.proofs.print_passed.Statement.{statement}
 use Rattle.separated.proofs.print_passed.Tie as tie
 use Rattle.separated.proofs.print_passed.Reads as reads
 use Rattle.separated.proofs.print_passed.Lts as lts
-use Rattle.separated.proofs.refused.Reads as refused-reads
+use Rattle.writing.proofs.refused.Reads as refused-reads
 use Rattle.separated.proofs.write_from.Reads as write-from-reads
 
 put-list-requires : tie.Need-put-list-requires

@@ -49,7 +49,7 @@ use denote.Exit.{yes}
 use Rattle.reading.proofs.Filling.{fresh-zeros}
 use Rattle.reading.specs.Limits.{maxText}
 use Rattle.records.specs.Records.{recordCount}
-use Rattle.printing.specs.declared.PrintAnswer.{PrintAnswer}
+use Rattle.writing.specs.declared.PrintAnswer.{PrintAnswer}
 use Rattle.pooled.specs.Tokens.{recordAt}
 use Rattle.pooled.specs.Answers.{Small}
 use Rattle.printing.specs.Outcome.{Answered}

@@ -1,0 +1,2 @@
+-- What writing bytes to an output answers and leaves there.
+pub mod Writing
