@@ -54,8 +54,8 @@ use Rattle.pooled.specs.Tokens.{recordAt}
 use Rattle.pooled.specs.Answers.{Small}
 use Rattle.printing.specs.Outcome.{Answered}
 use Rattle.printer.specs.Outcome.{printOutcome}
-use Rattle.printing.proofs.PrintAnswer as L
-use Rattle.printing.proofs.PrintAnswer.Laws as L′
+use Rattle.writing.proofs.PrintAnswer as L
+use Rattle.writing.proofs.PrintAnswer.Laws as L′
 use Rattle.token.specs.Encoding.{encoded, Fits}
 use Rattle.token.specs.Encoding.{noToken}
 use Rattle.token.specs.Encoding.{recordIn}
@@ -64,9 +64,9 @@ use Rattle.stages.specs.declared.Stage.{Stage}
 use Rattle.token.specs.declared.Token.{Token}
 use Rattle.token.proofs.Encoding.{length-encoded, count-encoded, record-encoded}
 use Rattle.stages.proofs.Staging.{Going, going-start, going-index, going-steps, going-next, going-total, going-finish}
-use Rattle.tokens.proofs.Tests.{behind, tests}
-use Rattle.tokens.proofs.Locals.{frees-tail}
-use Rattle.tokens.proofs.Arrays.{Words, words, ref-at, fills, lends-lying, takes-back, shares-lying, gives-up}
+use Rattle.token.proofs.Tests.{behind, tests}
+use Rattle.token.proofs.Locals.{frees-tail}
+use Rattle.token.proofs.Arrays.{Words, words, ref-at, fills, lends-lying, takes-back, shares-lying, gives-up}
 use Rattle.stages.proofs.Stage as S
 use Rattle.stages.proofs.Stage.Laws as S′
 use Rattle.token.proofs.Token as T
@@ -83,11 +83,11 @@ use Rattle.stages.proofs.finish as finish
 use Rattle.stages.proofs.finish.Symbol as finish-def
 use Rattle.stages.proofs.finish.Symbol.{name as #stages·finish}
 use Rattle.stages.proofs.finish.Met as finish-thm
-use Rattle.tokens.proofs.print_tokens.Key.{name as #tokens·print-tokens}
-use Rattle.tokens.proofs.print_tokens as print-tokens
-use Rattle.tokens.proofs.print_tokens.Statement as stated
-use Rattle.tokens.proofs.print_tokens.Code as code
-use Rattle.tokens.proofs.print_tokens.Code.Mir as body
+use Rattle.token_printer.proofs.print_tokens.Key.{name as #tokens·print-tokens}
+use Rattle.token_printer.proofs.print_tokens as print-tokens
+use Rattle.token_printer.proofs.print_tokens.Statement as stated
+use Rattle.token_printer.proofs.print_tokens.Code as code
+use Rattle.token_printer.proofs.print_tokens.Code.Mir as body
 
 abbrev stayed : Stays (print-tokens.ended .signature .params) (print-tokens.ended .kept)
 stayed = (stay-none-slice (0 ∷ []) tt (plain (λ _. u8)) yes, (stay-none-slice (1 ∷ []) tt (plain (λ _. T.the-row)) yes, (stay-none-slice (2 ∷ []) tt (plain (λ _. u8)) yes, (gave-slice (3 ∷ []) tt (plain (λ _. u8)), tt))))

@@ -62,10 +62,10 @@ use Rattle.turns.specs.Turns.{answerOf, Turns, Ready, Begun}
 use Rattle.turns.specs.declared.Turn.{Turn}
 use Rattle.token.specs.declared.Token.{Token}
 use Rattle.token.proofs.Encoding.{length-encoded, count-encoded, encoded-set}
-use Rattle.tokens.proofs.Turning.{Going, going-start, going-stop, going-room, going-ready, going-left, going-next}
-use Rattle.tokens.proofs.Tests.{behind, tests}
-use Rattle.tokens.proofs.Locals.{frees-tail}
-use Rattle.tokens.proofs.Arrays.{Words, words, ref-at, fills, lends-lying, takes-back, shares-lying, gives-up}
+use Rattle.token_lexer.proofs.Turning.{Going, going-start, going-stop, going-room, going-ready, going-left, going-next}
+use Rattle.token.proofs.Tests.{behind, tests}
+use Rattle.token.proofs.Locals.{frees-tail}
+use Rattle.token.proofs.Arrays.{Words, words, ref-at, fills, lends-lying, takes-back, shares-lying, gives-up}
 use Rattle.turns.proofs.Turn as S
 use Rattle.turns.proofs.Turn.Laws as S′
 use Rattle.token.proofs.Token as T
@@ -82,11 +82,11 @@ use Rattle.turns.proofs.answer as answer
 use Rattle.turns.proofs.answer.Symbol as answer-def
 use Rattle.turns.proofs.answer.Symbol.{name as #turns·answer}
 use Rattle.turns.proofs.answer.Met as answer-thm
-use Rattle.tokens.proofs.lex_tokens.Key.{name as #tokens·lex-tokens}
-use Rattle.tokens.proofs.lex_tokens as lex-tokens
-use Rattle.tokens.proofs.lex_tokens.Statement as stated
-use Rattle.tokens.proofs.lex_tokens.Code as code
-use Rattle.tokens.proofs.lex_tokens.Code.Mir as body
+use Rattle.token_lexer.proofs.lex_tokens.Key.{name as #tokens·lex-tokens}
+use Rattle.token_lexer.proofs.lex_tokens as lex-tokens
+use Rattle.token_lexer.proofs.lex_tokens.Statement as stated
+use Rattle.token_lexer.proofs.lex_tokens.Code as code
+use Rattle.token_lexer.proofs.lex_tokens.Code.Mir as body
 
 abbrev stayed : Stays (lex-tokens.ended .signature .params) (lex-tokens.ended .kept)
 stayed = (stay-none-slice (0 ∷ []) tt (plain (λ _. u8)) yes, (stay-none-slice (1 ∷ []) tt (plain (λ _. u8)) yes, (stay-slice (2 ∷ []) tt (plain (λ _. T.the-row)), tt)))

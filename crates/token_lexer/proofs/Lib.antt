@@ -1,0 +1,2 @@
+-- What the proof of this crate stands on.
+mod Turning
