@@ -10,7 +10,7 @@ ghost use Prim.Native.Nat.{_+_, _*_, _≤_, _<_};
 ghost use lib.ListN.{length};
 ghost use Rattle.cutting.specs.Lexer.{lex};
 ghost use Rattle.cutting.specs.Answers.{Cuts};
-ghost use Rattle.records.specs.Filling.{Fills};
+ghost use Rattle.filling.specs.Filling.{Fills};
 ghost use Rattle.lexing.specs.Outcome.{lexRules};
 ghost use Rattle.lexer.specs.Outcome.{lexOutcome};
 ghost use Rattle.tables.specs.Book.{builtinBytes, builtinRules};

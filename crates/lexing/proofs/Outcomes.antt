@@ -9,7 +9,7 @@ use Rattle.automaton.specs.Rule.{Rule}
 use Rattle.lexing.specs.declared.LexAnswer.the-variants as lexed
 use Rattle.cutting.specs.Lexer.{lex}
 use Rattle.cutting.specs.Answers.{Holds, Held, Cuts}
-use Rattle.records.specs.Filling.{Room, Fills}
+use Rattle.filling.specs.Filling.{Room, Fills}
 use Rattle.reading.specs.Limits.{maxText}
 use Rattle.records.specs.Records.{recordCount}
 use Rattle.lexing.specs.Outcome.{lexRules, Answered, restRules, RestAt}

@@ -42,7 +42,7 @@ pub fn lex_rules(
             });
         }
     }
-    let cut = records::fill(headers, states, edges, rules, text, records);
+    let cut = filling::fill(headers, states, edges, rules, text, records);
     LexAnswer::Lexed {
         tokens: cut.tokens,
         rest: cut.rest,

@@ -1,3 +1,2 @@
--- The records of tokens, and what filling a buffer with them leaves.
+-- The records of tokens.
 pub mod Records
-pub mod Filling

@@ -17,10 +17,11 @@ use Rattle.reading.specs.Limits.{maxText}
 use Rattle.lexing.specs.Outcome.{Answered}
 use Rattle.lexer.specs.Outcome.{lexOutcome}
 use Rattle.cutting.proofs.Turns.{cutting-within, cutting-stop, lex-stop}
-use Rattle.records.proofs.Filling.{Filling, filling-start, filling-room, filling-next, filling-stop}
+use Rattle.filling.proofs.Filling.{Filling, filling-start, filling-room, filling-next, filling-stop}
 use Rattle.lexing.proofs.Outcomes.{answered-lexed}
 use Rattle.turns.specs.declared.Turn.{Turn}
-use Rattle.turns.specs.Turns.{answerOf, refusalOf, Chosen, Turns, Ready, Begun}
+use Rattle.turns.specs.Turns.{answerOf, refusalOf, Chosen, Turns, Ready}
+use Rattle.starting.specs.Starting.{Begun}
 use Rattle.token.proofs.Encoding.{tenBytes, two-bytes}
 
 -- the turn t stands after t .index tokens of the text, which are in the records; at most `left` turns follow

@@ -16,7 +16,7 @@ pub fn lex_tokens(book: &[u8], text: &[u8], tokens: &mut [Token]) -> LexAnswer
     let mut headers = [0u64; Book::RULES];
     let mut states = [0u16; Book::CELLS];
     let mut edges = [0u64; Book::EDGES];
-    let mut turn = turns::begin(
+    let mut turn = starting::begin(
         book,
         &mut headers,
         &mut states,

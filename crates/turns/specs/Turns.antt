@@ -8,16 +8,14 @@ use lib.ListN.{length, drop}
 use Rattle.automaton.specs.Choice.{if}
 use Rattle.automaton.specs.Rule.{Rule}
 use Rattle.automaton.specs.Tables.{ruleAt}
-use Rattle.book.specs.Reading.{readBook, accepted}
 use Rattle.refusal.specs.declared.Refusal.{Refusal}
 use Rattle.lexing.specs.declared.LexAnswer.{LexAnswer}
 use Rattle.lexing.specs.declared.LexAnswer.the-variants as answer
 use Rattle.cutting.specs.Lexer.{choose, lex}
-use Rattle.cutting.specs.Answers.{Holds, Held, Chooses}
+use Rattle.cutting.specs.Answers.{Held, Chooses}
 use Rattle.reading.specs.Limits.{maxText}
 use Rattle.records.specs.Records.{recordCount}
 use Rattle.lexing.specs.Outcome.{lexRules, Answered}
-use Rattle.lexer.specs.Outcome.{lexOutcome}
 use Rattle.token.specs.Encoding.{noToken}
 use Rattle.turns.specs.declared.Turn.{Turn}
 
@@ -67,9 +65,3 @@ pub record Opens (rules : List Rule) (text : List ℕ) (n room : ℕ) (t : Turn)
   pub idle : t .refused ≡ true → t .more ≡ false
   pub refuses : t .refused ≡ true → (records : List ℕ) → recordCount records ≡ room → Answered (lexRules rules text records) (answer.Refused (refusalOf t)) records
   pub starts : t .refused ≡ false → Started rules text n room t
-
--- the first turn by a book
-pub record Begun (book text : List ℕ) (room : ℕ) (hs ss es : List ℕ) (t : Turn) : Type 0 where
-  pub idle : t .refused ≡ true → t .more ≡ false
-  pub refuses : t .refused ≡ true → (records : List ℕ) → recordCount records ≡ room → Answered (lexOutcome book text records) (answer.Refused (refusalOf t)) records
-  pub starts : t .refused ≡ false → (rules : List Rule) × ((readBook book ≡ accepted rules) × (Holds hs ss es (t .rules) rules × Started rules text (t .rules) room t))

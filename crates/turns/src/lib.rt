@@ -1,5 +1,4 @@
-// Lexing into a slice of tokens. A turn holds the next token to store; all that is decided of it stands in `begin` and `next`.
-use book::BookAnswer;
+// Lexing into a slice of tokens. A turn holds the next token to store; all that is decided of it stands in `begin_rules` and `next`.
 use lexing::LexAnswer;
 use reading::Book;
 use refusal::Refusal;
@@ -9,10 +8,9 @@ ghost use mathlib.Core.List.{List};
 ghost use Prim.Native.Nat.{_+_, _<_, _≤_};
 ghost use lib.ListN.{length};
 ghost use Rattle.automaton.specs.Rule.{Rule};
-ghost use Rattle.reading.specs.State.{Fresh};
 ghost use Rattle.cutting.specs.Answers.{Holds, Held};
 ghost use Rattle.reading.specs.Limits.{maxText};
-ghost use Rattle.turns.specs.Turns.{answerOf, refusing, Turns, Ready, Opens, Begun};
+ghost use Rattle.turns.specs.Turns.{answerOf, refusing, Turns, Ready, Opens};
 
 // Where lexing stands: whether `token` is to be stored, as number `index`, and where the text goes on behind it; where
 // there is none, `index` tokens are stored and the rest is at `next`, or the call is refused.
@@ -27,7 +25,8 @@ pub struct Turn {
     pub place: usize,
 }
 
-fn refuse(number: u8, place: usize) -> Turn
+// The turn of a refused call.
+pub fn refuse(number: u8, place: usize) -> Turn
     ensures { λ r. ⌜ r ≡ refusing number place ⌝ }
 {
     Turn {
@@ -97,7 +96,8 @@ fn turn_at(
     }
 }
 
-fn begin_rules(
+// The first turn of lexing `text` by the rules of the tables into `room` tokens.
+pub fn begin_rules(
     headers: &[u64],
     states: &[u16],
     edges: &[u64],
@@ -118,38 +118,6 @@ fn begin_rules(
         }
     }
     turn_at(headers, states, edges, rules, text, 0, 0)
-}
-
-fn begin_arrays(
-    headers: &[u64; Book::RULES],
-    states: &[u16; Book::CELLS],
-    edges: &[u64; Book::EDGES],
-    rules: usize,
-    text: &[u8],
-    room: usize,
-) -> Turn
-    requires { ⌜ Held (now headers) (now states) (now edges) rules ⌝ }
-    ensures { λ r. ⌜ ((rs : List Rule) → Holds (now (headers .entry)) (now (states .entry)) (now (edges .entry)) rules rs → Opens rs (now (text .entry)) rules room r) ⌝ }
-{
-    begin_rules(headers, states, edges, rules, text, room)
-}
-
-// The first turn of lexing `text` by a book into `room` tokens; the tables are lent fresh, and hold the book's rules afterwards.
-pub fn begin(
-    book: &[u8],
-    headers: &mut [u64; Book::RULES],
-    states: &mut [u16; Book::CELLS],
-    edges: &mut [u64; Book::EDGES],
-    text: &[u8],
-    room: usize,
-) -> Turn
-    requires { ⌜ Fresh (now headers) (now states) (now edges) ⌝ }
-    ensures { λ r. ⌜ Begun (now (book .entry)) (now (text .entry)) room (now (headers .exit)) (now (states .exit)) (now (edges .exit)) r ⌝ }
-{
-    match book::load_arrays(book, headers, states, edges) {
-        BookAnswer::Accepted(rules) => begin_arrays(headers, states, edges, rules, text, room),
-        BookAnswer::Refused(refusal) => refuse(refusal.number, refusal.place),
-    }
 }
 
 // The turn after `turn`.

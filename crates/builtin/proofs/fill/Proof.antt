@@ -6,7 +6,7 @@ use denote.Ref.{now}
 use Rattle.tables.specs.Book.{builtinRules}
 use Rattle.scanner.proofs.Scanned.{Picked, picked}
 use Rattle.cutting.proofs.Turns.{cutting-within, cutting-stop, lex-stop, lex-end}
-use Rattle.records.proofs.Filling.{Filling, filling-start, filling-room, filling-next, filling-stop}
+use Rattle.filling.proofs.Filling.{Filling, filling-start, filling-room, filling-next, filling-stop}
 use Rattle.builtin.proofs.fill.Statement.{statement}
 use Rattle.builtin.proofs.fill.Tie as tie
 

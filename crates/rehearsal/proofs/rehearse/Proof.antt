@@ -7,8 +7,8 @@ use Rattle.rehearsal.proofs.rehearse.Tie as tie
 use Rattle.rehearsal.proofs.rehearse.Reads as reads
 use Rattle.rehearsal.proofs.rehearse.Lts as lts
 use Rattle.lists.proofs.join_tokens.Reads as join-tokens-reads
-use Rattle.rehearsal.proofs.extent.Reads as extent-reads
-use Rattle.rehearsal.proofs.read_back_within.Reads as read-back-within-reads
+use Rattle.readback.proofs.extent.Reads as extent-reads
+use Rattle.readback.proofs.read_back_within.Reads as read-back-within-reads
 
 extent-requires : tie.Need-extent-requires
 extent-requires c κs = search needs

@@ -58,7 +58,8 @@ use Rattle.lexing.proofs.LexAnswer as L
 use Rattle.lexing.proofs.LexAnswer.Laws as L′
 use Rattle.token.specs.Encoding.{encoded}
 use Rattle.token.specs.Encoding.{noToken}
-use Rattle.turns.specs.Turns.{answerOf, Turns, Ready, Begun}
+use Rattle.turns.specs.Turns.{answerOf, Turns, Ready}
+use Rattle.starting.specs.Starting.{Begun}
 use Rattle.turns.specs.declared.Turn.{Turn}
 use Rattle.token.specs.declared.Token.{Token}
 use Rattle.token.proofs.Encoding.{length-encoded, count-encoded, encoded-set}
@@ -70,10 +71,10 @@ use Rattle.turns.proofs.Turn as S
 use Rattle.turns.proofs.Turn.Laws as S′
 use Rattle.token.proofs.Token as T
 use Rattle.token.proofs.Token.Laws as T′
-use Rattle.turns.proofs.begin as begin
-use Rattle.turns.proofs.begin.Symbol as begin-def
-use Rattle.turns.proofs.begin.Symbol.{name as #turns·begin}
-use Rattle.turns.proofs.begin.Met as begin-thm
+use Rattle.starting.proofs.begin as begin
+use Rattle.starting.proofs.begin.Symbol as begin-def
+use Rattle.starting.proofs.begin.Symbol.{name as #starting·begin}
+use Rattle.starting.proofs.begin.Met as begin-thm
 use Rattle.turns.proofs.next as next
 use Rattle.turns.proofs.next.Symbol as next-def
 use Rattle.turns.proofs.next.Symbol.{name as #turns·next}
@@ -400,7 +401,7 @@ module _ {M : Type 1} (𝓤 : URA M) (H : Heap 𝓤) (A : Atoms 𝓤) (W : Given
             tests ! (load ! (from ! (stop !)) (look ! 11 refl)) (λ on. goes-on i on) (λ off. exec ! C Λ En body.t-13 (atRet En Post) $ leaves i off)
 
   -- ---- from the entry to the loop
-  module _ (𝓣 : Tables 𝓤 H) (known-begin : Triple 𝓤 (𝓣 .C #turns·begin) (Begin 𝓤 H A mem run)) (known-next : Triple 𝓤 (𝓣 .C #turns·next) (Next 𝓤 H A mem run)) (known-answer : Triple 𝓤 (𝓣 .C #turns·answer) (Answer 𝓤 H A mem run)) where
+  module _ (𝓣 : Tables 𝓤 H) (known-begin : Triple 𝓤 (𝓣 .C #starting·begin) (Begin 𝓤 H A mem run)) (known-next : Triple 𝓤 (𝓣 .C #turns·next) (Next 𝓤 H A mem run)) (known-answer : Triple 𝓤 (𝓣 .C #turns·answer) (Answer 𝓤 H A mem run)) where
     module _ (l₀ l₁ l₂ l₃ l₄ l₅ l₆ l₇ l₈ l₉ l₁₀ l₁₁ l₁₂ l₁₃ l₁₄ l₁₅ l₁₆ l₁₇ l₁₈ : ℕ) where
       abbrev Env₀ : Env 𝓤 H
       Env₀ = En l₄ l₅ l₆ [] [] [] 0 0 0 0 0 0 𝓣 known-next known-answer l₀ l₁ l₂ l₃ l₇ l₈ l₉ l₁₀ l₁₁ l₁₂ l₁₃ l₁₄ l₁₅ l₁₆ l₁₇ l₁₈
@@ -482,7 +483,7 @@ module _ {M : Type 1} (𝓤 : URA M) (H : Heap 𝓤) (A : Atoms 𝓤) (W : Given
         started l₀ l₁ l₂ l₃ l₄ l₅ l₆ l₇ l₈ l₉ l₁₀ l₁₁ l₁₂ l₁₃ l₁₄ l₁₅ l₁₆ l₁₇ l₁₈)))))))))))))))))))
 
 module _ {M : Type 1} (𝓤 : URA M) (H : Heap 𝓤) (A : Atoms 𝓤) (W : Given 𝓤 H A) (mem : Memory → SProp 𝓤) (run : Routine → Fun 𝓤) (𝓣 : Tables 𝓤 H)
-    (known-begin : Triple 𝓤 (𝓣 .C #turns·begin) (Begin 𝓤 H A mem run)) (known-next : Triple 𝓤 (𝓣 .C #turns·next) (Next 𝓤 H A mem run)) (known-answer : Triple 𝓤 (𝓣 .C #turns·answer) (Answer 𝓤 H A mem run)) where
+    (known-begin : Triple 𝓤 (𝓣 .C #starting·begin) (Begin 𝓤 H A mem run)) (known-next : Triple 𝓤 (𝓣 .C #turns·next) (Next 𝓤 H A mem run)) (known-answer : Triple 𝓤 (𝓣 .C #turns·answer) (Answer 𝓤 H A mem run)) where
   lex-tokens-walks : Walks 𝓤 H A lex-tokens.ended stayed (WpFn 𝓤 H (𝓣 .C) (𝓣 .Λ) code.function) (lex-tokens.clauses 𝓤 H A mem run)
   lex-tokens-walks = walked 𝓤 H A lex-tokens.ended stayed (lex-tokens.clauses 𝓤 H A mem run) (WpFn 𝓤 H (𝓣 .C) (𝓣 .Λ) code.function)
       (λ κs. (slice-vals, (slice-vals, (slice-vals, tt)))) (λ κs. (shr-slice-tells (named 0) (κs .0) u8, (shr-slice-tells (named 1) (κs .1 .0) u8, (mut-slice-tells (named 2) (κs .1 .1 .0) T.the-row, tt))))
@@ -501,6 +502,6 @@ lex-tokens-spec 𝓤 H 𝓜 𝓖 𝓡 =
     entered 𝓤 H (tripleOf 𝓤 H (𝓖 .A) lex-tokens.signature (lex-tokens.spec 𝓤 H (𝓖 .A) (𝓜 .mem) (𝓡 .run)))
     (tables 𝓤 H 𝓜 𝓡 code.env .C) (tables 𝓤 H 𝓜 𝓡 code.env .Λ) #tokens·lex-tokens code.function (code.unfolded 𝓤 H 𝓜 𝓡)
     (lex-tokens-meets 𝓤 H (𝓖 .A) (givenOf 𝓤 H 𝓜 𝓖) (𝓜 .mem) (𝓡 .run) (tablesOf 𝓤 H 𝓜 (tables 𝓤 H 𝓜 𝓡 code.env))
-    (cited 𝓤 H (Begin 𝓤 H (𝓖 .A) (𝓜 .mem) (𝓡 .run)) 𝓜 𝓡 code.env #turns·begin begin-def.routine code.calls-turns·begin (begin-thm.met 𝓤 H 𝓜 𝓖 𝓡))
+    (cited 𝓤 H (Begin 𝓤 H (𝓖 .A) (𝓜 .mem) (𝓡 .run)) 𝓜 𝓡 code.env #starting·begin begin-def.routine code.calls-starting·begin (begin-thm.met 𝓤 H 𝓜 𝓖 𝓡))
     (cited 𝓤 H (Next 𝓤 H (𝓖 .A) (𝓜 .mem) (𝓡 .run)) 𝓜 𝓡 code.env #turns·next next-def.routine code.calls-turns·next (next-thm.met 𝓤 H 𝓜 𝓖 𝓡))
     (cited 𝓤 H (Answer 𝓤 H (𝓖 .A) (𝓜 .mem) (𝓡 .run)) 𝓜 𝓡 code.env #turns·answer answer-def.routine code.calls-turns·answer (answer-thm.met 𝓤 H 𝓜 𝓖 𝓡)))

@@ -2,11 +2,11 @@
 use mathlib.Core.Path.{sym}
 use lib.Seq.{length-take-le}
 use borrow.Author.Needs.{needs}
-use Rattle.rehearsal.proofs.read_back_within.Statement.{statement}
-use Rattle.rehearsal.proofs.read_back_within.Tie as tie
-use Rattle.rehearsal.proofs.read_back_within.Reads as reads
-use Rattle.rehearsal.proofs.read_back_within.Lts as lts
-use Rattle.rehearsal.proofs.read_back.Reads as read-back-reads
+use Rattle.readback.proofs.read_back_within.Statement.{statement}
+use Rattle.readback.proofs.read_back_within.Tie as tie
+use Rattle.readback.proofs.read_back_within.Reads as reads
+use Rattle.readback.proofs.read_back_within.Lts as lts
+use Rattle.readback.proofs.read_back.Reads as read-back-reads
 
 slice-aggregate-read-back : tie.Need-slice-aggregate-read-back
 slice-aggregate-read-back c = sym (length-take-le _ _ (c .before .before .before .before .before .before .pre .1 .0))

@@ -9,12 +9,12 @@ use Rattle.cutting.specs.Answers.{Holds}
 use Rattle.cutting.proofs.Held.{held-empty}
 use Rattle.records.specs.Records.{recordCount}
 use Rattle.pooled.proofs.Faults.{held-room}
-use Rattle.rehearsal.specs.Clean.{Spread}
-use Rattle.rehearsal.proofs.Rehearsing.{tells-no, tells-yes, Retracing, retracing-start, retracing-within, retracing-next, settled-some, settled-all, settled-same, retracing-end}
-use Rattle.rehearsal.proofs.read_back.Statement.{statement}
-use Rattle.rehearsal.proofs.read_back.Tie as tie
-use Rattle.rehearsal.proofs.read_back.Reads as reads
-use Rattle.rehearsal.proofs.read_back.Lts as lts
+use Rattle.readback.specs.Readback.{Spread}
+use Rattle.readback.proofs.Readback.{tells-no, tells-yes, Retracing, retracing-start, retracing-within, retracing-next, settled-some, settled-all, settled-same, retracing-end}
+use Rattle.readback.proofs.read_back.Statement.{statement}
+use Rattle.readback.proofs.read_back.Tie as tie
+use Rattle.readback.proofs.read_back.Reads as reads
+use Rattle.readback.proofs.read_back.Lts as lts
 use Rattle.cutting.proofs.choose_at.Reads as choose-at-reads
 use Rattle.reading.proofs.find_tag.Reads as find-tag-reads
 use Rattle.pooled.proofs.read_record.Reads as read-record-reads

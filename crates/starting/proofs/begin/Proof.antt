@@ -1,9 +1,9 @@
 -- `begin`: the tables hold the rules of an accepted book. Assumes nothing.
 use Rattle.lexer.proofs.Outcomes.{loaded-held}
-use Rattle.turns.proofs.Opening.{begun-book, begun-refused}
+use Rattle.starting.proofs.Starting.{begun-book, begun-refused}
 use borrow.Author.Needs.{needs}
-use Rattle.turns.proofs.begin.Statement.{statement}
-use Rattle.turns.proofs.begin.Tie as tie
+use Rattle.starting.proofs.begin.Statement.{statement}
+use Rattle.starting.proofs.begin.Tie as tie
 
 load-arrays-requires : tie.Need-load-arrays-requires
 load-arrays-requires c κs = search needs

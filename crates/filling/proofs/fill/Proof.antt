@@ -11,14 +11,14 @@ use Rattle.automaton.specs.Tables.{Table, ruleAt}
 use Rattle.automaton.proofs.Walks.{header-tag}
 use Rattle.cutting.specs.Answers.{Holds, Chooses}
 use Rattle.cutting.proofs.Turns.{cutting-within, cutting-stop, lex-stop, lex-end}
-use Rattle.records.proofs.Filling.{Filling, filling-start, filling-room, filling-next, filling-stop}
-use Rattle.records.proofs.fill.Statement.{statement}
-use Rattle.records.proofs.fill.Tie as tie
-use Rattle.records.proofs.fill.Reads as reads
-use Rattle.records.proofs.fill.Lts as lts
+use Rattle.filling.proofs.Filling.{Filling, filling-start, filling-room, filling-next, filling-stop}
+use Rattle.filling.proofs.fill.Statement.{statement}
+use Rattle.filling.proofs.fill.Tie as tie
+use Rattle.filling.proofs.fill.Reads as reads
+use Rattle.filling.proofs.fill.Lts as lts
 use Rattle.automaton.proofs.tag_of.Reads as tag-of-reads
 use Rattle.cutting.proofs.choose_at.Reads as choose-at-reads
 use Rattle.records.proofs.put_record.Reads as put-record-reads
 
 abbrev Inv-loop : tie.InvT-loop
 Inv-loop headers states edges rules text records₀ tokens₀ place₀ records tokens place = (rs : List Rule) → Holds headers states edges rules rs → Filling rs text records₀ records place tokens

@@ -8,9 +8,9 @@ use lib.Seq.{length-take-le, drop-drop, take-at, drop-at}
 use Rattle.automaton.specs.Rule.{Rule}
 use Rattle.automaton.specs.Tables.{ruleAt}
 use Rattle.cutting.specs.Lexer.{lex}
 use Rattle.records.specs.Records.{recordOf, recordsAt}
 use Rattle.cutting.specs.Answers.{Chooses}
-use Rattle.records.specs.Filling.{Fills}
+use Rattle.filling.specs.Filling.{Fills}
 use Rattle.cutting.proofs.Turns.{Cutting, cutting-start, cutting-next, cutting-stop, lex-more}
 
 -- n tokens are cut, and their records stand at the front

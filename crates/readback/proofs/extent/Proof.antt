@@ -2,11 +2,11 @@
 use Prim.Native.Nat.{_-_}
 use native.Mathlib.Omega.{arith}
 use Rattle.records.specs.Records.{recordCount}
-use Rattle.rehearsal.proofs.Rehearsing.{Spanning, spanning-start, spanning-outside, spanning-next, spanning-long, spanning-end}
-use Rattle.rehearsal.proofs.extent.Statement.{statement}
-use Rattle.rehearsal.proofs.extent.Tie as tie
-use Rattle.rehearsal.proofs.extent.Reads as reads
-use Rattle.rehearsal.proofs.extent.Lts as lts
+use Rattle.readback.proofs.Readback.{Spanning, spanning-start, spanning-outside, spanning-next, spanning-long, spanning-end}
+use Rattle.readback.proofs.extent.Statement.{statement}
+use Rattle.readback.proofs.extent.Tie as tie
+use Rattle.readback.proofs.extent.Reads as reads
+use Rattle.readback.proofs.extent.Lts as lts
 use Rattle.pooled.proofs.read_record.Reads as read-record-reads
 
 abbrev Inv-loop : tie.InvT-loop

@@ -1,0 +1,2 @@
+-- What the proofs of this crate share, and the laws for the layers above.
+pub mod Filling

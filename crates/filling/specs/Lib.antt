@@ -1,0 +1,2 @@
+-- What filling a buffer with the records of tokens leaves.
+pub mod Filling

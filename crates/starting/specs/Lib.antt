@@ -1,0 +1,2 @@
+-- The first turn by a book.
+pub mod Starting
