@@ -1,4 +1,4 @@
-// A rule at run time: its transitions in flat arrays, chained by the state that they leave, and the walk over them.
+// A rule at run time: its transitions in flat arrays, chained by the state that they leave, and one step along them.
 // A step costs the transitions that leave the state, whatever the size of the rule.
 ghost use mathlib.Core.Path.{_≡_};
 ghost use mathlib.Core.Bool.{Bool, true, false};

@@ -11,7 +11,6 @@ ghost use Rattle.automaton.specs.Tables.{stateCount};
 ghost use Rattle.reading.specs.Limits.{maxRules};
 ghost use Rattle.reading.specs.State.{Takes};
 
-// CLOSE.
 pub fn close(book: Book, headers: &mut [u64], states: &[u16], at: usize) -> Progress
     requires { ⌜ (book .rules < length (now headers)) × (book .rules * stateCount + stateCount ≤ length (now states)) × (book .rules < maxRules) ⌝ }
     ensures { λ r. ⌜ ((es : List ℕ) (len : ℕ) → Takes book Command.Close at len r (now (headers .entry)) (now (states .entry)) es (now (headers .exit)) (now (states .entry)) es) ⌝ }

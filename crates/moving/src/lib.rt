@@ -13,7 +13,6 @@ ghost use Rattle.automaton.specs.Tables.{stateCount, headAt, Chained};
 ghost use Rattle.reading.specs.Draft.{Draft, move};
 ghost use Rattle.reading.specs.State.{edgeCount, Holds, Follows};
 
-// STEP and SPAN.
 pub fn add_transition(
     mut book: Book,
     states: &mut [u16],

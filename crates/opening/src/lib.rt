@@ -12,7 +12,6 @@ ghost use Rattle.automaton.specs.Tables.{Tables};
 ghost use Rattle.reading.specs.Draft.{tagged};
 ghost use Rattle.reading.specs.State.{Takes};
 
-// RULE.
 pub fn open_rule(book: Book, headers: &[u64], tag: u16, kind: u8, at: usize) -> Progress
     requires { ⌜ book .rules ≤ length (now headers) ⌝ }
     ensures { λ r. ⌜ ((ss es : List ℕ) (len : ℕ) → Takes book (Command.Rule tag kind) at len r (now (headers .entry)) ss es (now (headers .entry)) ss es) ⌝ }

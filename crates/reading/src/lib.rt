@@ -1,4 +1,4 @@
-// What has been read of a book, and what each command makes of it.
+// What has been read of a book, and what START, ERROR, FINAL and END make of it.
 use automaton::STATES;
 use command::Command;
 use refusal::Refusal;
