@@ -15,6 +15,7 @@ DESTDIR ?=
 CC ?= cc
 CFLAGS ?= -O2
 RUSTC ?= rustc
+RUSTFLAGS ?= -O --edition 2021 -C debug-assertions=on
 CASES ?= 20000
 SEED ?= 1
 
@@ -41,8 +42,12 @@ build/player: examples/player.c include/zagvulem.h build/libzagvulem.a
 example: build/player
 	build/player examples/builtin.bin examples/sheet.txt
 
-build/harness: $(wildcard harness/src/*.rs) examples/builtin.bin build/libzagvulem.a
-	$(RUSTC) -O --edition 2021 -C debug-assertions=on -L build -l static=zagvulem harness/src/main.rs -o $@
+# compiled apart from the library that it is linked with, so that make -j builds both at once
+build/libharness.rlib: $(wildcard harness/src/*.rs) examples/builtin.bin | build
+	$(RUSTC) $(RUSTFLAGS) --crate-type rlib --crate-name harness harness/src/lib.rs -o $@
+
+build/harness: harness/main.rs build/libharness.rlib build/libzagvulem.a
+	$(RUSTC) $(RUSTFLAGS) --extern harness=build/libharness.rlib -C link-arg=build/libzagvulem.a harness/main.rs -o $@
 
 harness: build/harness
 	build/harness --cases $(CASES) --seed $(SEED)

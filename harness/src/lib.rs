@@ -218,7 +218,7 @@ fn differs(difference: &str) -> ! {
     std::process::exit(1)
 }
 
-fn main() {
+pub fn main() {
     let options = options();
     if let Some(case) = options.only {
         if let Err(difference) = Run::new(options.plant).case(options.seed, case) {
