@@ -17,7 +17,7 @@ pub enum BookAnswer {
 
 // Checks a book and fills the tables with its rules. The tables are lent with all cells zero; where the book is refused,
 // what they hold is of no account.
-pub fn load(book: &[u8], headers: &mut [u64], states: &mut [u16], edges: &mut [u64]) -> BookAnswer
+fn load(book: &[u8], headers: &mut [u64], states: &mut [u16], edges: &mut [u64]) -> BookAnswer
     requires { ⌜ Fresh (now headers) (now states) (now edges) ⌝ }
     ensures { λ r. ⌜ Loaded (now (book .entry)) r (now (headers .exit)) (now (states .exit)) (now (edges .exit)) ⌝ }
 {
