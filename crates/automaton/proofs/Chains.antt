@@ -1,17 +1,16 @@
 -- A walk along a chain: what is left of it, and what the walk asks of the whole. Assumes nothing.
-use mathlib.Core.Path.{_≡_, refl, sym, _∙_, ap}
-use Prim.Native.Nat.{ℕ, _-_, _<_, _≤_}
+use mathlib.Core.Path.{_≡_, refl, sym, _∙_}
 use mathlib.Core.List.{List, [], _∷_}
-use native.Mathlib.Omega.{arith}
-use lib.ListN.{length, getD}
-use Rattle.automaton.specs.Rule.{Transition}
-use mathlib.Core.Bool.{Bool, true, false}
-use Rattle.automaton.specs.Choice.{if, any}
-use Rattle.automaton.specs.Rule.{covers}
-use borrow.Author.Tests.{le-leb, lt-leb}
+use mathlib.Core.Bool.{true, false}
 use mathlib.Core.Logic.{_⊎_, inl, inr}
+use Prim.Native.Nat.{ℕ, _-_, _<_, _≤_}
+use native.Mathlib.Omega.{arith}
+use lib.ListN.{getD}
+use borrow.Author.Tests.{le-leb, lt-leb}
+use Rattle.automaton.specs.Rule.{Transition, covers}
+use Rattle.automaton.specs.Choice.{any}
 use Rattle.automaton.proofs.Tests.{and-false-right}
-use Rattle.automaton.specs.Tables.{lowOf, highOf, nextOf, toOf, coversWord, Link, Chain, Chained, pick, shares}
+use Rattle.automaton.specs.Contracts.{lowOf, highOf, nextOf, toOf, coversWord, Link, Chain, Chained, pick, shares}
 
 -- a chain at link h for which f answers x
 pub record Left {A : Type 0} (es : List ℕ) (h : ℕ) (f : List Transition → A) (x : A) : Type 0 where

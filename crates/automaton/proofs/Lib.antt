@@ -2,5 +2,5 @@
 pub mod Tests
 pub mod Chains
 pub mod Walks
-pub mod Building
+pub mod Built
 pub mod Used

@@ -1,10 +1,9 @@
 -- Tests and choices, taken apart. Assumes nothing.
-use mathlib.Core.Path.{_≡_, refl, sym, _∙_}
-use Prim.Native.Nat.{ℕ}
+use mathlib.Core.Path.{_≡_, refl}
 use mathlib.Core.Bool.{Bool, true, false, _&&_, _||_}
-use mathlib.Core.List.{List, [], _∷_}
+use Prim.Native.Nat.{ℕ}
 use native.Mathlib.Omega.{arith}
-use Rattle.automaton.specs.Choice.{if, All, any}
+use Rattle.automaton.specs.Choice.{if}
 
 pub clash : {A : Type 0} {b : Bool} → b ≡ true → b ≡ false → A
 clash {b = b} p q = let z : _≡_ {A = ℕ} 0 1 = cc in absurd (omega arith)

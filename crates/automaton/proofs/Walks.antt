@@ -2,17 +2,17 @@
 use mathlib.Core.Path.{_≡_, refl, sym, _∙_, ap}
 use mathlib.Core.Bool.{Bool, true, false, _&&_}
 use mathlib.Core.List.{List, [], _∷_}
-use Prim.Native.Nat.{ℕ, zero, suc, _+_, _-_, _*_, _/_, _%_, _<_, _≤_}
+use Prim.Native.Nat.{ℕ, zero, suc, _+_, _-_, _*_, _%_, _<_, _≤_}
 use native.Mathlib.Nat.{zero-add, suc-add}
 use native.Mathlib.Omega.{arith}
 use native.Mathlib.Numerals.{add-one}
 use lib.ListN.{length, getD, take}
 use lib.Dec.{eqb}
-use borrow.Author.Tests.{eq-eqb, ne-eqb, eqb-true}
+use borrow.Author.Tests.{eq-eqb, ne-eqb}
 use Rattle.automaton.specs.Choice.{if, All, any, among}
-use Rattle.automaton.specs.Rule.{Transition, Rule, covers, target, step, walk, matches, longestWithin, longest, Ranged, Sound}
-use Rattle.automaton.specs.Tables.{errorOf, startOf, kindOf, tagOf, stateCount, headAt, finalAt, leaving, pick, Chain, Cells, Table}
-use Rattle.automaton.proofs.Tests.{or-false, clash}
+use Rattle.automaton.specs.Rule.{Transition, Rule, covers, target, step, walk, matches, longestWithin, longest, Ranged, Sound, stateCount}
+use Rattle.automaton.specs.Contracts.{errorOf, startOf, kindOf, tagOf, headAt, finalAt, leaving, pick, Chain, Table}
+use Rattle.automaton.proofs.Tests.{or-false}
 
 -- the chain of a state leads where the rule does
 pub pick-leaving : (s b error : ℕ) (ts : List Transition) → pick (leaving s ts) b error ≡ target ts s b error

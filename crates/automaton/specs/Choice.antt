@@ -1,7 +1,7 @@
 -- Choices that compute, and what holds of every element of a list.
-use Prim.Native.Nat.{ℕ}
 use mathlib.Core.Bool.{Bool, true, false, _||_}
 use mathlib.Core.List.{List, [], _∷_}
+use Prim.Native.Nat.{ℕ}
 use lib.Dec.{eqb}
 
 abbrev pub if : {A : Type 0} → Bool → A → A → A

@@ -1,4 +1,4 @@
--- What a rule is and matches, and how the run-time tables hold one.
+-- The definitions of this crate.
 pub mod Choice
 pub mod Rule
-pub mod Tables
+pub mod Contracts

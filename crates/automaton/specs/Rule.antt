@@ -1,8 +1,8 @@
 -- A rule of a book is a deterministic automaton with a tag and a kind. Bytes, states and tags are natural numbers.
 use mathlib.Core.Path.{_≡_}
-use Prim.Native.Nat.{ℕ, zero, suc, _<_, _≤_}
 use mathlib.Core.Bool.{Bool, true, false, not, _&&_}
 use mathlib.Core.List.{List, [], _∷_}
+use Prim.Native.Nat.{ℕ, zero, suc, _<_, _≤_}
 use lib.Dec.{leb, eqb}
 use lib.ListN.{length, take}
 use Rattle.automaton.specs.Choice.{if, All, any, among}
@@ -85,3 +85,7 @@ pub record Sound (n : ℕ) (r : Rule) : Type 0 where
   pub stays : any (λ (t : Transition). eqb t.from r.error) r.transitions ≡ false
   pub fails : among r.error r.finals ≡ false
   pub nonempty : among r.start r.finals ≡ false
+
+-- states of a rule, and so cells
+abbrev pub stateCount : ℕ
+stateCount = 256

@@ -1,13 +1,14 @@
 // A rule at run time: its transitions in flat arrays, chained by the state that they leave, and one step along them.
 // A step costs the transitions that leave the state, whatever the size of the rule.
+pub mod building;
+pub mod walking;
+
 ghost use mathlib.Core.Path.{_≡_};
-ghost use mathlib.Core.Bool.{Bool, true, false};
+ghost use mathlib.Core.Bool.{false};
 ghost use mathlib.Core.List.{List};
-ghost use Prim.Native.Nat.{ℕ, _+_, _-_, _*_, _/_, _%_, _≤_, _<_};
-ghost use lib.ListN.{length, getD, drop, set};
-ghost use Rattle.automaton.specs.Choice.{any};
-ghost use Rattle.automaton.specs.Rule.{Transition, Rule, longest};
-ghost use Rattle.automaton.specs.Tables.{lowOf, highOf, toOf, nextOf, edgeWord, coversWord, errorOf, startOf, kindOf, tagOf, headerWord, Chain, Chained, pick, shares, linked, marked, Table, Tabled};
+ghost use Prim.Native.Nat.{_+_, _-_, _*_, _/_, _%_};
+ghost use Rattle.automaton.specs.Rule.{Transition};
+ghost use Rattle.automaton.specs.Contracts.{coversWord, kindOf, tagOf, headerWord, Chain, Chained, pick};
 
 // The states of a rule are below this; `states` has as many cells for each rule.
 pub const STATES: usize = 256;

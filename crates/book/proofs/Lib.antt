@@ -1,3 +1,5 @@
 -- What the proofs of this crate share, and the laws for the layers above.
-pub mod Accepted
-pub mod Loading
+pub mod Fine
+pub mod Filling
+pub mod Ranking
+pub mod Steps

@@ -1,3 +1,5 @@
--- Reading a book: what it answers, and what it leaves in the tables.
-pub mod Reading
-pub mod Loading
+-- The definitions of this crate.
+pub mod Limits
+pub mod Draft
+pub mod Valid
+pub mod Contracts

@@ -1,6 +1,6 @@
 // Runs the book reader over the cases of standard input, the examples and edges of document 01, and prints what it answers, a
 // line for each book.
-use book::BookAnswer;
+use answer::BookAnswer;
 use libc::STDIN_FILENO;
 use libc::STDOUT_FILENO;
 
@@ -227,7 +227,7 @@ fn answer(room: &[u8], from: usize, to: usize) {
         io::write_all(STDOUT_FILENO, b": not a case\n");
         return;
     }
-    print(book::read(&room[from..to]));
+    print(reader::read(&room[from..to]));
 }
 
 fn print(answer: BookAnswer) {

@@ -1,14 +1,13 @@
 -- The built-in book is read, and it is accepted with its five rules. Assumes nothing.
 use mathlib.Core.Path.{_≡_, refl}
-use Prim.Native.Nat.{ℕ}
 use mathlib.Core.List.{List}
-use Rattle.book.specs.Reading.{readBook, readFrom, accepted}
-use Rattle.reading.specs.Draft.{apply, move, check}
-use Rattle.command.specs.Commands.{commandAt, decode, operandsOf, placed}
+use Prim.Native.Nat.{ℕ}
 use Rattle.automaton.specs.Rule.{overlaps}
-use Rattle.lexing.specs.Outcome.{lexRules}
-use Rattle.lexer.specs.Outcome.{lexOutcome}
-use Rattle.tables.specs.Book.{builtinBytes, builtinRules, timestamp, word, blanks, newline, bracket}
+use Rattle.command.specs.Commands.{commandAt, decode, operandsOf, placed}
+use Rattle.book.specs.Draft.{apply, move, check}
+use Rattle.reader.specs.Reading.{readBook, readFrom, accepted}
+use Rattle.lexer.specs.Outcome.{lexRules, lexOutcome}
+use Rattle.builtin.specs.Book.{builtinBytes, builtinRules, timestamp, word, blanks, newline, bracket}
 
 pub read-builtin : readBook builtinBytes ≡ accepted builtinRules
 unfolding readBook readFrom commandAt decode operandsOf placed apply move check overlaps builtinBytes builtinRules timestamp word blanks newline bracket

@@ -1,3 +1,8 @@
--- What the proofs of this crate share.
+-- What the proofs of this crate share, and the laws for the layers above.
+pub mod Tests
+pub mod Alike
+pub mod Product
+pub mod Joined
+pub mod Scanned
 pub mod Accepted
 pub mod Outcome

@@ -1,14 +1,14 @@
 -- The cases of the outcome of lexing by a list of rules. Assumes nothing.
 use mathlib.Core.Path.{_≡_}
-use Prim.Native.Nat.{ℕ, _<_, _≤_}
 use mathlib.Core.List.{List}
+use Prim.Native.Nat.{ℕ, _<_, _≤_}
 use lib.ListN.{length}
 use borrow.Author.Tests.{lt-ltb, le-ltb}
 use Rattle.automaton.specs.Rule.{Rule}
-use Rattle.cutting.specs.Lexer.{lex}
-use Rattle.reading.specs.Limits.{maxText}
-use Rattle.records.specs.Records.{recordCount}
-use Rattle.lexing.specs.Outcome.{lexRefused, lexAccepted, lexRules}
+use Rattle.book.specs.Limits.{maxText}
+use Rattle.longest_match.specs.Lexer.{lex}
+use Rattle.record.specs.Records.{recordCount}
+use Rattle.lexer.specs.Outcome.{lexRefused, lexAccepted, lexRules}
 
 module _ (rules : List Rule) (text records : List ℕ) where
   pub too-long : maxText < length text → lexRules rules text records ≡ lexRefused 14 0 records

@@ -1,6 +1,6 @@
 // The built-in book of document 01 as command bytes.
 ghost use mathlib.Core.Path.{_≡_};
-ghost use Rattle.tables.specs.Book.{builtinBytes};
+ghost use Rattle.builtin.specs.Book.{builtinBytes};
 
 pub const BOOK: [u8; 168] = [
     // Tag 1: a timestamp.

@@ -1,20 +1,21 @@
 // Lexing by the built-in book of document 01, through its byte classes.
 pub mod commands;
+pub mod scanner;
+pub mod tables;
 
-use cutting::Cut;
-use lexing::LexAnswer;
-use reading::Book;
-use refusal::Refusal;
+use answer::LexAnswer;
+use answer::Refusal;
+use book::Book;
+use longest_match::Cut;
 ghost use mathlib.Core.Path.{_≡_};
-ghost use Prim.Native.Nat.{_+_, _*_, _≤_, _<_};
+ghost use Prim.Native.Nat.{_*_, _≤_, _<_};
 ghost use lib.ListN.{length};
-ghost use Rattle.cutting.specs.Lexer.{lex};
-ghost use Rattle.cutting.specs.Answers.{Cuts};
-ghost use Rattle.filling.specs.Filling.{Fills};
-ghost use Rattle.lexing.specs.Outcome.{lexRules};
-ghost use Rattle.lexer.specs.Outcome.{lexOutcome};
-ghost use Rattle.tables.specs.Book.{builtinBytes, builtinRules};
-ghost use Rattle.tables.specs.Joined.{Lent};
+ghost use Rattle.longest_match.specs.Lexer.{lex};
+ghost use Rattle.longest_match.specs.Contracts.{Cuts};
+ghost use Rattle.lexer.specs.Contracts.{Fills};
+ghost use Rattle.lexer.specs.Outcome.{lexRules, lexOutcome};
+ghost use Rattle.builtin.specs.Book.{builtinBytes, builtinRules};
+ghost use Rattle.builtin.specs.Joined.{Lent};
 
 // How `text` is cut, with nothing written.
 fn count(classes: &[u8; 256], next: &[u8; 256], tags: &[u8; 16], text: &[u8]) -> Cut
@@ -24,7 +25,7 @@ fn count(classes: &[u8; 256], next: &[u8; 256], tags: &[u8; 16], text: &[u8]) ->
     let mut tokens = 0;
     let mut at = 0;
     while at < text.len() {
-        let m = scanner::scan_at(classes, next, tags, text, at);
+        let m = crate::scanner::scan_at(classes, next, tags, text, at);
         if m.len == 0 {
             return Cut { tokens, rest: at };
         }
@@ -50,7 +51,7 @@ fn fill(
     let mut tokens = 0;
     let mut place = 0;
     while place < text.len() {
-        let m = scanner::scan_at(classes, next, tags, text, place);
+        let m = crate::scanner::scan_at(classes, next, tags, text, place);
         if m.len == 0 {
             return Cut {
                 tokens,
@@ -58,7 +59,7 @@ fn fill(
             };
         }
         let len = m.len;
-        records::put_record(records, 10 * tokens, m.tag, place, len);
+        record::put_record(records, 10 * tokens, m.tag, place, len);
         tokens += 1;
         place += len;
     }
@@ -108,8 +109,8 @@ pub fn lex_builtin(text: &[u8], records: &mut [u8]) -> LexAnswer
     ensures { λ r. ⌜ r ≡ (lexOutcome builtinBytes (now (text .entry)) (now (records .entry))) .answer ⌝ }
     ensures { λ r. ⌜ now (records .exit) ≡ (lexOutcome builtinBytes (now (text .entry)) (now (records .entry))) .records ⌝ }
 {
-    let classes = tables::classes();
-    let next = tables::next_states();
-    let tags = tables::tags();
+    let classes = crate::tables::classes();
+    let next = crate::tables::next_states();
+    let tags = crate::tables::tags();
     lex_lent(&classes, &next, &tags, text, records)
 }

@@ -1,13 +1,13 @@
 -- The commands of a book, as they stand in its bytes.
-use Prim.Native.Nat.{ℕ, _+_, _*_}
-use mathlib.Core.Bool.{Bool, true, false, not, _&&_, _||_}
+use mathlib.Core.Bool.{Bool, false, not, _&&_, _||_}
 use mathlib.Core.List.{List}
+use Prim.Native.Nat.{ℕ, _+_, _*_}
 use lib.Dec.{leb, eqb}
 use lib.ListN.{length, getD}
 use Rattle.automaton.specs.Choice.{if}
 use Rattle.command.specs.declared.Command.{Command}
-use Rattle.command.specs.declared.Command.the-variants as command
 use Rattle.command.specs.declared.Decoded.{Decoded}
+use Rattle.command.specs.declared.Command.the-variants as command
 use Rattle.command.specs.declared.Decoded.the-variants as decoded
 
 abbrev pub byteAt : List ℕ → ℕ → ℕ

@@ -1,2 +1,2 @@
--- The commands of a book.
+-- The definitions of this crate.
 pub mod Commands

@@ -1,6 +1,5 @@
 // The commands of a book, and the cursor that reads them.
 ghost use mathlib.Core.Path.{_≡_};
-ghost use mathlib.Core.Bool.{true};
 ghost use Prim.Native.Nat.{_+_, _≤_, _<_};
 ghost use lib.ListN.{length};
 ghost use Rattle.command.specs.Commands.{placed, operandsOf, decode, commandAt};

@@ -1,13 +1,14 @@
 // Document 01's program cutlist: cuts text.bin by the rules of book.bin, both of the working folder, and prints a line for
 // each token and the rest, or one line for a refusal.
-ghost use mathlib.Core.Path.{_≡_};
-ghost use lib.ListN.{length};
-ghost use Rattle.io.specs.Counts.{Counts};
-ghost use Rattle.listing.specs.Lines.{recordBytes, outputBytes};
+use book::Book;
 use libc::STDOUT_FILENO;
 use listing::OUTPUT_BYTES;
 use listing::RECORD_BYTES;
-use reading::Book;
+ghost use mathlib.Core.Path.{_≡_};
+ghost use lib.ListN.{length};
+ghost use Rattle.listing.specs.Lines.{recordBytes};
+ghost use Rattle.listing.specs.Contracts.{outputBytes};
+ghost use Rattle.io.specs.Counts.{Counts};
 
 // The files are read one byte past their limits, so that a longer one is still refused.
 const BOOK_BYTES: usize = Book::BYTES + 1;

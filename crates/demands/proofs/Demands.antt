@@ -1,26 +1,25 @@
 -- A proof of each of the demands. Assumes nothing.
 use mathlib.Core.Path.{_≡_, refl, sym, subst}
-use Prim.Native.Nat.{ℕ, _-_, _≤_}
 use mathlib.Core.Bool.{Bool, true, false}
 use mathlib.Core.List.{List, []}
+use Prim.Native.Nat.{ℕ, _-_, _≤_}
 use native.Mathlib.Omega.{arith}
 use lib.ListN.{length, take, drop}
 use lib.Seq.{take-append-seam}
 use Rattle.automaton.specs.Rule.{Rule}
 use Rattle.automaton.proofs.Tests.{clash}
-use Rattle.book.specs.Reading.{accepted, readBook}
-use Rattle.reading.specs.Valid.{Valid}
-use Rattle.book.proofs.Accepted.{accepted-valid}
-use Rattle.cutting.specs.Lexer.{Token, Lexed, lex}
-use Rattle.cutting.proofs.Lexing.{joins, rest-drop}
-use Rattle.cutting.proofs.Turns.{lex-nil}
-use Rattle.pooled.specs.Tokens.{tokensOf}
-use Rattle.pooled.specs.Faults.{aloneIn}
+use Rattle.book.specs.Valid.{Valid}
+use Rattle.book.specs.Limits.{maxText}
+use Rattle.reader.specs.Reading.{accepted, readBook}
+use Rattle.reader.proofs.Accepted.{accepted-valid}
+use Rattle.longest_match.specs.Lexer.{Token, Lexed, lex}
+use Rattle.longest_match.proofs.Lexing.{joins, rest-drop}
+use Rattle.longest_match.proofs.Cutting.{lex-nil}
+use Rattle.record.specs.Tokens.{tokensOf}
+use Rattle.token_list.specs.Faults.{aloneIn}
 use Rattle.printer.proofs.Accepting.{written-joins, alone-tagged}
 use Rattle.printer.proofs.RoundTrip.{byte-below, same-rules, Cut, lexed-cut, cut-accepts, stored-say, equal-lists, accepts-printable, output-cut, cut-printed}
-use Rattle.reading.specs.Limits.{maxText}
-use Rattle.writing.specs.declared.PrintAnswer.the-variants as print
-use Rattle.printing.specs.Outcome.{PrintOutcome}
+use Rattle.printer.specs.Outcome.{PrintOutcome}
 use Rattle.spacing.specs.Separators.{spelled}
 use Rattle.separated.specs.Outcome.{separatedOutcome}
 use Rattle.separated.specs.Claims.{Accepts, Writes}
@@ -29,6 +28,7 @@ use Rattle.demands.specs.Words.{Book, Lexes, stored, LongestMatch}
 use Rattle.demands.specs.Demands.{CutIsLongestMatch, StoredIsLongestMatch, TokensAndRestJoined, WritingJoins, EqualLists, AcceptedExactly, UnknownNotAlone, OutputsAreCut, CutsArePrinted, EmptyTextIsCut, SpacingAccepts, SpacingAcceptsNoOther, SpacingEqualLists, SpacingCutsBack}
 use Rattle.demands.proofs.LongestMatch.{lex-longest, longest-lex}
 use Rattle.demands.proofs.Separable.{separable-printable, printable-separable}
+use Rattle.answer.specs.declared.PrintAnswer.the-variants as print
 
 valid : {book : List ℕ} {rules : List Rule} → Book book rules → Valid rules
 valid {book} {rules} b = accepted-valid book rules (byte-below book (b .bytes)) (b .reads)

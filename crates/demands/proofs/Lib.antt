@@ -1,4 +1,4 @@
--- A proof of each demand, and what they rest on.
+-- What the proofs of this crate share, and the laws for the layers above.
 pub mod LongestMatch
 pub mod Separable
 pub mod Demands

@@ -1,18 +1,18 @@
 -- `lex` is the one cut that the longest-match rule allows. Assumes nothing.
 use mathlib.Core.Path.{_≡_, refl, sym, ap, _∙_, subst}
-use Prim.Native.Nat.{ℕ, zero, suc, _<_, _≤_}
 use mathlib.Core.Option.{Option, none, some}
 use mathlib.Core.List.{List, [], _∷_}
+use Prim.Native.Nat.{ℕ, zero, suc, _<_, _≤_}
 use native.Mathlib.Omega.{arith}
 use lib.ListN.{length, take, drop, length-take}
 use Rattle.automaton.specs.Rule.{Rule}
-use Rattle.reading.specs.Valid.{Distinct}
-use Rattle.cutting.specs.Lexer.{Token, Found, Lexed, firstMatch, choose, proceed, lex}
-use Rattle.cutting.proofs.Choosing.{chosen-shorter, chosen-take, chosen-drop, choose-some, choose-none}
-use Rattle.cutting.proofs.Lexing.{lex-unfolds}
-use Rattle.cutting.proofs.Picking.{within-none, within-at}
-use Rattle.cutting.proofs.Turns.{lex-stop}
-use Rattle.pooled.proofs.Alone.{alone-first, first-alone}
+use Rattle.book.specs.Valid.{Distinct}
+use Rattle.longest_match.specs.Lexer.{Token, Found, Lexed, firstMatch, choose, proceed, lex}
+use Rattle.longest_match.proofs.Choosing.{chosen-shorter, chosen-take, chosen-drop, choose-some, choose-none}
+use Rattle.longest_match.proofs.Lexing.{lex-unfolds}
+use Rattle.longest_match.proofs.Picking.{within-none, within-at}
+use Rattle.longest_match.proofs.Cutting.{lex-stop}
+use Rattle.token_list.proofs.Alone.{alone-first, first-alone}
 use Rattle.demands.specs.Words.{Unmatched, Longest, LongestMatch}
 
 pub unmatched-none : (rules : List Rule) (w : List ℕ) → Unmatched rules w → firstMatch rules w ≡ none

@@ -1,19 +1,19 @@
 -- The words of demand 3 and lexer's `Printable` are one. Assumes nothing.
 use mathlib.Core.Path.{_≡_, refl, ap, _∙_}
-use Prim.Native.Nat.{ℕ, _+_, _<_, _≤_}
 use mathlib.Core.Bool.{Bool, true, false}
 use mathlib.Core.Option.{none}
 use mathlib.Core.List.{List, [], _∷_, _++_}
+use Prim.Native.Nat.{ℕ, _+_, _<_, _≤_}
 use native.Mathlib.Omega.{arith}
 use lib.ListN.{length, take, length-append}
 use lib.Seq.{take-append-seam}
 use Rattle.automaton.specs.Rule.{Rule}
-use Rattle.reading.specs.Valid.{Distinct}
-use Rattle.cutting.specs.Lexer.{Token, firstMatch, extends, join, Printable}
 use Rattle.automaton.proofs.Tests.{clash}
-use Rattle.cutting.proofs.First.{unmatched}
-use Rattle.cutting.proofs.Choosing.{Longer, extends-false, extends-true}
-use Rattle.pooled.proofs.Alone.{alone-first, first-alone}
+use Rattle.book.specs.Valid.{Distinct}
+use Rattle.longest_match.specs.Lexer.{Token, firstMatch, extends, join, Printable}
+use Rattle.longest_match.proofs.First.{unmatched}
+use Rattle.longest_match.proofs.Choosing.{Longer, extends-false, extends-true}
+use Rattle.token_list.proofs.Alone.{alone-first, first-alone}
 use Rattle.demands.specs.Words.{Unmatched, Separable}
 use Rattle.demands.proofs.LongestMatch.{unmatched-none}
 

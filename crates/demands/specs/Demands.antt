@@ -2,17 +2,17 @@
 -- `separated::print_separated` equate their answers and every byte lent to them with `lexOutcome`, `printOutcome` and `separatedOutcome`.
 use mathlib.Core.Path.{_≡_}
 use mathlib.Core.Logic.{_↔_}
-use Prim.Native.Nat.{ℕ, _≤_}
 use mathlib.Core.Bool.{false}
 use mathlib.Core.List.{List, [], _++_}
+use Prim.Native.Nat.{ℕ, _≤_}
 use lib.ListN.{length, drop}
 use Rattle.automaton.specs.Rule.{Rule}
-use Rattle.reading.specs.Draft.{tagged}
-use Rattle.cutting.specs.Lexer.{Token, lex, join}
-use Rattle.records.specs.Records.{recordCount}
-use Rattle.pooled.specs.Tokens.{tokensOf, tokenIn}
-use Rattle.pooled.specs.Faults.{aloneIn}
-use Rattle.pooled.specs.declared.TokenRecord.{TokenRecord}
+use Rattle.book.specs.Draft.{tagged}
+use Rattle.longest_match.specs.Lexer.{Token, lex, join}
+use Rattle.record.specs.Records.{recordCount}
+use Rattle.record.specs.Tokens.{tokensOf, tokenIn}
+use Rattle.record.specs.declared.TokenRecord.{TokenRecord}
+use Rattle.token_list.specs.Faults.{aloneIn}
 use Rattle.spacing.specs.Separators.{dropSeparators, spelled}
 use Rattle.separated.specs.Claims.{Unrefused}
 use Rattle.demands.specs.Words.{Spaces, spaced, Book, Lexes, stored, Prints, written, Unlimited, LongestMatch, Separable}

@@ -1,3 +1,3 @@
--- The customer's demands on lexing and printing, stated of the outcomes that the operations' contracts cite.
+-- The definitions of this crate.
 pub mod Words
 pub mod Demands

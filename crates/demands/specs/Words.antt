@@ -1,24 +1,24 @@
 -- The words of the demands.
 use mathlib.Core.Path.{_≡_}
-use Prim.Native.Nat.{ℕ, _*_, _<_, _≤_}
 use mathlib.Core.Bool.{true, false}
 use mathlib.Core.List.{List, [], _∷_, _++_}
+use Prim.Native.Nat.{ℕ, _*_, _<_, _≤_}
 use lib.ListN.{length, take, drop}
 use Rattle.automaton.specs.Choice.{All}
 use Rattle.automaton.specs.Rule.{Rule, matches}
-use Rattle.book.specs.Reading.{accepted, readBook}
-use Rattle.lexing.specs.declared.LexAnswer.the-variants as lexed
-use Rattle.cutting.specs.Lexer.{Token, join}
-use Rattle.reading.specs.Limits.{maxText, maxTokens}
-use Rattle.records.specs.Records.{recordCount}
+use Rattle.book.specs.Limits.{maxText, maxTokens}
+use Rattle.reader.specs.Reading.{accepted, readBook}
+use Rattle.longest_match.specs.Lexer.{Token, join}
+use Rattle.record.specs.Records.{recordCount}
+use Rattle.record.specs.Tokens.{recordsOf, tokensOf}
+use Rattle.record.specs.Contracts.{InPool}
+use Rattle.record.specs.declared.TokenRecord.{TokenRecord}
 use Rattle.lexer.specs.Outcome.{lexOutcome}
-use Rattle.writing.specs.declared.PrintAnswer.the-variants as print
-use Rattle.pooled.specs.Tokens.{recordsOf, tokensOf}
-use Rattle.pooled.specs.Faults.{aloneIn}
+use Rattle.token_list.specs.Faults.{aloneIn}
 use Rattle.printer.specs.Outcome.{printOutcome}
-use Rattle.pooled.specs.Answers.{InPool}
-use Rattle.pooled.specs.declared.TokenRecord.{TokenRecord}
 use Rattle.separated.specs.Outcome.{separatedOutcome}
+use Rattle.answer.specs.declared.LexAnswer.the-variants as lexed
+use Rattle.answer.specs.declared.PrintAnswer.the-variants as print
 
 -- ---- the operations
 

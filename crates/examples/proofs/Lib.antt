@@ -1,2 +1,2 @@
--- The examples, proved.
+-- What the proofs of this crate share, and the laws for the layers above.
 pub mod Examples

@@ -1,6 +1,6 @@
 -- The books of document 01's examples, as command bytes. State 9 is the error state of every rule.
-use Prim.Native.Nat.{ℕ}
 use mathlib.Core.List.{List, [], _∷_, _++_}
+use Prim.Native.Nat.{ℕ}
 
 -- RULE of a tag below 256, with START 0 and ERROR 9, the commands between, and CLOSE
 abbrev rule : ℕ → ℕ → List ℕ → List ℕ

@@ -1,3 +1,3 @@
--- The examples of document 01 that are marked as proved.
+-- The definitions of this crate.
 pub mod Books
 pub mod Table

@@ -1,19 +1,18 @@
 -- The table of examples: a book's bytes, what is asked, and what document 01 says it gives.
 use mathlib.Core.Path.{_≡_}
-use Prim.Native.Nat.{ℕ, _-_}
 use mathlib.Core.List.{List, [], _∷_, _++_}
+use Prim.Native.Nat.{ℕ, _-_}
 use lib.ListN.{length, take, replicate}
+use Rattle.answer.specs.declared.PrintAnswer.{PrintAnswer}
 use Rattle.automaton.specs.Choice.{All}
-use Rattle.book.specs.Reading.{Reading, accepted, refused, readBook}
-use Rattle.cutting.specs.Lexer.{Token, Lexed, lex, join}
-use Rattle.records.specs.Records.{recordsAt}
-use Rattle.writing.specs.declared.PrintAnswer.{PrintAnswer}
-use Rattle.writing.specs.declared.PrintAnswer.the-variants as answer
-use Rattle.printing.specs.Outcome.{PrintOutcome}
-use Rattle.printer.specs.Outcome.{printOutcome}
+use Rattle.reader.specs.Reading.{Reading, accepted, refused, readBook}
+use Rattle.longest_match.specs.Lexer.{Token, Lexed, lex, join}
+use Rattle.record.specs.Records.{recordsAt}
+use Rattle.printer.specs.Outcome.{PrintOutcome, printOutcome}
 use Rattle.separated.specs.Outcome.{separatedOutcome}
 use Rattle.listing.specs.Lines.{listing, recordBytes}
 use Rattle.examples.specs.Books.{bookA, bookB, bookC}
+use Rattle.answer.specs.declared.PrintAnswer.the-variants as answer
 
 -- what is asked of a book
 pub data Question : Type 0 where

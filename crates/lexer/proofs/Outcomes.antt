@@ -1,28 +1,28 @@
 -- How the answers of the code come to the outcome of document 01. Assumes nothing.
 use mathlib.Core.Path.{_≡_, refl, sym, _∙_, ap}
-use Prim.Native.Nat.{ℕ, _-_}
 use mathlib.Core.Bool.{Bool, true, false}
 use mathlib.Core.List.{List}
+use Prim.Native.Nat.{ℕ, _-_}
 use native.Mathlib.Omega.{arith}
 use lib.Dec.{ltb}
 use lib.ListN.{length, take, drop, length-drop}
 use lib.Seq.{take-all}
+use Rattle.answer.specs.declared.Refusal.{Refusal}
+use Rattle.answer.specs.declared.BookAnswer.{BookAnswer}
+use Rattle.answer.specs.declared.LexAnswer.{LexAnswer}
 use Rattle.automaton.specs.Choice.{if}
 use Rattle.automaton.specs.Rule.{Rule}
-use Rattle.refusal.specs.declared.Refusal.{Refusal}
-use Rattle.book.specs.declared.BookAnswer.{BookAnswer}
-use Rattle.book.specs.declared.BookAnswer.the-variants as book
-use Rattle.book.specs.Reading.{Reading, accepted, refused, readBook, answer}
-use Rattle.book.specs.Loading.{Loaded}
-use Rattle.lexing.specs.declared.LexAnswer.{LexAnswer}
-use Rattle.lexing.specs.declared.LexAnswer.the-variants as lexed
-use Rattle.cutting.specs.Lexer.{lex}
-use Rattle.cutting.specs.Answers.{Holds, Held}
-use Rattle.reading.specs.Limits.{maxText}
-use Rattle.records.specs.Records.{recordCount}
-use Rattle.lexing.specs.Outcome.{lexRefused, lexAccepted, lexRules, Answered, restRules, RestAt}
-use Rattle.lexer.specs.Outcome.{lexReading, lexOutcome, restReading, restOf}
-use Rattle.cutting.proofs.Lexing.{rest-drop}
+use Rattle.book.specs.Limits.{maxText}
+use Rattle.reader.specs.Reading.{Reading, accepted, refused, readBook, answer}
+use Rattle.reader.specs.Contracts.{Loaded}
+use Rattle.longest_match.specs.Lexer.{lex}
+use Rattle.longest_match.specs.Contracts.{Holds, Held}
+use Rattle.longest_match.proofs.Lexing.{rest-drop}
+use Rattle.record.specs.Records.{recordCount}
+use Rattle.lexer.specs.Outcome.{lexRefused, lexAccepted, lexRules, restRules, lexReading, lexOutcome, restReading, restOf}
+use Rattle.lexer.specs.Contracts.{LexAnswered, RestAt}
+use Rattle.answer.specs.declared.BookAnswer.the-variants as book
+use Rattle.answer.specs.declared.LexAnswer.the-variants as lexed
 
 module _ {bytes hs ss es : List ℕ} {b : BookAnswer} {n : ℕ} (l : Loaded bytes b hs ss es) (a : b ≡ book.Accepted n) where
   -- the rules of an accepted book are in the tables
@@ -40,8 +40,8 @@ module _ {bytes hs ss es : List ℕ} {b : BookAnswer} {n : ℕ} (l : Loaded byte
   pub loaded-held : Held hs ss es n
   loaded-held = record { rules = loaded-rules .0; holds = loaded-rules .1 .1 }
 
-  pub answered-book : (text records exit : List ℕ) (r : LexAnswer) → ((rules : List Rule) → Holds hs ss es n rules → Answered (lexRules rules text records) r exit)
-      → Answered (lexOutcome bytes text records) r exit
+  pub answered-book : (text records exit : List ℕ) (r : LexAnswer) → ((rules : List Rule) → Holds hs ss es n rules → LexAnswered (lexRules rules text records) r exit)
+      → LexAnswered (lexOutcome bytes text records) r exit
   unfolding lexOutcome
   answered-book text records exit r h = rw (loaded-rules .1 .0) (h (loaded-rules .0) (loaded-rules .1 .1))
 
@@ -64,7 +64,7 @@ module _ {bytes hs ss es : List ℕ} {b : BookAnswer} {f : Refusal} (l : Loaded 
           let y : f ≡ record { number = number; place = place } = cc in
           rw y e
 
-  pub answered-refused : (text records : List ℕ) → Answered (lexOutcome bytes text records) (lexed.Refused f) records
+  pub answered-refused : (text records : List ℕ) → LexAnswered (lexOutcome bytes text records) (lexed.Refused f) records
   unfolding lexOutcome
   answered-refused text records = rw loaded-refused (record { answer = refl; records = refl })
 

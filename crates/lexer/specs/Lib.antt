@@ -1,2 +1,3 @@
--- What lexing a text by a book's bytes answers and leaves.
+-- The definitions of this crate.
 pub mod Outcome
+pub mod Contracts

@@ -1,8 +1,48 @@
--- The paper's cutting, as a whole: from the book's bytes, the text and the lent records to the answer and what the records hold afterwards.
-use Prim.Native.Nat.{ℕ}
-use mathlib.Core.List.{List}
-use Rattle.book.specs.Reading.{Reading, accepted, refused, readBook}
-use Rattle.lexing.specs.Outcome.{LexOutcome, lexRefused, lexRules, restRules}
+-- The paper's cutting: from the rules, the text and the lent records to the answer and what the records hold afterwards.
+use mathlib.Core.List.{List, _++_}
+use Prim.Native.Nat.{ℕ, _-_, _*_}
+use lib.Dec.{ltb}
+use lib.ListN.{length, drop}
+use Rattle.answer.specs.declared.LexAnswer.{LexAnswer}
+use Rattle.automaton.specs.Choice.{if}
+use Rattle.automaton.specs.Rule.{Rule}
+use Rattle.book.specs.Limits.{maxText}
+use Rattle.reader.specs.Reading.{Reading, accepted, refused, readBook}
+use Rattle.longest_match.specs.Lexer.{Lexed, lex}
+use Rattle.record.specs.Records.{recordsAt, recordCount}
+use Rattle.answer.specs.declared.LexAnswer.the-variants as answer
+
+pub record LexOutcome : Type 0 where
+  pub answer : LexAnswer
+  pub records : List ℕ
+
+-- a refusal by this number at this place leaves the records as they are
+abbrev pub lexRefused : ℕ → ℕ → List ℕ → LexOutcome
+lexRefused number place records =
+    record { answer = answer.Refused (record { number = number; place = place }); records = records }
+
+-- the records of the tokens, and every byte past them as it was
+abbrev pub lexAccepted : Lexed → List ℕ → List ℕ → LexOutcome
+lexAccepted cut text records =
+    record {
+      answer = answer.Lexed (length (cut .tokens)) (length text - length (cut .rest));
+      records = recordsAt 0 (cut .tokens) ++ drop (10 * length (cut .tokens)) records;
+    }
+
+-- 14, then 15, then the cut
+unfoldable pub lexRules : List Rule → List ℕ → List ℕ → LexOutcome
+lexRules rules text records =
+    if (ltb maxText (length text)) (lexRefused 14 0 records)
+    (if (ltb (recordCount records) (length ((lex rules text) .tokens))) (lexRefused 15 (length ((lex rules text) .tokens)) records)
+    (lexAccepted (lex rules text) text records))
+
+-- ---- the rest
+
+-- "where the book is refused or 14 applies it is the whole text": here 14
+abbrev pub restRules : List Rule → List ℕ → List ℕ
+restRules rules text = if (ltb maxText (length text)) text ((lex rules text) .rest)
+
+-- ---- The paper's cutting, as a whole: from the book's bytes, the text and the lent records to the answer and what the records hold afterwards.
 
 -- the book's refusals first
 abbrev pub lexReading : Reading → List ℕ → List ℕ → LexOutcome

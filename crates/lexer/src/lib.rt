@@ -1,14 +1,17 @@
 // Lexing by a book's bytes, open to every caller: it asks nothing and refuses what is unfit.
 // The tables are locals of the call, lent as arrays to functions that pass them on as slices.
-use book::BookAnswer;
-use lexing::LexAnswer;
-use reading::Book;
+pub mod by_rules;
+pub mod filling;
+
+use answer::BookAnswer;
+use answer::LexAnswer;
+use book::Book;
 ghost use mathlib.Core.Path.{_≡_};
 ghost use mathlib.Core.List.{List};
 ghost use Rattle.automaton.specs.Rule.{Rule};
-ghost use Rattle.cutting.specs.Answers.{Holds, Held};
-ghost use Rattle.lexing.specs.Outcome.{lexRules, Answered, restRules, RestAt};
-ghost use Rattle.lexer.specs.Outcome.{lexOutcome, restOf};
+ghost use Rattle.longest_match.specs.Contracts.{Holds, Held};
+ghost use Rattle.lexer.specs.Outcome.{lexRules, restRules, lexOutcome, restOf};
+ghost use Rattle.lexer.specs.Contracts.{LexAnswered, RestAt};
 
 // Cuts `text` by the rules of a book: the number of tokens and the place of the rest, or the refusal of document 01.
 // A record of each token stands from the start of `records`; every other byte stays as it was.
@@ -19,7 +22,7 @@ pub fn lex(book: &[u8], text: &[u8], records: &mut [u8]) -> LexAnswer
     let mut headers = [0u64; Book::RULES];
     let mut states = [0u16; Book::CELLS];
     let mut edges = [0u64; Book::EDGES];
-    match book::load_arrays(book, &mut headers, &mut states, &mut edges) {
+    match reader::load_arrays(book, &mut headers, &mut states, &mut edges) {
         BookAnswer::Accepted(rules) => lex_arrays(&headers, &states, &edges, rules, text, records),
         BookAnswer::Refused(refusal) => LexAnswer::Refused(refusal),
     }
@@ -35,9 +38,9 @@ fn lex_arrays(
 ) -> LexAnswer
     requires { ⌜ Held (now headers) (now states) (now edges) rules ⌝ }
     ensures { λ r. ⌜ ((rs : List Rule) → Holds (now (headers .entry)) (now (states .entry)) (now (edges .entry)) rules rs
-        → Answered (lexRules rs (now (text .entry)) (now (records .entry))) r (now (records .exit))) ⌝ }
+        → LexAnswered (lexRules rs (now (text .entry)) (now (records .entry))) r (now (records .exit))) ⌝ }
 {
-    lexing::lex_rules(headers, states, edges, rules, text, records)
+    crate::by_rules::lex_rules(headers, states, edges, rules, text, records)
 }
 
 // The rest of `text`, as a part of it: its bytes from the first place at which no rule of the book matches. Where `lex`
@@ -56,7 +59,7 @@ fn rest_place(book: &[u8], text: &[u8]) -> usize
     let mut headers = [0u64; Book::RULES];
     let mut states = [0u16; Book::CELLS];
     let mut edges = [0u64; Book::EDGES];
-    match book::load_arrays(book, &mut headers, &mut states, &mut edges) {
+    match reader::load_arrays(book, &mut headers, &mut states, &mut edges) {
         BookAnswer::Accepted(rules) => rest_arrays(&headers, &states, &edges, rules, text),
         BookAnswer::Refused(_) => 0,
     }
@@ -73,5 +76,5 @@ fn rest_arrays(
     ensures { λ r. ⌜ ((rs : List Rule) → Holds (now (headers .entry)) (now (states .entry)) (now (edges .entry)) rules rs
         → RestAt (now (text .entry)) r (restRules rs (now (text .entry)))) ⌝ }
 {
-    lexing::rest_rules(headers, states, edges, rules, text)
+    crate::by_rules::rest_rules(headers, states, edges, rules, text)
 }

@@ -1,31 +1,29 @@
 -- The lines of an outcome fit the buffer: each has at most 24 bytes. Assumes nothing.
 use mathlib.Core.Path.{_≡_, refl, sym, _∙_, ap}
-use Prim.Native.Nat.{ℕ, zero, suc, _+_, _-_, _*_, _/_, _%_, _<_, _≤_}
 use mathlib.Core.Bool.{Bool, true, false}
 use mathlib.Core.List.{List, [], _∷_, _++_}
+use Prim.Native.Nat.{ℕ, zero, suc, _+_, _-_, _*_, _/_, _%_, _<_, _≤_}
 use native.Mathlib.Omega.{arith}
 use native.Mathlib.Nat.{add-assoc, add-zero, zero-add}
 use lib.Dec.{ltb}
 use lib.ListN.{length, getD, drop, length-append, List·getD-append}
 use lib.Seq.{getD-take, getD-drop}
 use borrow.Author.Tests.{ltb-false}
+use Rattle.answer.specs.declared.LexAnswer.{LexAnswer}
 use Rattle.automaton.specs.Choice.{if}
 use Rattle.automaton.specs.Rule.{Rule}
-use Rattle.book.specs.Reading.{Reading, accepted, refused, readBook}
-use Rattle.lexing.specs.declared.LexAnswer.{LexAnswer}
-use Rattle.cutting.specs.Lexer.{Token, lex}
-use Rattle.records.specs.Records.{recordOf, recordsAt, recordCount}
-use Rattle.reading.specs.Limits.{maxText}
-use Rattle.lexing.specs.Outcome.{lexRefused, lexAccepted, lexRules}
-use Rattle.lexer.specs.Outcome.{lexReading, lexOutcome}
-use Rattle.cutting.proofs.Lexing.{lex-lengths}
-use Rattle.records.proofs.Records.{length-records, tokenAt, placeAt, records-at, laid-within, four-value}
-use Rattle.pooled.specs.Tokens.{twoAt, fourAt, recordAt}
-use Rattle.digits.specs.Decimal.{decimal, field, blank, lineEnd, lastTwo}
-use Rattle.digits.specs.Putting.{Puts}
-use Rattle.digits.proofs.Putting.{digits}
-use Rattle.lines.specs.Lines.{tokenLine, recordLine}
-use Rattle.listing.specs.Lines.{restWord, restLine, recordLines, recordBytes, outputBytes, linesOf, listing, Fit}
+use Rattle.book.specs.Limits.{maxText}
+use Rattle.reader.specs.Reading.{Reading, accepted, refused, readBook}
+use Rattle.longest_match.specs.Lexer.{Token, lex}
+use Rattle.longest_match.proofs.Lexing.{lex-lengths}
+use Rattle.record.specs.Records.{recordOf, recordsAt, recordCount}
+use Rattle.record.proofs.Records.{length-records, tokenAt, placeAt, records-at, laid-within, four-value}
+use Rattle.record.specs.Tokens.{twoAt, fourAt, recordAt}
+use Rattle.lexer.specs.Outcome.{lexRefused, lexAccepted, lexRules, lexReading, lexOutcome}
+use Rattle.listing.specs.Decimal.{decimal, field, blank, lineEnd, lastTwo}
+use Rattle.listing.specs.Contracts.{Puts, outputBytes, LinesFit}
+use Rattle.listing.proofs.Putting.{digits}
+use Rattle.listing.specs.Lines.{tokenLine, recordLine, restWord, restLine, recordLines, recordBytes, linesOf, listing}
 
 -- ---- lines
 
@@ -109,7 +107,7 @@ module _ (rules : List Rule) (text records : List ℕ) (small : length text ≤ 
       short-token k (twoAt filled (10 * k)) (fourAt filled (10 * k + 2)) (fourAt filled (10 * k + 6)) (omega arith) (omega arith) (omega arith) (omega arith)
 
   pub fit-accepted : (out : List ℕ) → length records ≡ recordBytes → outputBytes ≤ length out → length tokens ≤ recordCount records
-      → Fit ((lexAccepted (lex rules text) text records) .answer) ((lexAccepted (lex rules text) text records) .records) (length text) out
+      → LinesFit ((lexAccepted (lex rules text) text records) .answer) ((lexAccepted (lex rules text) text records) .records) (length text) out
   fit-accepted out size room few =
       let j = lex-lengths rules text in
       let place : ℕ = length text - length ((lex rules text) .rest) in (
@@ -126,31 +124,31 @@ module _ (rules : List Rule) (text records : List ℕ) (small : length text ≤ 
       )
 
 module _ (text records out : List ℕ) (size : length records ≡ recordBytes) (room : outputBytes ≤ length out) where
-  fit-rules : (rules : List Rule) → Fit ((lexRules rules text records) .answer) ((lexRules rules text records) .records) (length text) out
+  fit-rules : (rules : List Rule) → LinesFit ((lexRules rules text records) .answer) ((lexRules rules text records) .records) (length text) out
   unfolding lexRules
   fit-rules rules = go (ltb maxText (length text)) refl (ltb (recordCount records) (length ((lex rules text) .tokens))) refl
     where
       go : (t : Bool) → ltb maxText (length text) ≡ t → (u : Bool) → ltb (recordCount records) (length ((lex rules text) .tokens)) ≡ u
-          → Fit ((if t (lexRefused 14 0 records) (if u (lexRefused 15 (length ((lex rules text) .tokens)) records) (lexAccepted (lex rules text) text records))) .answer)
+          → LinesFit ((if t (lexRefused 14 0 records) (if u (lexRefused 15 (length ((lex rules text) .tokens)) records) (lexAccepted (lex rules text) text records))) .answer)
           ((if t (lexRefused 14 0 records) (if u (lexRefused 15 (length ((lex rules text) .tokens)) records) (lexAccepted (lex rules text) text records))) .records)
           (length text) out
       go true e u f = omega arith
       go false e true f = omega arith
       go false e false f = fit-accepted rules text records (ltb-false maxText (length text) e) out size room (ltb-false (recordCount records) _ f)
 
-  fit-reading : (o : Reading) → Fit ((lexReading o text records) .answer) ((lexReading o text records) .records) (length text) out
+  fit-reading : (o : Reading) → LinesFit ((lexReading o text records) .answer) ((lexReading o text records) .records) (length text) out
   fit-reading (accepted rules) = fit-rules rules
   fit-reading (refused number place) = omega arith
 
   -- the lines of every outcome fit
-  pub fit-outcome : (book : List ℕ) → Fit ((lexOutcome book text records) .answer) ((lexOutcome book text records) .records) (length text) out
+  pub fit-outcome : (book : List ℕ) → LinesFit ((lexOutcome book text records) .answer) ((lexOutcome book text records) .records) (length text) out
   unfolding lexOutcome
   fit-outcome book = fit-reading (readBook book)
 
 -- ---- the whole listing, of an answer and records that are those of the outcome
 
 module _ (book text records : List ℕ) {exit : List ℕ} {r : LexAnswer} (a : r ≡ (lexOutcome book text records) .answer) (b : exit ≡ (lexOutcome book text records) .records) where
-  pub fit-answer : (out : List ℕ) → length records ≡ recordBytes → length out ≡ outputBytes → Fit r exit (length text) out
+  pub fit-answer : (out : List ℕ) → length records ≡ recordBytes → length out ≡ outputBytes → LinesFit r exit (length text) out
   fit-answer out size room = rw (a, b) (fit-outcome text records out size (omega arith) book)
 
   pub listed : {out after : List ℕ} {end : ℕ} → Puts out 0 (linesOf r exit (length text)) end after

@@ -1,21 +1,20 @@
 -- The lines of records, one behind the other. Assumes nothing.
 use mathlib.Core.Path.{_≡_, refl, sym, _∙_, subst}
-use Prim.Native.Nat.{ℕ, zero, suc, _+_, _-_, _*_, _<_, _≤_}
 use mathlib.Core.List.{List, [], _∷_, _++_}
 use mathlib.Core.Bool.{Bool, true, false}
+use Prim.Native.Nat.{ℕ, zero, suc, _+_, _-_, _*_, _<_, _≤_}
 use native.Mathlib.Omega.{arith}
-use lib.Dec.{ltb}
-use borrow.Author.Tests.{ltb-true, ltb-false}
 use native.Mathlib.Numerals.{add-one}
+use lib.Dec.{ltb}
 use lib.ListN.{length, length-append}
-use Rattle.refusal.specs.declared.Refusal.{Refusal}
-use Rattle.lexing.specs.declared.LexAnswer.{LexAnswer}
-use Rattle.lexing.specs.declared.LexAnswer.the-variants.{Lexed, Refused}
-use Rattle.digits.specs.Decimal.{decimal, field, blank, lineEnd, lastTwo}
-use Rattle.digits.specs.Putting.{Room, Puts}
-use Rattle.digits.proofs.Putting.{puts-nothing, puts-then, room-second, digits}
-use Rattle.lines.specs.Lines.{recordLine}
-use Rattle.listing.specs.Lines.{restLine, refusedWord, refusedLine, refusedBytes, recordLines, Fit, linesOf}
+use borrow.Author.Tests.{ltb-true, ltb-false}
+use Rattle.answer.specs.declared.Refusal.{Refusal}
+use Rattle.answer.specs.declared.LexAnswer.{LexAnswer}
+use Rattle.answer.specs.declared.LexAnswer.the-variants.{Lexed, Refused}
+use Rattle.listing.specs.Decimal.{decimal, field, blank, lineEnd, lastTwo}
+use Rattle.listing.specs.Contracts.{Room, Puts, refusedBytes, LinesFit}
+use Rattle.listing.proofs.Putting.{puts-nothing, puts-then, room-second, digits}
+use Rattle.listing.specs.Lines.{recordLine, restLine, refusedWord, refusedLine, recordLines, linesOf}
 
 lines-more : (records : List ℕ) (k : ℕ) → recordLines records (k + 1) ≡ recordLines records k ++ recordLine records k
 unfolding recordLines
@@ -68,19 +67,19 @@ module _ {entry records out : List ℕ} {n at k : ℕ} (g : Going entry records 
 -- ---- by the answer
 
 module _ {a : LexAnswer} {tokens rest : ℕ} (e : a ≡ Lexed tokens rest) (records : List ℕ) (len : ℕ) where
-  pub fit-lexed : {out : List ℕ} → Fit a records len out
+  pub fit-lexed : {out : List ℕ} → LinesFit a records len out
       → (10 * tokens ≤ length records) × (rest ≤ len) × Room 0 (recordLines records tokens ++ restLine rest (len - rest)) out
-  fit-lexed {out} f = subst (λ (x : LexAnswer). Fit x records len out) e f
+  fit-lexed {out} f = subst (λ (x : LexAnswer). LinesFit x records len out) e f
 
   pub puts-lexed : {out after : List ℕ} {end : ℕ} → Puts out 0 (recordLines records tokens ++ restLine rest (len - rest)) end after
       → Puts out 0 (linesOf a records len) end after
   puts-lexed {out} {after} {end} p = subst (λ (x : LexAnswer). Puts out 0 (linesOf x records len) end after) (sym e) p
 
 module _ {a : LexAnswer} {f : Refusal} (e : a ≡ Refused f) (records : List ℕ) (len : ℕ) where
-  pub room-refused : {out : List ℕ} → Fit a records len out → f .number < 256 → f .place < 18446744073709551616 → Room 0 (refusedLine (f .number) (f .place)) out
+  pub room-refused : {out : List ℕ} → LinesFit a records len out → f .number < 256 → f .place < 18446744073709551616 → Room 0 (refusedLine (f .number) (f .place)) out
   unfolding refusedLine lastTwo
   room-refused {out} t l m =
-      let room : refusedBytes ≤ length out = subst (λ (x : LexAnswer). Fit x records len out) e t in
+      let room : refusedBytes ≤ length out = subst (λ (x : LexAnswer). LinesFit x records len out) e t in
       record {
         room = omega (
           arith,

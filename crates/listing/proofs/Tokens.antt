@@ -1,8 +1,8 @@
 -- What is printed of an accepted cut is a line for each of its tokens, and the rest. Assumes nothing.
 use mathlib.Core.Path.{_≡_, refl, sym, _∙_, ap, subst}
-use Prim.Native.Nat.{ℕ, zero, suc, _+_, _-_, _*_, _<_, _≤_}
 use mathlib.Core.Option.{Option, none, some}
 use mathlib.Core.List.{List, [], _∷_, _++_, append-assoc, append-nil}
+use Prim.Native.Nat.{ℕ, zero, suc, _+_, _-_, _*_, _<_, _≤_}
 use native.Mathlib.Omega.{arith}
 use native.Mathlib.Nat.{add-zero, zero-add}
 use lib.ListN.{length, getD, take, drop, length-append}
@@ -11,20 +11,18 @@ use borrow.Author.Tests.{le-ltb}
 use Rattle.automaton.specs.Choice.{All}
 use Rattle.automaton.specs.Rule.{Rule}
 use Rattle.command.specs.Commands.{byteAt}
-use Rattle.book.specs.Reading.{accepted, readBook}
-use Rattle.reading.specs.Valid.{ValidRule}
-use Rattle.book.proofs.Accepted.{accepted-valid}
-use Rattle.cutting.specs.Lexer.{Token, Found, Lexed, choose, proceed, lexFor, lex, join}
-use Rattle.records.specs.Records.{recordsAt, recordCount}
-use Rattle.reading.specs.Limits.{maxText}
-use Rattle.lexing.specs.Outcome.{lexRules}
-use Rattle.lexer.specs.Outcome.{lexOutcome}
-use Rattle.cutting.proofs.Choosing.{choose-some}
-use Rattle.cutting.proofs.Lexing.{lex-lengths}
-use Rattle.records.proofs.Records.{tokenAt, placeAt, laid-within, two-value}
-use Rattle.pooled.specs.Tokens.{twoAt, recordAt}
-use Rattle.lines.specs.Lines.{tokenLine, tokenLines, recordLine}
-use Rattle.listing.specs.Lines.{restLine, recordLines, listing}
+use Rattle.book.specs.Valid.{ValidRule}
+use Rattle.book.specs.Limits.{maxText}
+use Rattle.reader.specs.Reading.{accepted, readBook}
+use Rattle.reader.proofs.Accepted.{accepted-valid}
+use Rattle.longest_match.specs.Lexer.{Token, Found, Lexed, choose, proceed, lexFor, lex, join}
+use Rattle.longest_match.proofs.Choosing.{choose-some}
+use Rattle.longest_match.proofs.Lexing.{lex-lengths}
+use Rattle.record.specs.Records.{recordsAt, recordCount}
+use Rattle.record.proofs.Records.{tokenAt, placeAt, laid-within, two-value}
+use Rattle.record.specs.Tokens.{twoAt, recordAt}
+use Rattle.lexer.specs.Outcome.{lexRules, lexOutcome}
+use Rattle.listing.specs.Lines.{tokenLine, tokenLines, recordLine, restLine, recordLines, listing}
 use Rattle.listing.proofs.Bounds.{byte-at, place-is, length-is}
 
 -- ---- a token more

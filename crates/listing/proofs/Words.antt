@@ -1,12 +1,12 @@
 -- Writing a word byte by byte. Assumes nothing.
 use mathlib.Core.Path.{_≡_, refl, _∙_}
-use Prim.Native.Nat.{ℕ, _+_, _<_, _≤_}
 use mathlib.Core.List.{List}
+use Prim.Native.Nat.{ℕ, _+_, _<_, _≤_}
 use native.Mathlib.Omega.{arith}
 use native.Mathlib.Numerals.{add-one}
 use lib.ListN.{length, getD, set, length-set}
 use lib.Seq.{take-length, paste, paste-zero, paste-suc}
-use Rattle.digits.specs.Putting.{Room, Puts}
+use Rattle.listing.specs.Contracts.{Room, Puts}
 
 -- the first i bytes of the word are written
 pub record Copying (entry : List ℕ) (at : ℕ) (word : List ℕ) (out : List ℕ) (i : ℕ) : Type 0 where

@@ -1,2 +1,4 @@
--- The lines of the program cutlist.
+-- The definitions of this crate.
+pub mod Decimal
 pub mod Lines
+pub mod Contracts

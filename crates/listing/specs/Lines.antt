@@ -1,14 +1,28 @@
--- What the program cutlist prints: "in decimal, a line per token (number, tag, place, length) and last "rest", its place, its length";
--- "a refusal prints one line alone, "refused", number, place". Text is bytes in ASCII.
-use Prim.Native.Nat.{ℕ, zero, suc, _-_, _*_, _≤_}
+-- "in decimal, a line per token (number, tag, place, length)"
 use mathlib.Core.List.{List, [], _∷_, _++_}
+use Prim.Native.Nat.{ℕ, _+_, zero, suc, _-_}
 use lib.ListN.{length}
-use Rattle.lexing.specs.declared.LexAnswer.{LexAnswer}
-use Rattle.lexing.specs.declared.LexAnswer.the-variants.{Lexed, Refused}
+use Rattle.answer.specs.declared.LexAnswer.{LexAnswer}
+use Rattle.answer.specs.declared.LexAnswer.the-variants.{Lexed, Refused}
+use Rattle.longest_match.specs.Lexer.{Token}
+use Rattle.record.specs.Tokens.{recordAt}
 use Rattle.lexer.specs.Outcome.{lexOutcome}
-use Rattle.digits.specs.Decimal.{blank, lastTwo}
-use Rattle.digits.specs.Putting.{Room}
-use Rattle.lines.specs.Lines.{recordLine}
+use Rattle.listing.specs.Decimal.{field, blank, lastTwo}
+
+unfoldable pub tokenLine : ℕ → ℕ → ℕ → ℕ → List ℕ
+tokenLine number tag place len = field number blank ++ field tag blank ++ lastTwo place len
+
+-- the lines of tokens that lie one behind the other, the first of them at `place`
+unfoldable pub tokenLines : ℕ → ℕ → List Token → List ℕ
+tokenLines number place [] = []
+tokenLines number place (t ∷ ts) = tokenLine number t.tag place (length t.bytes) ++ tokenLines (number + 1) (place + length t.bytes) ts
+
+-- the line of record number k
+unfoldable pub recordLine : List ℕ → ℕ → List ℕ
+recordLine records k = tokenLine k ((recordAt records k) .tag) ((recordAt records k) .place) ((recordAt records k) .len)
+
+-- ---- What the program cutlist prints: "in decimal, a line per token (number, tag, place, length) and last "rest", its place, its length";
+-- "a refusal prints one line alone, "refused", number, place". Text is bytes in ASCII.
 
 -- ---- lines
 
@@ -41,23 +55,9 @@ linesOf (Lexed tokens rest) records len = recordLines records tokens ++ restLine
 abbrev pub recordBytes : ℕ
 recordBytes = 60000
 
--- bytes that the lines never pass: 24 for each record, and 24 for the last line
-abbrev pub outputBytes : ℕ
-outputBytes = 144024
-
 -- what the program prints of a book and a text, with these records lent
 unfoldable pub listing : List ℕ → List ℕ → List ℕ → List ℕ
 listing book text records =
     linesOf ((lexOutcome book text records) .answer) ((lexOutcome book text records) .records) (length text)
 
 -- ---- room
-
--- the longest line of a refusal, whose number is a byte and whose place has at most 20 digits
-abbrev pub refusedBytes : ℕ
-refusedBytes = 33
-
--- the records and the rest that an answer tells of are there, and there is room for the lines
-abbrev pub Fit : LexAnswer → List ℕ → ℕ → List ℕ → Type 0
-Fit (Refused f) records len out = refusedBytes ≤ length out
-Fit (Lexed tokens rest) records len out =
-    (10 * tokens ≤ length records) × (rest ≤ len) × Room 0 (recordLines records tokens ++ restLine rest (len - rest)) out

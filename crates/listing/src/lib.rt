@@ -1,12 +1,15 @@
 // The lines of the program cutlist, written into a lent buffer.
+pub mod digits;
+pub mod lines;
+
+use answer::LexAnswer;
 ghost use mathlib.Core.Path.{_≡_};
 ghost use mathlib.Core.List.{_++_};
 ghost use Prim.Native.Nat.{_*_, _≤_};
 ghost use lib.ListN.{length, drop};
 ghost use Rattle.lexer.specs.Outcome.{lexOutcome};
-ghost use Rattle.digits.specs.Putting.{Room, Puts};
-ghost use Rattle.listing.specs.Lines.{restLine, refusedLine, recordLines, recordBytes, outputBytes, linesOf, listing, Fit};
-use lexing::LexAnswer;
+ghost use Rattle.listing.specs.Contracts.{Room, Puts, outputBytes, LinesFit};
+ghost use Rattle.listing.specs.Lines.{restLine, refusedLine, recordLines, recordBytes, linesOf, listing};
 
 // The bytes of the 6,000 records that are lent to `list`, and of the output, which no listing passes.
 pub const RECORD_BYTES: usize = 60000;
@@ -32,7 +35,7 @@ fn put_rest(out: &mut [u8], at: usize, place: usize, len: usize) -> usize
     ensures { λ r. ⌜ Puts (now (out .entry)) at (restLine place len) r (now (out .exit)) ⌝ }
 {
     let next = put_word(out, at, b"rest ");
-    digits::put_last_two(out, next, place, len)
+    crate::digits::put_last_two(out, next, place, len)
 }
 
 fn put_refused(out: &mut [u8], at: usize, number: usize, place: usize) -> usize
@@ -40,7 +43,7 @@ fn put_refused(out: &mut [u8], at: usize, number: usize, place: usize) -> usize
     ensures { λ r. ⌜ Puts (now (out .entry)) at (refusedLine number place) r (now (out .exit)) ⌝ }
 {
     let next = put_word(out, at, b"refused ");
-    digits::put_last_two(out, next, number, place)
+    crate::digits::put_last_two(out, next, number, place)
 }
 
 // The lines of the first `n` records, from the start of `out`.
@@ -52,7 +55,7 @@ fn put_records(out: &mut [u8], records: &[u8], n: usize) -> usize
     let mut at = 0;
     let mut k = 0;
     while k < n {
-        at = lines::put_record(out, at, records, k);
+        at = crate::lines::put_record(out, at, records, k);
         k += 1;
     }
     at
@@ -60,7 +63,7 @@ fn put_records(out: &mut [u8], records: &[u8], n: usize) -> usize
 
 // The lines of an answer and the records beside it, for a text of `len` bytes.
 fn put_lines(out: &mut [u8], answer: LexAnswer, records: &[u8], len: usize) -> usize
-    requires { ⌜ Fit answer (now records) len (now out) ⌝ }
+    requires { ⌜ LinesFit answer (now records) len (now out) ⌝ }
     ensures { λ r. ⌜ Puts (now (out .entry)) 0 (linesOf answer (now (records .entry)) len) r (now (out .exit)) ⌝ }
 {
     match answer {

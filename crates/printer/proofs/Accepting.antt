@@ -1,42 +1,41 @@
 -- When the plain printer accepts, and what it then writes. Assumes nothing.
 use mathlib.Core.Path.{_≡_, refl, sym, ap, _∙_}
-use Prim.Native.Nat.{ℕ, suc, _≤_}
 use mathlib.Core.Bool.{Bool, true, false, _||_}
 use mathlib.Core.Option.{Option, none, some}
 use mathlib.Core.List.{List, [], _∷_}
+use Prim.Native.Nat.{ℕ, suc, _≤_}
 use native.Mathlib.Omega.{arith}
 use lib.Dec.{eqb}
 use lib.ListN.{length, take}
 use lib.Seq.{take-append-seam}
 use borrow.Author.Tests.{le-ltb, ltb-false}
+use Rattle.answer.specs.declared.Refusal.{Refusal}
 use Rattle.automaton.specs.Choice.{if, All}
 use Rattle.automaton.specs.Rule.{Rule, matches}
 use Rattle.automaton.proofs.Tests.{clash}
-use Rattle.refusal.specs.declared.Refusal.{Refusal}
-use Rattle.book.specs.Reading.{Reading, accepted, refused, readBook}
-use Rattle.reading.specs.Draft.{tagged}
-use Rattle.reading.specs.Valid.{Distinct}
-use Rattle.cutting.specs.Lexer.{Token, extends, join, Alone, Printable}
-use Rattle.reading.specs.Limits.{maxText, maxTokens}
-use Rattle.records.specs.Records.{recordCount}
-use Rattle.cutting.proofs.First.{nothing}
-use Rattle.writing.specs.declared.PrintAnswer.the-variants as print
-use Rattle.pooled.specs.declared.TokenRecord.{TokenRecord}
-use Rattle.pooled.specs.Tokens.{recordsOf, bytesIn, tokensIn, tokensOf}
-use Rattle.pooled.specs.Faults.{aloneIn, faultOf}
-use Rattle.lists.specs.Checks.{refuse, firstFault, firstExtended}
-use Rattle.printing.specs.Outcome.{PrintOutcome, printAccepted, check, unless, printChecked, printRules}
-use Rattle.printer.specs.Outcome.{printReading, printOutcome}
-use Rattle.pooled.specs.Answers.{InPool}
-use Rattle.pooled.proofs.Alone.{alone-first, first-alone}
-use Rattle.pooled.proofs.Faults.{fault-none, faultless}
-use Rattle.lists.proofs.Passes.{faultless-front}
+use Rattle.book.specs.Draft.{tagged}
+use Rattle.book.specs.Valid.{Distinct}
+use Rattle.book.specs.Limits.{maxText, maxTokens}
+use Rattle.reader.specs.Reading.{Reading, accepted, refused, readBook}
+use Rattle.longest_match.specs.Lexer.{Token, extends, join, Alone, Printable}
+use Rattle.longest_match.proofs.First.{nothing}
+use Rattle.record.specs.Records.{recordCount}
+use Rattle.record.specs.declared.TokenRecord.{TokenRecord}
+use Rattle.record.specs.Tokens.{recordsOf, bytesIn, tokensIn, tokensOf}
+use Rattle.record.specs.Contracts.{InPool}
+use Rattle.token_list.specs.Faults.{aloneIn, faultOf}
+use Rattle.token_list.specs.Checks.{refuse, firstFault, firstExtended}
+use Rattle.token_list.proofs.Alone.{alone-first, first-alone}
+use Rattle.token_list.proofs.Faulting.{fault-none, faultless}
+use Rattle.token_list.proofs.Passes.{faultless-front}
+use Rattle.printer.specs.Outcome.{PrintOutcome, printAccepted, refusedIf, unless, printChecked, printRules, printReading, printOutcome}
+use Rattle.answer.specs.declared.PrintAnswer.the-variants as print
 
 -- ---- an accepted outcome passes each check
 
-check-printed : (t : Bool) (number place : ℕ) (out : List ℕ) (next : PrintOutcome) (n : ℕ) → (check t number place out next) .answer ≡ print.Printed n
-    → (t ≡ false) × (check t number place out next ≡ next)
-unfolding check
+check-printed : (t : Bool) (number place : ℕ) (out : List ℕ) (next : PrintOutcome) (n : ℕ) → (refusedIf t number place out next) .answer ≡ print.Printed n
+    → (t ≡ false) × (refusedIf t number place out next ≡ next)
+unfolding refusedIf
 check-printed true number place out next n e = let z : _≡_ {A = ℕ} 0 1 = cc in absurd (omega arith)
 check-printed false number place out next n e = (refl, refl)
 
@@ -57,7 +56,7 @@ pub record Passes (rules : List Rule) (records pool out : List ℕ) : Type 0 whe
 module _ {rules : List Rule} {records pool out : List ℕ} where
   -- what passes them is accepted
   pub passes-accepts : Passes rules records pool out → printRules rules records pool out ≡ printAccepted (join (tokensOf records pool)) out
-  unfolding printRules printChecked check unless
+  unfolding printRules printChecked refusedIf unless
   passes-accepts p = rw (le-ltb _ _ (p .few), p .faultless, le-ltb _ _ (p .short), p .apart, le-ltb _ _ (p .room))
 
   -- and nothing else

@@ -1,4 +1,7 @@
 -- What the proofs of this crate share, and the laws for the layers above.
+pub mod Rehearsing
+pub mod Finding
+pub mod ByRules
 pub mod Outcomes
 pub mod Accepting
 pub mod ReadBack

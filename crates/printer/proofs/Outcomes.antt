@@ -1,27 +1,27 @@
 -- How the answers of the code come to the outcome of document 01. Assumes nothing.
 use mathlib.Core.Path.{_≡_, refl}
-use Prim.Native.Nat.{ℕ}
 use mathlib.Core.List.{List}
+use Prim.Native.Nat.{ℕ}
+use Rattle.answer.specs.declared.Refusal.{Refusal}
+use Rattle.answer.specs.declared.BookAnswer.{BookAnswer}
+use Rattle.answer.specs.declared.PrintAnswer.{PrintAnswer}
 use Rattle.automaton.specs.Rule.{Rule}
-use Rattle.refusal.specs.declared.Refusal.{Refusal}
-use Rattle.book.specs.declared.BookAnswer.{BookAnswer}
-use Rattle.book.specs.declared.BookAnswer.the-variants as book
-use Rattle.book.specs.Loading.{Loaded}
-use Rattle.cutting.specs.Answers.{Holds}
+use Rattle.reader.specs.Contracts.{Loaded}
+use Rattle.longest_match.specs.Contracts.{Holds}
 use Rattle.lexer.proofs.Outcomes.{loaded-rules, loaded-refused}
-use Rattle.writing.specs.declared.PrintAnswer.{PrintAnswer}
-use Rattle.writing.specs.declared.PrintAnswer.the-variants as print
-use Rattle.printing.specs.Outcome.{printRules, Answered}
-use Rattle.printer.specs.Outcome.{printOutcome}
+use Rattle.printer.specs.Outcome.{printRules, printOutcome}
+use Rattle.printer.specs.Contracts.{PrintAnswered}
+use Rattle.answer.specs.declared.BookAnswer.the-variants as book
+use Rattle.answer.specs.declared.PrintAnswer.the-variants as print
 
 module _ {bytes hs ss es : List ℕ} {b : BookAnswer} {n : ℕ} (l : Loaded bytes b hs ss es) (a : b ≡ book.Accepted n) where
   pub answered-book : (records pool out exit : List ℕ) (r : PrintAnswer)
-      → ((rules : List Rule) → Holds hs ss es n rules → Answered (printRules rules records pool out) r exit)
-      → Answered (printOutcome bytes records pool out) r exit
+      → ((rules : List Rule) → Holds hs ss es n rules → PrintAnswered (printRules rules records pool out) r exit)
+      → PrintAnswered (printOutcome bytes records pool out) r exit
   unfolding printOutcome
   answered-book records pool out exit r h = let k = loaded-rules l a in rw (k .1 .0) (h (k .0) (k .1 .1))
 
 module _ {bytes hs ss es : List ℕ} {b : BookAnswer} {f : Refusal} (l : Loaded bytes b hs ss es) (a : b ≡ book.Refused f) where
-  pub answered-refused : (records pool out : List ℕ) → Answered (printOutcome bytes records pool out) (print.Refused f) out
+  pub answered-refused : (records pool out : List ℕ) → PrintAnswered (printOutcome bytes records pool out) (print.Refused f) out
   unfolding printOutcome
   answered-refused records pool out = rw (loaded-refused l a) (record { answer = refl; out = refl })

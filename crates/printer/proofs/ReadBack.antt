@@ -1,22 +1,22 @@
 -- The records of a list, read back from their bytes. Assumes nothing.
 use mathlib.Core.Path.{_≡_, refl, sym, ap, _∙_}
-use Prim.Native.Nat.{ℕ, zero, suc, _+_, _*_, _/_, _%_, _<_, _≤_}
 use mathlib.Core.Option.{some}
 use mathlib.Core.Bool.{Bool, true, false}
 use mathlib.Core.List.{List, [], _∷_, _++_}
+use Prim.Native.Nat.{ℕ, zero, suc, _+_, _*_, _/_, _%_, _<_, _≤_}
 use native.Mathlib.Omega.{arith}
 use native.Mathlib.Nat.{add-zero, zero-add}
 use lib.ListN.{length, getD, take, drop, length-append}
 use lib.Seq.{getD-take, getD-drop}
 use Rattle.automaton.specs.Choice.{if, All}
 use Rattle.automaton.specs.Rule.{Rule, matches}
-use Rattle.cutting.specs.Lexer.{Token, firstMatch, join}
-use Rattle.reading.specs.Limits.{maxText}
-use Rattle.records.specs.Records.{recordCount, recordOf, recordsAt}
-use Rattle.cutting.proofs.First.{nothing}
-use Rattle.records.proofs.Records.{length-records, tokenAt, placeAt, records-at, token-laid, laid-within, two-value, four-value}
-use Rattle.pooled.specs.Tokens.{twoAt, fourAt, recordAt, recordsFrom, recordsOf, tokenIn, tokensIn, tokensOf}
-use Rattle.pooled.specs.Answers.{InPool}
+use Rattle.book.specs.Limits.{maxText}
+use Rattle.longest_match.specs.Lexer.{Token, firstMatch, join}
+use Rattle.longest_match.proofs.First.{nothing}
+use Rattle.record.specs.Records.{recordCount, recordOf, recordsAt}
+use Rattle.record.proofs.Records.{length-records, tokenAt, placeAt, records-at, token-laid, laid-within, two-value, four-value}
+use Rattle.record.specs.Tokens.{twoAt, fourAt, recordAt, recordsFrom, recordsOf, tokenIn, tokensIn, tokensOf}
+use Rattle.record.specs.Contracts.{InPool}
 
 -- ---- the tokens by their numbers
 

@@ -1,39 +1,36 @@
 -- Demand 3 on the plain printer, of the outcomes of `lex` and `print`. Assumes nothing.
 use mathlib.Core.Path.{_≡_, refl, sym, ap, _∙_, subst}
 use mathlib.Core.Logic.{_↔_}
-use Prim.Native.Nat.{ℕ, zero, suc, _-_, _*_, _<_, _≤_}
 use mathlib.Core.Bool.{Bool, true, false}
 use mathlib.Core.Option.{Option, none, some}
 use mathlib.Core.List.{List, [], _∷_, append-nil}
+use Prim.Native.Nat.{ℕ, zero, suc, _-_, _*_, _<_, _≤_}
 use native.Mathlib.Omega.{arith}
 use lib.Dec.{ltb}
 use lib.ListN.{length, take, drop}
 use lib.Seq.{take-append-seam, take-at}
 use borrow.Author.Tests.{le-ltb, ltb-false}
 use Rattle.automaton.specs.Choice.{if, All}
-use Rattle.automaton.specs.Rule.{Rule, Sound}
-use Rattle.automaton.specs.Tables.{stateCount}
+use Rattle.automaton.specs.Rule.{Rule, Sound, stateCount}
 use Rattle.command.specs.Commands.{byteAt}
-use Rattle.book.specs.Reading.{Reading, accepted, refused, readBook}
-use Rattle.reading.specs.Valid.{ValidRule, Valid}
-use Rattle.book.proofs.Accepted.{accepted-valid}
-use Rattle.lexing.specs.declared.LexAnswer.the-variants as lexed
-use Rattle.cutting.specs.Lexer.{Token, Found, Lexed, firstMatch, choose, proceed, lex, join, Alone, Printable}
-use Rattle.records.specs.Records.{recordsAt, recordCount}
-use Rattle.reading.specs.Limits.{maxText, maxTokens}
-use Rattle.lexing.specs.Outcome.{LexOutcome, lexAccepted, lexRules}
-use Rattle.lexer.specs.Outcome.{lexReading, lexOutcome}
-use Rattle.cutting.proofs.First.{nothing-empty}
-use Rattle.records.proofs.Records.{length-records}
-use Rattle.cutting.proofs.Choosing.{chosen-shorter, choose-some}
-use Rattle.cutting.proofs.Lexing.{lex-unfolds, joins, lex-few, lex-lengths, printed-lexes, lexed-printable, join-injective}
-use Rattle.writing.specs.declared.PrintAnswer.the-variants as print
-use Rattle.pooled.specs.Tokens.{recordsOf, tokensOf}
-use Rattle.printing.specs.Outcome.{PrintOutcome, printAccepted}
-use Rattle.printer.specs.Outcome.{printOutcome}
-use Rattle.pooled.specs.Answers.{InPool}
+use Rattle.book.specs.Valid.{ValidRule, Valid}
+use Rattle.book.specs.Limits.{maxText, maxTokens}
+use Rattle.reader.specs.Reading.{Reading, accepted, refused, readBook}
+use Rattle.reader.proofs.Accepted.{accepted-valid}
+use Rattle.longest_match.specs.Lexer.{Token, Found, Lexed, firstMatch, choose, proceed, lex, join, Alone, Printable}
+use Rattle.longest_match.proofs.First.{nothing-empty}
+use Rattle.longest_match.proofs.Choosing.{chosen-shorter, choose-some}
+use Rattle.longest_match.proofs.Lexing.{lex-unfolds, joins, lex-few, lex-lengths, printed-lexes, lexed-printable, join-injective}
+use Rattle.record.specs.Records.{recordsAt, recordCount}
+use Rattle.record.proofs.Records.{length-records}
+use Rattle.record.specs.Tokens.{recordsOf, tokensOf}
+use Rattle.record.specs.Contracts.{InPool}
+use Rattle.lexer.specs.Outcome.{LexOutcome, lexAccepted, lexRules, lexReading, lexOutcome}
+use Rattle.printer.specs.Outcome.{PrintOutcome, printAccepted, printOutcome}
 use Rattle.printer.proofs.Accepting.{Passes, Accepts, book-accepts, printed-accepts, written-joins, passes-printable, printable-faultless, printable-apart}
 use Rattle.printer.proofs.ReadBack.{Storable, records-say, records-inside, records-count, matched-tag}
+use Rattle.answer.specs.declared.LexAnswer.the-variants as lexed
+use Rattle.answer.specs.declared.PrintAnswer.the-variants as print
 
 -- ---- an accepted book
 

@@ -1,2 +1,3 @@
--- The outcome of printing.
+-- The definitions of this crate.
 pub mod Outcome
+pub mod Contracts

@@ -1,81 +1,81 @@
 -- What the code answers is the outcome. Assumes nothing.
 use mathlib.Core.Path.{_≡_, refl, ap, _∙_, subst}
-use Prim.Native.Nat.{ℕ, _<_, _≤_}
 use mathlib.Core.Bool.{Bool, true, false}
 use mathlib.Core.Option.{Option, none, some}
 use mathlib.Core.List.{List}
+use Prim.Native.Nat.{ℕ, _<_, _≤_}
 use native.Mathlib.Omega.{arith}
 use native.Mathlib.Nat.{zero-add}
 use lib.ListN.{length, take, drop}
 use lib.Seq.{paste, take-length}
 use lib.Dec.{ltb}
 use borrow.Author.Tests.{lt-ltb, le-ltb, ltb-true, ltb-false}
+use Rattle.answer.specs.declared.Refusal.{Refusal}
+use Rattle.answer.specs.declared.BookAnswer.{BookAnswer}
+use Rattle.answer.specs.declared.PrintAnswer.{PrintAnswer}
 use Rattle.automaton.specs.Rule.{Rule}
-use Rattle.refusal.specs.declared.Refusal.{Refusal}
-use Rattle.book.specs.declared.BookAnswer.{BookAnswer}
-use Rattle.book.specs.declared.BookAnswer.the-variants as book
-use Rattle.book.specs.Loading.{Loaded}
-use Rattle.cutting.specs.Answers.{Holds}
-use Rattle.reading.specs.Limits.{maxText}
+use Rattle.book.specs.Limits.{maxText}
+use Rattle.reader.specs.Contracts.{Loaded}
+use Rattle.longest_match.specs.Contracts.{Holds}
+use Rattle.longest_match.specs.Lexer.{Alone}
+use Rattle.record.specs.declared.TokenRecord.{TokenRecord}
+use Rattle.record.specs.Contracts.{InPool}
+use Rattle.record.specs.Tokens.{recordsOf, tokenIn}
 use Rattle.lexer.proofs.Outcomes.{loaded-rules, loaded-refused}
-use Rattle.writing.specs.Writing.{Writes}
-use Rattle.writing.specs.declared.PrintAnswer.{PrintAnswer}
-use Rattle.writing.specs.declared.PrintAnswer.the-variants as print
-use Rattle.pooled.specs.declared.TokenRecord.{TokenRecord}
-use Rattle.printing.specs.Outcome.{check, unless, Answered}
-use Rattle.checks.specs.declared.Checked.the-variants as checked
-use Rattle.placing.specs.declared.Placed.{Placed}
-use Rattle.placing.specs.declared.Placed.the-variants as placed
-use Rattle.checks.specs.Refusals.{separatedRefusal, checkedOf}
-use Rattle.separated.specs.Outcome.{writing, separatedRules, separatedOutcome}
+use Rattle.output.specs.Contracts.{WritesOut, Stands}
+use Rattle.output.specs.declared.Placed.{Placed}
+use Rattle.token_list.proofs.Alone.{alone-first}
+use Rattle.printer.specs.Outcome.{refusedIf, unless}
+use Rattle.printer.specs.Contracts.{PrintAnswered}
 use Rattle.spacing.specs.Separators.{spelled}
-use Rattle.placing.specs.Answers.{Stands}
-use Rattle.spelling.specs.Answers.{Spaceable}
-use Rattle.separated.specs.Answers.{Passed}
-use Rattle.cutting.specs.Lexer.{Alone}
-use Rattle.pooled.specs.Answers.{InPool}
-use Rattle.pooled.specs.Tokens.{recordsOf, tokenIn}
-use Rattle.pooled.proofs.Alone.{alone-first}
+use Rattle.spacing.specs.Contracts.{Spaceable}
+use Rattle.separated.specs.Refusals.{separatedRefusal}
+use Rattle.separated.specs.Contracts.{checkedOf, Passed}
+use Rattle.separated.specs.Outcome.{writing, separatedRules, separatedOutcome}
 use Rattle.separated.specs.Claims.{FitPlain}
 use Rattle.separated.proofs.Sides.{all-map}
 use Rattle.separated.proofs.Unrefused.{Passes, passes}
+use Rattle.answer.specs.declared.BookAnswer.the-variants as book
+use Rattle.answer.specs.declared.PrintAnswer.the-variants as print
+use Rattle.separated.specs.declared.checks.Checked.the-variants as checked
+use Rattle.output.specs.declared.Placed.the-variants as placed
 
 -- ---- what is written
 
 module _ (bytes out : List ℕ) where
-  pub answered-long : maxText < length bytes → {r : PrintAnswer} → r ≡ print.Refused (record { number = 20; place = 0 }) → Answered (writing bytes out) r out
-  unfolding writing check
+  pub answered-long : maxText < length bytes → {r : PrintAnswer} → r ≡ print.Refused (record { number = 20; place = 0 }) → PrintAnswered (writing bytes out) r out
+  unfolding writing refusedIf
   answered-long l a = rw (lt-ltb _ _ l) (record { answer = a; out = refl })
 
   module _ {total : ℕ} (e : total ≡ length bytes) (short : total ≤ maxText) where
-    answered-short : length out < total → {r : PrintAnswer} → r ≡ print.Refused (record { number = 22; place = total }) → Answered (writing bytes out) r out
-    unfolding writing check
+    answered-short : length out < total → {r : PrintAnswer} → r ≡ print.Refused (record { number = 22; place = total }) → PrintAnswered (writing bytes out) r out
+    unfolding writing refusedIf
     answered-short l a = rw (← e, le-ltb _ _ short, lt-ltb _ _ l) (record { answer = a; out = refl })
 
-    answered-printed : total ≤ length out → {exit : List ℕ} → exit ≡ paste out 0 bytes total → Answered (writing bytes out) (print.Printed total) exit
-    unfolding writing check
+    answered-printed : total ≤ length out → {exit : List ℕ} → exit ≡ paste out 0 bytes total → PrintAnswered (writing bytes out) (print.Printed total) exit
+    unfolding writing refusedIf
     answered-printed l p =
         let t : take total bytes ≡ bytes = rw e (take-length bytes) in
         rw (← e, le-ltb _ _ short, le-ltb _ _ l) (record { answer = refl; out = p ∙ rw (t, zero-add) })
 
 -- what `write` makes of the bytes of a scratch from `at` on
 pub answered-written : (scratch : List ℕ) (at : ℕ) (out : List ℕ) {total : ℕ} {r : PrintAnswer} {exit : List ℕ} → total ≡ length (drop at scratch) → total ≤ maxText
-    → Writes scratch at total out r exit → Answered (writing (drop at scratch) out) r exit
+    → WritesOut scratch at total out r exit → PrintAnswered (writing (drop at scratch) out) r exit
 answered-written scratch at out {total} {r} {exit} e short h = go (ltb (length out) total) refl
   where
-    go : (t : Bool) → ltb (length out) total ≡ t → Answered (writing (drop at scratch) out) r exit
+    go : (t : Bool) → ltb (length out) total ≡ t → PrintAnswered (writing (drop at scratch) out) r exit
     go true l = let g = h .lacks (ltb-true _ _ l) in rw (g .1) (answered-short (drop at scratch) out e short (ltb-true _ _ l) (g .0))
     go false l = let g = h .prints (ltb-false _ _ l) in rw (g .0) (answered-printed (drop at scratch) out e short (ltb-false _ _ l) (g .1))
 
 -- what stands at the end of a scratch of that size
 module _ (scratch : List ℕ) (size : length scratch ≡ maxText) where
   pub answered-full : {p : Placed} (bytes out : List ℕ) → Stands p bytes scratch → p ≡ placed.Full
-      → {r : PrintAnswer} → r ≡ print.Refused (record { number = 20; place = 0 }) → Answered (writing bytes out) r out
+      → {r : PrintAnswer} → r ≡ print.Refused (record { number = 20; place = 0 }) → PrintAnswered (writing bytes out) r out
   answered-full bytes out s e a = let l = s .full e in answered-long bytes out (omega arith) a
 
   pub answered-at : {p : Placed} {start : ℕ} (bytes out : List ℕ) {exit : List ℕ} → Stands p bytes scratch → p ≡ placed.At start
-      → {r : PrintAnswer} → Answered (writing (drop start scratch) out) r exit → Answered (writing bytes out) r exit
-  answered-at bytes out {exit} s e {r} a = subst (λ (x : List ℕ). Answered (writing x out) r exit) (s .at _ e .laid) a
+      → {r : PrintAnswer} → PrintAnswered (writing (drop start scratch) out) r exit → PrintAnswered (writing bytes out) r exit
+  answered-at bytes out {exit} s e {r} a = subst (λ (x : List ℕ). PrintAnswered (writing x out) r exit) (s .at _ e .laid) a
 
 -- ---- by rules
 
@@ -90,17 +90,17 @@ module _ (rules : List Rule) (sep : TokenRecord) (mode : ℕ) (records pool : Li
 
   module _ (out : List ℕ) where
     pub answered-fault : {f : Refusal} → checked.Refused f ≡ checkedOf (separatedRefusal rules sep mode records pool)
-        → Answered (separatedRules rules sep mode records pool out) (print.Refused f) out
+        → PrintAnswered (separatedRules rules sep mode records pool out) (print.Refused f) out
     unfolding separatedRules unless
     answered-fault {f} e = go (separatedRefusal rules sep mode records pool) refl e
       where
         go : (o : Option Refusal) → separatedRefusal rules sep mode records pool ≡ o → checked.Refused f ≡ checkedOf o
-            → Answered (separatedRules rules sep mode records pool out) (print.Refused f) out
+            → PrintAnswered (separatedRules rules sep mode records pool out) (print.Refused f) out
         go none q z = let y : _≡_ {A = ℕ} 0 1 = cc in absurd (omega arith)
         go (some g) q z = let y : f ≡ g = cc in rw q (record { answer = ap print.Refused y; out = refl })
 
     pub answered-passed : {r : PrintAnswer} {exit : List ℕ} → checked.Passed ≡ checkedOf (separatedRefusal rules sep mode records pool)
-        → Answered (writing (spelled rules sep mode records pool) out) r exit → Answered (separatedRules rules sep mode records pool out) r exit
+        → PrintAnswered (writing (spelled rules sep mode records pool) out) r exit → PrintAnswered (separatedRules rules sep mode records pool out) r exit
     unfolding separatedRules unless
     answered-passed e a = rw (unrefused e) a
 
@@ -108,13 +108,13 @@ module _ (rules : List Rule) (sep : TokenRecord) (mode : ℕ) (records pool : Li
 
 module _ {bytes hs ss es : List ℕ} {b : BookAnswer} {n : ℕ} (l : Loaded bytes b hs ss es) (a : b ≡ book.Accepted n) where
   pub answered-book : (sep : TokenRecord) (mode : ℕ) (records pool out exit : List ℕ) (r : PrintAnswer)
-      → ((rules : List Rule) → Holds hs ss es n rules → Answered (separatedRules rules sep mode records pool out) r exit)
-      → Answered (separatedOutcome bytes sep mode records pool out) r exit
+      → ((rules : List Rule) → Holds hs ss es n rules → PrintAnswered (separatedRules rules sep mode records pool out) r exit)
+      → PrintAnswered (separatedOutcome bytes sep mode records pool out) r exit
   unfolding separatedOutcome
   answered-book sep mode records pool out exit r h = let k = loaded-rules l a in rw (k .1 .0) (h (k .0) (k .1 .1))
 
 module _ {bytes hs ss es : List ℕ} {b : BookAnswer} {f : Refusal} (l : Loaded bytes b hs ss es) (a : b ≡ book.Refused f) where
-  pub answered-refused : (sep : TokenRecord) (mode : ℕ) (records pool out : List ℕ) → Answered (separatedOutcome bytes sep mode records pool out) (print.Refused f) out
+  pub answered-refused : (sep : TokenRecord) (mode : ℕ) (records pool out : List ℕ) → PrintAnswered (separatedOutcome bytes sep mode records pool out) (print.Refused f) out
   unfolding separatedOutcome
   answered-refused sep mode records pool out = rw (loaded-refused l a) (record { answer = refl; out = refl })
 

@@ -1,25 +1,25 @@
 -- The claims of `specs/Claims.antt`, proved. Assumes nothing.
 use mathlib.Core.Path.{_≡_, sym, ap, _∙_}
-use Prim.Native.Nat.{ℕ}
 use mathlib.Core.List.{List, [], _∷_}
+use Prim.Native.Nat.{ℕ}
 use lib.ListN.{length, drop}
 use lib.Seq.{take-append-seam}
 use Rattle.automaton.specs.Choice.{All}
 use Rattle.automaton.specs.Rule.{Rule}
-use Rattle.reading.specs.Valid.{ValidRules}
-use Rattle.book.proofs.Accepted.{accepted-valid}
-use Rattle.cutting.specs.Lexer.{Token, Lexed, join}
-use Rattle.writing.specs.declared.PrintAnswer.the-variants as answer
-use Rattle.pooled.specs.declared.TokenRecord.{TokenRecord}
-use Rattle.pooled.specs.Tokens.{recordsOf, tokenIn, tokensIn, tokensOf}
-use Rattle.printing.specs.Outcome.{PrintOutcome}
-use Rattle.pooled.proofs.Alone.{alone-first}
+use Rattle.book.specs.Valid.{ValidRules}
+use Rattle.reader.proofs.Accepted.{accepted-valid}
+use Rattle.longest_match.specs.Lexer.{Token, Lexed, join}
+use Rattle.record.specs.declared.TokenRecord.{TokenRecord}
+use Rattle.record.specs.Tokens.{recordsOf, tokenIn, tokensIn, tokensOf}
+use Rattle.token_list.proofs.Alone.{alone-first}
+use Rattle.printer.specs.Outcome.{PrintOutcome}
 use Rattle.spacing.specs.Separators.{separated, spelled}
 use Rattle.separated.specs.Outcome.{separatedRules, separatedOutcome}
 use Rattle.separated.specs.Claims.{Accepts, FitPlain, Unrefused, AcceptsUnrefused, AcceptsNoOther, WritesApart, CutsBack}
 use Rattle.separated.proofs.Sides.{Disjoint}
 use Rattle.separated.proofs.RoundTrip.{Plain, Separator, separated-lexes, separated-back, separated-injective}
 use Rattle.separated.proofs.Unrefused.{of-apart, unrefused-accepted, accepted-unrefused}
+use Rattle.answer.specs.declared.PrintAnswer.the-variants as answer
 
 outcome-rules : (book : List ℕ) (rules : List Rule) → Accepts book rules → (sep : TokenRecord) (mode : ℕ) (records pool out : List ℕ)
     → separatedOutcome book sep mode records pool out ≡ separatedRules rules sep mode records pool out

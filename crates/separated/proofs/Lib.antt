@@ -1,4 +1,5 @@
 -- What the proofs of this crate share, and the laws for the layers above.
+pub mod Checking
 pub mod Sides
 pub mod RoundTrip
 pub mod Unrefused

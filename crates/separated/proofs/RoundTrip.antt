@@ -1,19 +1,19 @@
 -- Tokens printed with separators are read back. Assumes nothing.
 use mathlib.Core.Path.{_≡_, refl, sym, ap, _∙_}
-use Prim.Native.Nat.{ℕ}
 use mathlib.Core.Bool.{Bool, true, false, _||_}
 use mathlib.Core.Option.{some}
 use mathlib.Core.List.{List, [], _∷_, _++_}
+use Prim.Native.Nat.{ℕ}
 use lib.Dec.{eqb}
 use Rattle.automaton.specs.Choice.{All}
 use Rattle.automaton.specs.Rule.{Rule}
 use Rattle.automaton.proofs.Tests.{clash, or-false}
-use Rattle.reading.specs.Valid.{ValidRules}
-use Rattle.cutting.specs.Lexer.{Token, firstMatch, extends, lex, join, Alone, Printable}
-use Rattle.cutting.proofs.First.{nothing}
-use Rattle.cutting.proofs.Choosing.{extends-true}
-use Rattle.cutting.proofs.Lexing.{printed-lexes}
-use Rattle.used.specs.Kinds.{separates}
+use Rattle.book.specs.Valid.{ValidRules}
+use Rattle.longest_match.specs.Lexer.{Token, firstMatch, extends, lex, join, Alone, Printable}
+use Rattle.longest_match.proofs.First.{nothing}
+use Rattle.longest_match.proofs.Choosing.{extends-true}
+use Rattle.longest_match.proofs.Lexing.{printed-lexes}
+use Rattle.used_bytes.specs.Kinds.{separates}
 use Rattle.spacing.specs.Separators.{dropSeparators, meaning, follows, put, separated}
 use Rattle.separated.proofs.Sides.{all-right, Side, Disjoint, side-unique, token-side, match-side, valid-empty}
 

@@ -1,23 +1,22 @@
 -- Where no byte is used by both kinds of rules, each byte of a token is on the side of the token's kind. Assumes nothing.
 use mathlib.Core.Path.{_≡_, refl, sym, subst}
-use Prim.Native.Nat.{ℕ, _≤_, _<_}
 use mathlib.Core.Bool.{Bool, true, false, _&&_}
 use mathlib.Core.Option.{none, some}
 use mathlib.Core.List.{List, [], _∷_, _++_}
+use Prim.Native.Nat.{ℕ, _≤_, _<_}
 use native.Mathlib.Omega.{arith}
 use lib.Dec.{leb, eqb}
 use borrow.Author.Tests.{eqb-true, eqb-false, eq-eqb, ne-eqb, leb-true}
 use Rattle.automaton.specs.Choice.{if, All, any, among}
-use Rattle.automaton.specs.Rule.{Transition, Rule, covers, target, step, walk, matches, used, Ranged, Sound}
-use Rattle.automaton.specs.Tables.{stateCount}
+use Rattle.automaton.specs.Rule.{Transition, Rule, covers, target, step, walk, matches, used, Ranged, Sound, stateCount}
 use Rattle.automaton.proofs.Tests.{clash, or-none, or-true, and-true}
 use Rattle.automaton.proofs.Walks.{target-stays}
 use Rattle.automaton.proofs.Used.{uses-all}
-use Rattle.reading.specs.Valid.{ValidRule, Distinct, ValidRules}
-use Rattle.cutting.specs.Lexer.{Token, isSome, firstMatch, Alone}
-use Rattle.cutting.proofs.First.{some-of, Earliest, earliest, nothing-empty}
-use Rattle.used.specs.Kinds.{plainKind, separatorKind, separates}
-use Rattle.used.specs.Bytes.{usedByKind, shared}
+use Rattle.book.specs.Valid.{ValidRule, Distinct, ValidRules}
+use Rattle.longest_match.specs.Lexer.{Token, isSome, firstMatch, Alone}
+use Rattle.longest_match.proofs.First.{some-of, Earliest, earliest, nothing-empty}
+use Rattle.used_bytes.specs.Kinds.{plainKind, separatorKind, separates}
+use Rattle.used_bytes.specs.Bytes.{usedByKind, shared}
 
 -- ---- lists
 

@@ -1,36 +1,35 @@
 -- The outcome is an acceptance exactly where no refusal applies. Assumes nothing.
 use mathlib.Core.Path.{_≡_, refl, ap}
-use Prim.Native.Nat.{ℕ, zero, suc, _+_, _≤_, _<_}
 use mathlib.Core.Bool.{Bool, true, false, not, _&&_}
 use mathlib.Core.Option.{Option, none, some}
 use mathlib.Core.List.{List, [], _∷_}
+use Prim.Native.Nat.{ℕ, zero, suc, _+_, _≤_, _<_}
 use native.Mathlib.Omega.{arith}
 use lib.Dec.{ltb, eqb}
 use lib.ListN.{length}
 use borrow.Author.Tests.{le-ltb, ltb-false, eqb-true, eqb-false, eq-eqb}
+use Rattle.answer.specs.declared.Refusal.{Refusal}
 use Rattle.automaton.specs.Choice.{if, All}
 use Rattle.automaton.specs.Rule.{Rule}
 use Rattle.automaton.proofs.Tests.{clash}
-use Rattle.refusal.specs.declared.Refusal.{Refusal}
-use Rattle.cutting.specs.Lexer.{or}
-use Rattle.reading.specs.Limits.{maxText, maxTokens}
-use Rattle.records.specs.Records.{recordCount}
-use Rattle.cutting.proofs.First.{nothing}
-use Rattle.writing.specs.declared.PrintAnswer.the-variants as answer
-use Rattle.pooled.specs.declared.TokenRecord.{TokenRecord}
-use Rattle.pooled.specs.Tokens.{recordsOf}
-use Rattle.pooled.specs.Faults.{faultOf}
-use Rattle.lists.specs.Checks.{refuse, firstFault}
-use Rattle.printing.specs.Outcome.{PrintOutcome, printAccepted, check, unless}
-use Rattle.pooled.proofs.Faults.{faultless, fault-none}
-use Rattle.used.specs.Kinds.{plainKind, separatorKind, separates}
-use Rattle.byteset.specs.Marks.{lowestFrom}
-use Rattle.used.specs.Bytes.{usedByKind, shared, sharedByte}
-use Rattle.checks.specs.Refusals.{orElse, separatorFault, plainFault, sharing, listRefusal, separatedRefusal}
-use Rattle.separated.specs.Outcome.{writing, separatedRules}
+use Rattle.book.specs.Limits.{maxText, maxTokens}
+use Rattle.longest_match.specs.Lexer.{or}
+use Rattle.longest_match.proofs.First.{nothing}
+use Rattle.record.specs.Records.{recordCount}
+use Rattle.record.specs.declared.TokenRecord.{TokenRecord}
+use Rattle.record.specs.Tokens.{recordsOf}
+use Rattle.token_list.specs.Faults.{faultOf}
+use Rattle.token_list.specs.Checks.{refuse, firstFault}
+use Rattle.token_list.proofs.Faulting.{faultless, fault-none}
+use Rattle.printer.specs.Outcome.{PrintOutcome, printAccepted, refusedIf, unless}
+use Rattle.used_bytes.specs.Kinds.{plainKind, separatorKind, separates}
+use Rattle.used_bytes.specs.Bytes.{lowestFrom, usedByKind, shared, sharedByte}
 use Rattle.spacing.specs.Separators.{spelled}
+use Rattle.separated.specs.Refusals.{orElse, separatorFault, plainFault, sharing, listRefusal, separatedRefusal}
+use Rattle.separated.specs.Outcome.{writing, separatedRules}
 use Rattle.separated.specs.Claims.{Fit, FitSeparator, FitPlain, Unrefused}
 use Rattle.separated.proofs.Sides.{all-map}
+use Rattle.answer.specs.declared.PrintAnswer.the-variants as answer
 
 -- ---- the lowest byte
 
@@ -187,9 +186,9 @@ module _ (rules : List Rule) (sep : TokenRecord) (mode : ℕ) (records pool : Li
       )
       (none-faults (plainFault rules pool) (recordsOf records) 0 (all-map (FitPlain rules pool) (λ (r : TokenRecord). plainFault rules pool r ≡ 0) (fit-plain rules pool) (recordsOf records) (p .tokens)))
 
-check-printed : (t : Bool) (number place : ℕ) (out : List ℕ) (next : PrintOutcome) (n : ℕ) → (check t number place out next) .answer ≡ answer.Printed n
+check-printed : (t : Bool) (number place : ℕ) (out : List ℕ) (next : PrintOutcome) (n : ℕ) → (refusedIf t number place out next) .answer ≡ answer.Printed n
     → (t ≡ false) × (next .answer ≡ answer.Printed n)
-unfolding check
+unfolding refusedIf
 check-printed true number place out next n e = let z : _≡_ {A = ℕ} 0 1 = cc in absurd (omega arith)
 check-printed false number place out next n e = (refl, e)
 
@@ -203,7 +202,7 @@ module _ (rules : List Rule) (sep : TokenRecord) (mode : ℕ) (records pool out 
   -- a call that meets no refusal is accepted
   pub unrefused-accepted : Unrefused rules sep mode records pool out
       → separatedRules rules sep mode records pool out ≡ printAccepted (spelled rules sep mode records pool) out
-  unfolding separatedRules writing check unless
+  unfolding separatedRules writing refusedIf unless
   unrefused-accepted u =
       let p : Passes rules sep mode records pool =
       record { unshared = λ b l. of-apart rules b (u .not-23 b l); known-mode = u .not-24; separator = u .separator; few = u .not-16; tokens = u .tokens } in

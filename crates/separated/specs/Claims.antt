@@ -1,27 +1,27 @@
 -- The sentences of demand 3 on the spacing writer, as types. `proofs/Claims.antt` proves each.
 use mathlib.Core.Path.{_≡_}
 use mathlib.Core.Logic.{_↔_}
-use Prim.Native.Nat.{ℕ, _+_, _≤_, _<_}
 use mathlib.Core.Bool.{true, false}
 use mathlib.Core.List.{List, []}
+use Prim.Native.Nat.{ℕ, _+_, _≤_, _<_}
 use lib.ListN.{length, take}
 use Rattle.automaton.specs.Choice.{All}
 use Rattle.automaton.specs.Rule.{Rule}
 use Rattle.command.specs.Commands.{byteAt}
-use Rattle.book.specs.Reading.{accepted, readBook}
-use Rattle.reading.specs.Draft.{tagged}
-use Rattle.cutting.specs.Lexer.{lex}
-use Rattle.reading.specs.Limits.{maxText, maxTokens}
-use Rattle.records.specs.Records.{recordCount}
-use Rattle.writing.specs.declared.PrintAnswer.the-variants as answer
-use Rattle.pooled.specs.declared.TokenRecord.{TokenRecord}
-use Rattle.pooled.specs.Tokens.{recordsOf, bytesIn, tokenIn, tokensOf}
-use Rattle.pooled.specs.Faults.{aloneIn}
-use Rattle.printing.specs.Outcome.{PrintOutcome, printAccepted}
-use Rattle.used.specs.Kinds.{plainKind, separatorKind, separates}
-use Rattle.used.specs.Bytes.{usedByKind}
+use Rattle.book.specs.Draft.{tagged}
+use Rattle.book.specs.Limits.{maxText, maxTokens}
+use Rattle.reader.specs.Reading.{accepted, readBook}
+use Rattle.longest_match.specs.Lexer.{lex}
+use Rattle.record.specs.Records.{recordCount}
+use Rattle.record.specs.declared.TokenRecord.{TokenRecord}
+use Rattle.record.specs.Tokens.{recordsOf, bytesIn, tokenIn, tokensOf}
+use Rattle.token_list.specs.Faults.{aloneIn}
+use Rattle.printer.specs.Outcome.{PrintOutcome, printAccepted}
+use Rattle.used_bytes.specs.Kinds.{plainKind, separatorKind, separates}
+use Rattle.used_bytes.specs.Bytes.{usedByKind}
 use Rattle.spacing.specs.Separators.{dropSeparators, spelled}
 use Rattle.separated.specs.Outcome.{separatedOutcome}
+use Rattle.answer.specs.declared.PrintAnswer.the-variants as answer
 
 -- an accepted book; a lent book is a run of bytes
 pub record Accepts (book : List ℕ) (rules : List Rule) : Type 0 where

@@ -1,4 +1,5 @@
--- The outcome of printing with separators, and the sentences of demand 3 about it.
+-- The definitions of this crate.
+pub mod Refusals
 pub mod Outcome
-pub mod Answers
 pub mod Claims
+pub mod Contracts

@@ -1,23 +1,25 @@
 // Printing a list of plain tokens with separators between them, the paper's spacing writing. Tokens and separators are put together in
 // a scratch of the call's own, so that the output stands as it was where the list is refused.
-use book::BookAnswer;
-use checks::Checked;
-use placing::Placed;
-use pooled::TokenRecord;
-use reading::Book;
-use refusal::Refusal;
-use writing::PrintAnswer;
+pub mod checks;
+
+use answer::BookAnswer;
+use answer::PrintAnswer;
+use answer::Refusal;
+use book::Book;
+use crate::checks::Checked;
+use output::Placed;
+use record::TokenRecord;
 ghost use mathlib.Core.Path.{_≡_};
 ghost use mathlib.Core.List.{List};
 ghost use Prim.Native.Nat.{_≤_};
 ghost use lib.ListN.{length, drop};
 ghost use Rattle.automaton.specs.Rule.{Rule};
-ghost use Rattle.reading.specs.Limits.{maxText};
-ghost use Rattle.cutting.specs.Answers.{Holds, Held};
-ghost use Rattle.printing.specs.Outcome.{Answered};
-ghost use Rattle.separated.specs.Outcome.{writing, separatedRules, separatedOutcome};
+ghost use Rattle.book.specs.Limits.{maxText};
+ghost use Rattle.longest_match.specs.Contracts.{Holds, Held};
+ghost use Rattle.printer.specs.Contracts.{PrintAnswered};
 ghost use Rattle.spacing.specs.Separators.{spelled};
-ghost use Rattle.separated.specs.Answers.{Passed};
+ghost use Rattle.separated.specs.Outcome.{writing, separatedRules, separatedOutcome};
+ghost use Rattle.separated.specs.Contracts.{Passed};
 
 // Prints the tokens that `records` say with `pool`, by the rules of a book, with the separator token between neighbours: in mode 1, and
 // in mode 0, between all, in mode 2 where a token would be read on. The answer is the number of bytes, which stand at the start of
@@ -37,7 +39,7 @@ pub fn print_separated(
     let mut states = [0u16; Book::CELLS];
     let mut edges = [0u64; Book::EDGES];
     let mut scratch = [0u8; Book::TEXT];
-    match book::load_arrays(book, &mut headers, &mut states, &mut edges) {
+    match reader::load_arrays(book, &mut headers, &mut states, &mut edges) {
         BookAnswer::Accepted(rules) => print_arrays(
             &headers,
             &states,
@@ -69,7 +71,7 @@ fn print_arrays(
     requires { ⌜ Held (now headers) (now states) (now edges) rules ⌝ }
     requires { ⌜ length (now scratch) ≡ maxText ⌝ }
     ensures { λ r. ⌜ ((rs : List Rule) → Holds (now (headers .entry)) (now (states .entry)) (now (edges .entry)) rules rs
-        → Answered (separatedRules rs separator mode (now (records .entry)) (now (pool .entry)) (now (out .entry))) r (now (out .exit))) ⌝ }
+        → PrintAnswered (separatedRules rs separator mode (now (records .entry)) (now (pool .entry)) (now (out .entry))) r (now (out .exit))) ⌝ }
 {
     print_rules(
         headers,
@@ -101,9 +103,9 @@ pub fn print_rules(
     requires { ⌜ Held (now headers) (now states) (now edges) rules ⌝ }
     requires { ⌜ length (now scratch) ≡ maxText ⌝ }
     ensures { λ r. ⌜ ((rs : List Rule) → Holds (now (headers .entry)) (now (states .entry)) (now (edges .entry)) rules rs
-        → Answered (separatedRules rs separator mode (now (records .entry)) (now (pool .entry)) (now (out .entry))) r (now (out .exit))) ⌝ }
+        → PrintAnswered (separatedRules rs separator mode (now (records .entry)) (now (pool .entry)) (now (out .entry))) r (now (out .exit))) ⌝ }
 {
-    match checks::check_call(
+    match crate::checks::check_call(
         headers,
         states,
         edges,
@@ -145,9 +147,9 @@ fn print_passed(
     requires { ⌜ Passed (now headers) (now states) (now edges) rules separator mode (now records) (now pool) ⌝ }
     requires { ⌜ length (now scratch) ≡ maxText ⌝ }
     ensures { λ r. ⌜ ((rs : List Rule) → Holds (now (headers .entry)) (now (states .entry)) (now (edges .entry)) rules rs
-        → Answered (writing (spelled rs separator mode (now (records .entry)) (now (pool .entry))) (now (out .entry))) r (now (out .exit))) ⌝ }
+        → PrintAnswered (writing (spelled rs separator mode (now (records .entry)) (now (pool .entry))) (now (out .entry))) r (now (out .exit))) ⌝ }
 {
-    match spelling::put_list(
+    match spacing::spelling::put_list(
         headers,
         states,
         edges,
@@ -159,7 +161,7 @@ fn print_passed(
         scratch,
     ) {
         Placed::At(at) => write_from(scratch, at, out),
-        Placed::Full => writing::refused(Refusal::OUTPUT_TOO_LONG, 0),
+        Placed::Full => output::refused(Refusal::OUTPUT_TOO_LONG, 0),
     }
 }
 
@@ -167,7 +169,7 @@ fn print_passed(
 fn write_from(scratch: &[u8], at: usize, out: &mut [u8]) -> PrintAnswer
     requires { ⌜ length (now scratch) ≡ maxText ⌝ }
     requires { ⌜ at ≤ length (now scratch) ⌝ }
-    ensures { λ r. ⌜ Answered (writing (drop at (now (scratch .entry))) (now (out .entry))) r (now (out .exit)) ⌝ }
+    ensures { λ r. ⌜ PrintAnswered (writing (drop at (now (scratch .entry))) (now (out .entry))) r (now (out .exit)) ⌝ }
 {
-    writing::write(scratch, at, scratch.len() - at, out)
+    output::write(scratch, at, scratch.len() - at, out)
 }

@@ -1,17 +1,17 @@
 -- Whether a separator follows a token. Assumes nothing.
 use mathlib.Core.Path.{_≡_, refl, sym, _∙_, subst}
-use Prim.Native.Nat.{ℕ, zero, suc}
 use mathlib.Core.Bool.{Bool, true, false}
 use mathlib.Core.Option.{none}
 use mathlib.Core.List.{List, [], _∷_, _++_}
+use Prim.Native.Nat.{ℕ, zero, suc}
 use borrow.Author.Tests.{eq-eqb, ne-eqb}
 use Rattle.automaton.specs.Rule.{Rule}
 use Rattle.automaton.proofs.Tests.{clash}
-use Rattle.cutting.specs.Lexer.{Token, firstMatch, extends, join}
-use Rattle.cutting.specs.Answers.{Chooses}
-use Rattle.lists.proofs.Extended.{read-no-more, read-on}
+use Rattle.longest_match.specs.Lexer.{Token, firstMatch, extends, join}
+use Rattle.longest_match.specs.Contracts.{Chooses}
+use Rattle.token_list.proofs.Extended.{read-no-more, read-on}
 use Rattle.spacing.specs.Separators.{meaning, follows}
-use Rattle.spacing.specs.Answers.{isLast, Ahead}
+use Rattle.spacing.specs.Contracts.{isLast, Ahead}
 
 -- ---- the mode
 

@@ -1,21 +1,21 @@
 -- The tokens of a list with their separators, from a record on. Assumes nothing.
 use mathlib.Core.Path.{_≡_, refl}
-use Prim.Native.Nat.{ℕ, zero, suc, _+_, _<_, _≤_}
 use mathlib.Core.Bool.{Bool, true, false}
 use mathlib.Core.List.{List, _∷_}
+use Prim.Native.Nat.{ℕ, zero, suc, _+_, _<_, _≤_}
 use native.Mathlib.Omega.{arith}
 use native.Mathlib.Numerals.{add-one}
 use lib.Dec.{eqb}
 use lib.ListN.{length, length-append}
 use borrow.Author.Tests.{eqb-true, eqb-false}
 use Rattle.automaton.specs.Rule.{Rule}
-use Rattle.cutting.specs.Lexer.{Token, join}
-use Rattle.records.specs.Records.{recordCount}
-use Rattle.pooled.specs.declared.TokenRecord.{TokenRecord}
-use Rattle.pooled.specs.Tokens.{recordAt, tokenIn, tokensIn}
-use Rattle.lists.proofs.Passes.{left, left-start, left-next, left-end}
+use Rattle.longest_match.specs.Lexer.{Token, join}
+use Rattle.record.specs.Records.{recordCount}
+use Rattle.record.specs.declared.TokenRecord.{TokenRecord}
+use Rattle.record.specs.Tokens.{recordAt, tokenIn, tokensIn}
+use Rattle.token_list.proofs.Passes.{left, left-start, left-next, left-end}
 use Rattle.spacing.specs.Separators.{follows, put, separated, spelled}
-use Rattle.spacing.specs.Answers.{isLast}
+use Rattle.spacing.specs.Contracts.{isLast}
 
 module _ (rules : List Rule) (sep : TokenRecord) (mode : ℕ) (records pool : List ℕ) where
   -- the tokens from number k on, with their separators

@@ -1,3 +1,3 @@
--- Where separators are put, and what the code asks and answers.
+-- The definitions of this crate.
 pub mod Separators
-pub mod Answers
+pub mod Contracts

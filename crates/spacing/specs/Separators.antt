@@ -1,14 +1,14 @@
 -- Where separators are put between tokens.
-use Prim.Native.Nat.{ℕ, zero, suc}
 use mathlib.Core.Bool.{Bool, true, false, _||_}
 use mathlib.Core.List.{List, [], _∷_}
+use Prim.Native.Nat.{ℕ, zero, suc}
 use lib.Dec.{eqb}
 use Rattle.automaton.specs.Choice.{if}
 use Rattle.automaton.specs.Rule.{Rule}
-use Rattle.cutting.specs.Lexer.{Token, join, extends}
-use Rattle.used.specs.Kinds.{separates}
-use Rattle.pooled.specs.declared.TokenRecord.{TokenRecord}
-use Rattle.pooled.specs.Tokens.{tokenIn, tokensOf}
+use Rattle.longest_match.specs.Lexer.{Token, join, extends}
+use Rattle.record.specs.declared.TokenRecord.{TokenRecord}
+use Rattle.record.specs.Tokens.{tokenIn, tokensOf}
+use Rattle.used_bytes.specs.Kinds.{separates}
 
 -- "Dropping separators leaves out each token whose tag belongs to a rule of separator kind"
 unfoldable pub dropSeparators : List Rule → List Token → List Token

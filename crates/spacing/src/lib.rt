@@ -1,13 +1,15 @@
 // Where separators are put: whether one follows a token.
+pub mod spelling;
+
 ghost use mathlib.Core.Path.{_≡_};
 ghost use mathlib.Core.List.{List};
 ghost use Prim.Native.Nat.{_≤_};
 ghost use lib.ListN.{length, drop};
 ghost use Rattle.automaton.specs.Rule.{Rule};
-ghost use Rattle.cutting.specs.Lexer.{Token};
-ghost use Rattle.cutting.specs.Answers.{Holds, Held};
+ghost use Rattle.longest_match.specs.Lexer.{Token};
+ghost use Rattle.longest_match.specs.Contracts.{Holds, Held};
 ghost use Rattle.spacing.specs.Separators.{meaning, follows};
-ghost use Rattle.spacing.specs.Answers.{Ahead};
+ghost use Rattle.spacing.specs.Contracts.{Ahead};
 
 // Mode 0 is mode 1.
 fn meaning_of(mode: u32) -> u32
@@ -39,7 +41,7 @@ pub fn is_due(
     if meaning_of(mode) == 1 {
         return true;
     }
-    let chosen = cutting::choose_at(headers, states, edges, rules, text, start);
+    let chosen = longest_match::choose_at(headers, states, edges, rules, text, start);
     if chosen.len != len {
         return true;
     }

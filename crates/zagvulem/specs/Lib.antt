@@ -1,2 +1,3 @@
--- What the C interface is given.
+-- The definitions of this crate.
+pub mod Words
 pub mod Separator

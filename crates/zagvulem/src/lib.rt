@@ -1,13 +1,15 @@
 // The library as C calls it: numbers and byte slices, answers in 64 bits. include/zagvulem.h declares these functions.
-use book::BookAnswer;
-use pooled::TokenRecord;
+pub mod words;
+
+use answer::BookAnswer;
+use record::TokenRecord;
 ghost use mathlib.Core.Path.{_≡_};
-ghost use Rattle.book.specs.Reading.{readBook, answer};
+ghost use Rattle.reader.specs.Reading.{readBook, answer};
 ghost use Rattle.lexer.specs.Outcome.{lexOutcome};
-ghost use Rattle.tables.specs.Book.{builtinBytes};
+ghost use Rattle.builtin.specs.Book.{builtinBytes};
 ghost use Rattle.printer.specs.Outcome.{printOutcome};
 ghost use Rattle.separated.specs.Outcome.{separatedOutcome};
-ghost use Rattle.answers.specs.Words.{bookWord, lexWord, printWord};
+ghost use Rattle.zagvulem.specs.Words.{bookWord, lexWord, printWord};
 ghost use Rattle.zagvulem.specs.Separator.{separator};
 
 // Reads a book: the number of its rules and 0, or the refusal.
@@ -15,9 +17,9 @@ ghost use Rattle.zagvulem.specs.Separator.{separator};
 pub extern "C" fn zgv_read_book(book: &[u8]) -> u64
     ensures { λ r. ⌜ r ≡ bookWord (answer (readBook (now (book .entry)))) ⌝ }
 {
-    match book::read(book) {
-        BookAnswer::Accepted(rules) => answers::accepted(rules, 0),
-        BookAnswer::Refused(refusal) => answers::refused(refusal),
+    match reader::read(book) {
+        BookAnswer::Accepted(rules) => crate::words::accepted(rules, 0),
+        BookAnswer::Refused(refusal) => crate::words::refused(refusal),
     }
 }
 
@@ -27,7 +29,7 @@ pub extern "C" fn zgv_lex(book: &[u8], text: &[u8], records: &mut [u8]) -> u64
     ensures { λ r. ⌜ r ≡ lexWord ((lexOutcome (now (book .entry)) (now (text .entry)) (now (records .entry))) .answer) ⌝ }
     ensures { λ r. ⌜ now (records .exit) ≡ (lexOutcome (now (book .entry)) (now (text .entry)) (now (records .entry))) .records ⌝ }
 {
-    answers::lexed(lexer::lex(book, text, records))
+    crate::words::lexed(lexer::lex(book, text, records))
 }
 
 // Lexes a text by the built-in book, through its byte classes: as `zgv_lex` with the book's command bytes.
@@ -36,7 +38,7 @@ pub extern "C" fn zgv_lex_builtin(text: &[u8], records: &mut [u8]) -> u64
     ensures { λ r. ⌜ r ≡ lexWord ((lexOutcome builtinBytes (now (text .entry)) (now (records .entry))) .answer) ⌝ }
     ensures { λ r. ⌜ now (records .exit) ≡ (lexOutcome builtinBytes (now (text .entry)) (now (records .entry))) .records ⌝ }
 {
-    answers::lexed(builtin::lex_builtin(text, records))
+    crate::words::lexed(builtin::lex_builtin(text, records))
 }
 
 // Prints the tokens that the records say with a pool: the number of bytes and 0, or the refusal.
@@ -45,7 +47,7 @@ pub extern "C" fn zgv_print(book: &[u8], records: &[u8], pool: &[u8], out: &mut 
     ensures { λ r. ⌜ r ≡ printWord ((printOutcome (now (book .entry)) (now (records .entry)) (now (pool .entry)) (now (out .entry))) .answer) ⌝ }
     ensures { λ r. ⌜ now (out .exit) ≡ (printOutcome (now (book .entry)) (now (records .entry)) (now (pool .entry)) (now (out .entry))) .out ⌝ }
 {
-    answers::printed(printer::print(book, records, pool, out))
+    crate::words::printed(printer::print(book, records, pool, out))
 }
 
 // Prints the tokens with a separator token between them: the number of bytes and 0, or the refusal.
@@ -68,5 +70,5 @@ pub extern "C" fn zgv_print_separated(
         place: separator_place as usize,
         len: separator_length as usize,
     };
-    answers::printed(separated::print_separated(book, token, mode, records, pool, out))
+    crate::words::printed(separated::print_separated(book, token, mode, records, pool, out))
 }

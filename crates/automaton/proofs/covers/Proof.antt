@@ -1,8 +1,6 @@
 use borrow.Author.Tests.{le-leb, lt-leb}
 use Rattle.automaton.proofs.covers.Statement.{statement}
 use Rattle.automaton.proofs.covers.Tie as tie
-use Rattle.automaton.proofs.covers.Reads as reads
-use Rattle.automaton.proofs.covers.Lts as lts
 
 returns : tie.Need-returns
 returns c = simp (le-leb _ _ (c .if1 .taken))

@@ -1,18 +1,14 @@
-use mathlib.Core.Path.{_≡_, sym, _∙_, refl}
-use Prim.Native.Nat.{ℕ, _<_, _-_, _≤_}
+use mathlib.Core.Path.{sym, _∙_, refl}
 use mathlib.Core.List.{List}
+use Prim.Native.Nat.{_<_}
 use native.Mathlib.Omega.{arith}
 use borrow.Author.Needs.{needs}
-use lib.ListN.{getD}
 use denote.Ref.{now}
 use Rattle.automaton.specs.Rule.{Transition, covers}
-use Rattle.automaton.specs.Tables.{coversWord, pick, nextOf}
+use Rattle.automaton.specs.Contracts.{pick}
 use Rattle.automaton.proofs.Chains.{At, Along, along-start, along-at, along-next, along-hit, along-end, pick-none, pick-hit, pick-miss}
 use Rattle.automaton.proofs.step.Statement.{statement}
 use Rattle.automaton.proofs.step.Tie as tie
-use Rattle.automaton.proofs.step.Reads as reads
-use Rattle.automaton.proofs.step.Lts as lts
-use Rattle.automaton.proofs.covers.Reads as covers-reads
 
 abbrev Inv-loop : tie.InvT-loop
 Inv-loop edges head byte error h₀ h = Along edges head h (λ (ts : List Transition). pick ts byte error)

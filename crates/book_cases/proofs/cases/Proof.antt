@@ -4,10 +4,6 @@ use lib.ListN.{length}
 use borrow.Author.Needs.{needs}
 use Rattle.book_cases.proofs.cases.Statement.{statement}
 use Rattle.book_cases.proofs.cases.Tie as tie
-use Rattle.book_cases.proofs.cases.Reads as reads
-use Rattle.book_cases.proofs.cases.Lts as lts
-use Rattle.book_cases.proofs.get.Reads as get-reads
-use Rattle.book_cases.proofs.line.Reads as line-reads
 
 abbrev Inv-loop : tie.InvT-loop
 Inv-loop room₀ text start₀ book₀ i₀ room start book i = length room ≡ length room₀

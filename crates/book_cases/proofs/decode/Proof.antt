@@ -4,11 +4,6 @@ use lib.ListN.{length}
 use borrow.Author.Needs.{needs}
 use Rattle.book_cases.proofs.decode.Statement.{statement}
 use Rattle.book_cases.proofs.decode.Tie as tie
-use Rattle.book_cases.proofs.decode.Reads as reads
-use Rattle.book_cases.proofs.decode.Lts as lts
-use Rattle.book_cases.proofs.get.Reads as get-reads
-use Rattle.book_cases.proofs.next_digits.Reads as next-digits-reads
-use Rattle.book_cases.proofs.put.Reads as put-reads
 
 abbrev Inv-loop : tie.InvT-loop
 Inv-loop room₀ mark end book to₀ digits₀ i₀ room to digits i = length room ≡ length room₀

@@ -4,10 +4,6 @@ use lib.ListN.{length}
 use borrow.Author.Needs.{needs}
 use Rattle.book_cases.proofs.fill.Statement.{statement}
 use Rattle.book_cases.proofs.fill.Tie as tie
-use Rattle.book_cases.proofs.fill.Reads as reads
-use Rattle.book_cases.proofs.fill.Lts as lts
-use Rattle.book_cases.proofs.book_byte.Reads as book-byte-reads
-use Rattle.book_cases.proofs.put.Reads as put-reads
 
 abbrev Inv-loop : tie.InvT-loop
 Inv-loop room₀ text command size to₀ i₀ room to i = length room ≡ length room₀

@@ -3,10 +3,6 @@ use Prim.Native.Nat.{_-_}
 use borrow.Author.Needs.{needs}
 use Rattle.book_cases.proofs.find_mark.Statement.{statement}
 use Rattle.book_cases.proofs.find_mark.Tie as tie
-use Rattle.book_cases.proofs.find_mark.Reads as reads
-use Rattle.book_cases.proofs.find_mark.Lts as lts
-use Rattle.book_cases.proofs.get.Reads as get-reads
-use Rattle.book_cases.proofs.is_mark.Reads as is-mark-reads
 
 abbrev Inv-loop : tie.InvT-loop
 Inv-loop room start end i₀ i = i ≡ i

@@ -3,9 +3,9 @@ use Prim.Native.Nat.{_+_, _-_, _≤_}
 use native.Mathlib.Omega.{arith}
 use lib.ListN.{length, drop}
 use denote.Ref.{now}
-use Rattle.tables.specs.Book.{builtinRules}
-use Rattle.scanner.proofs.Scanned.{Picked, picked}
-use Rattle.cutting.proofs.Turns.{Cutting, cutting-start, cutting-within, cutting-next, cutting-stop, lex-stop, lex-end}
+use Rattle.longest_match.proofs.Cutting.{Cutting, cutting-start, cutting-within, cutting-next, cutting-stop, lex-stop, lex-end}
+use Rattle.builtin.specs.Book.{builtinRules}
+use Rattle.builtin.proofs.Scanned.{Picked, picked}
 use Rattle.builtin.proofs.count.Statement.{statement}
 use Rattle.builtin.proofs.count.Tie as tie
 

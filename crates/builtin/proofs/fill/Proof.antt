@@ -3,10 +3,10 @@ use Prim.Native.Nat.{_+_, _-_, _*_, _≤_}
 use native.Mathlib.Omega.{arith}
 use lib.ListN.{length, drop}
 use denote.Ref.{now}
-use Rattle.tables.specs.Book.{builtinRules}
-use Rattle.scanner.proofs.Scanned.{Picked, picked}
-use Rattle.cutting.proofs.Turns.{cutting-within, cutting-stop, lex-stop, lex-end}
-use Rattle.filling.proofs.Filling.{Filling, filling-start, filling-room, filling-next, filling-stop}
+use Rattle.longest_match.proofs.Cutting.{cutting-within, cutting-stop, lex-stop, lex-end}
+use Rattle.lexer.proofs.Filled.{Filling, filling-start, filling-room, filling-next, filling-stop}
+use Rattle.builtin.specs.Book.{builtinRules}
+use Rattle.builtin.proofs.Scanned.{Picked, picked}
 use Rattle.builtin.proofs.fill.Statement.{statement}
 use Rattle.builtin.proofs.fill.Tie as tie
 

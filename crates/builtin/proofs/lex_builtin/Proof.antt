@@ -1,7 +1,7 @@
 -- `lex_builtin`: the built-in book is accepted, with the built-in rules. Assumes nothing.
+use borrow.Author.Needs.{needs}
 use denote.Ref.{now}
 use Rattle.builtin.proofs.Accepted.{builtin-outcome}
-use borrow.Author.Needs.{needs}
 use Rattle.builtin.proofs.lex_builtin.Statement.{statement}
 use Rattle.builtin.proofs.lex_builtin.Tie as tie
 

@@ -3,13 +3,13 @@ use mathlib.Core.Logic.{⊎-elim}
 use Prim.Native.Nat.{_≤_}
 use native.Mathlib.Omega.{arith}
 use lib.ListN.{length}
-use denote.Ref.{now}
-use Rattle.cutting.specs.Lexer.{lex}
-use Rattle.records.specs.Records.{recordCount}
-use Rattle.cutting.proofs.Lexing.{lex-few}
-use Rattle.tables.specs.Book.{builtinRules}
-use Rattle.builtin.proofs.Outcome.{too-long, too-few, enough}
 use borrow.Author.Needs.{needs}
+use denote.Ref.{now}
+use Rattle.longest_match.specs.Lexer.{lex}
+use Rattle.longest_match.proofs.Lexing.{lex-few}
+use Rattle.record.specs.Records.{recordCount}
+use Rattle.builtin.specs.Book.{builtinRules}
+use Rattle.builtin.proofs.Outcome.{too-long, too-few, enough}
 use Rattle.builtin.proofs.lex_lent.Statement.{statement}
 use Rattle.builtin.proofs.lex_lent.Tie as tie
 

@@ -1,13 +1,10 @@
-use borrow.Author.Tests.{eq-eqb, ne-eqb, le-leb, lt-leb, not-true, not-false}
-use mathlib.Core.Path.{_≡_, refl, sym, _∙_, ap}
+use mathlib.Core.Path.{ap}
 use native.Mathlib.Omega.{arith}
-use Rattle.command.specs.Commands.{operandsOf, decode}
+use borrow.Author.Tests.{ne-eqb}
 use borrow.Author.Needs.{needs}
+use Rattle.command.specs.Commands.{operandsOf, decode}
 use Rattle.command.proofs.command_of.Statement.{statement}
 use Rattle.command.proofs.command_of.Tie as tie
-use Rattle.command.proofs.command_of.Reads as reads
-use Rattle.command.proofs.command_of.Lts as lts
-use Rattle.command.proofs.pair.Reads as pair-reads
 
 add-pair : tie.Need-add-pair
 add-pair c = search needs

@@ -1,12 +1,8 @@
-use borrow.Author.Tests.{eq-eqb, ne-eqb, le-leb, lt-leb, not-true, not-false}
-use mathlib.Core.Path.{_≡_, refl, sym, _∙_, ap}
-use native.Mathlib.Omega.{arith}
-use Rattle.command.specs.Commands.{placed}
+use borrow.Author.Tests.{ne-eqb, le-leb, lt-leb}
 use Rattle.automaton.proofs.Tests.{and-false-right}
+use Rattle.command.specs.Commands.{placed}
 use Rattle.command.proofs.is_placed.Statement.{statement}
 use Rattle.command.proofs.is_placed.Tie as tie
-use Rattle.command.proofs.is_placed.Reads as reads
-use Rattle.command.proofs.is_placed.Lts as lts
 
 returns : tie.Need-returns
 unfolding placed

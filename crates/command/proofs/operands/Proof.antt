@@ -1,11 +1,7 @@
-use borrow.Author.Tests.{eq-eqb, ne-eqb, le-leb, lt-leb, not-true, not-false}
-use mathlib.Core.Path.{_≡_, refl, sym, _∙_, ap}
-use native.Mathlib.Omega.{arith}
+use borrow.Author.Tests.{ne-eqb}
 use Rattle.command.specs.Commands.{operandsOf}
 use Rattle.command.proofs.operands.Statement.{statement}
 use Rattle.command.proofs.operands.Tie as tie
-use Rattle.command.proofs.operands.Reads as reads
-use Rattle.command.proofs.operands.Lts as lts
 
 returns : tie.Need-returns
 unfolding operandsOf

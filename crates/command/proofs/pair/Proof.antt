@@ -1,12 +1,8 @@
-use borrow.Author.Tests.{eq-eqb, ne-eqb, le-leb, lt-leb, not-true, not-false}
-use mathlib.Core.Path.{_≡_, refl, sym, _∙_, ap}
 use Prim.Native.Nat.{_+_}
 use native.Mathlib.Omega.{arith}
 use borrow.Author.Needs.{needs}
 use Rattle.command.proofs.pair.Statement.{statement}
 use Rattle.command.proofs.pair.Tie as tie
-use Rattle.command.proofs.pair.Reads as reads
-use Rattle.command.proofs.pair.Lts as lts
 
 shared-slice-read-result : tie.Need-shared-slice-read-result
 shared-slice-read-result c = search needs

@@ -1,12 +1,12 @@
 -- `print_cut`: the listing counts bytes of its buffer. Assumes nothing.
 use mathlib.Core.Path.{_≡_, sym}
-use Prim.Native.Nat.{ℕ, _≤_}
 use mathlib.Core.List.{List, _++_}
+use Prim.Native.Nat.{ℕ, _≤_}
 use native.Mathlib.Omega.{arith}
 use lib.ListN.{length, drop, length-append}
-use Rattle.listing.specs.Lines.{listing}
 use lib.Seq.{length-take-le}
 use borrow.Author.Needs.{needs}
+use Rattle.listing.specs.Lines.{listing}
 use Rattle.cutlist.proofs.print_cut.Statement.{statement}
 use Rattle.cutlist.proofs.print_cut.Tie as tie
 

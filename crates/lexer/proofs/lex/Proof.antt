@@ -1,7 +1,7 @@
 -- `lex`: the tables hold the rules of an accepted book. Assumes nothing.
-use Rattle.reading.proofs.Filling.{fresh-zeros}
-use Rattle.lexer.proofs.Outcomes.{loaded-held, answered-book, answered-refused}
 use borrow.Author.Needs.{needs}
+use Rattle.book.proofs.Filling.{fresh-zeros}
+use Rattle.lexer.proofs.Outcomes.{loaded-held, answered-book, answered-refused}
 use Rattle.lexer.proofs.lex.Statement.{statement}
 use Rattle.lexer.proofs.lex.Tie as tie
 

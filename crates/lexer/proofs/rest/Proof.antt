@@ -1,6 +1,6 @@
 -- `rest`: the part of the text from the place of the rest on. Assumes nothing.
-use Rattle.lexer.proofs.Outcomes.{rest-part}
 use borrow.Author.Needs.{needs}
+use Rattle.lexer.proofs.Outcomes.{rest-part}
 use Rattle.lexer.proofs.rest.Statement.{statement}
 use Rattle.lexer.proofs.rest.Tie as tie
 

@@ -1,7 +1,7 @@
 -- `rest_place`: the tables hold the rules of an accepted book. Assumes nothing.
-use Rattle.reading.proofs.Filling.{fresh-zeros}
-use Rattle.lexer.proofs.Outcomes.{loaded-held, rest-book, rest-refused}
 use borrow.Author.Needs.{needs}
+use Rattle.book.proofs.Filling.{fresh-zeros}
+use Rattle.lexer.proofs.Outcomes.{loaded-held, rest-book, rest-refused}
 use Rattle.lexer.proofs.rest_place.Statement.{statement}
 use Rattle.lexer.proofs.rest_place.Tie as tie
 

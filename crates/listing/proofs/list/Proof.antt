@@ -1,6 +1,6 @@
 -- `list`: the lines of every outcome fit. Assumes nothing.
-use Rattle.listing.proofs.Bounds.{fit-answer, listed}
 use borrow.Author.Needs.{needs}
+use Rattle.listing.proofs.Bounds.{fit-answer, listed}
 use Rattle.listing.proofs.list.Statement.{statement}
 use Rattle.listing.proofs.list.Tie as tie
 

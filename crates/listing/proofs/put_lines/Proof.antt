@@ -1,7 +1,7 @@
 -- `put_lines`: by the answer. Assumes nothing.
-use Rattle.digits.proofs.Putting.{puts-then, room-first, room-second}
-use Rattle.listing.proofs.Listing.{fit-lexed, puts-lexed, room-refused, puts-refused}
 use borrow.Author.Needs.{needs}
+use Rattle.listing.proofs.Putting.{puts-then, room-first, room-second}
+use Rattle.listing.proofs.Listing.{fit-lexed, puts-lexed, room-refused, puts-refused}
 use Rattle.listing.proofs.put_lines.Statement.{statement}
 use Rattle.listing.proofs.put_lines.Tie as tie
 

@@ -1,7 +1,7 @@
 -- `put_refused`: a word, then two numbers. Assumes nothing.
-use Rattle.digits.proofs.Putting.{puts-then, room-first, room-second}
-use Rattle.listing.specs.Lines.{refusedLine}
 use borrow.Author.Needs.{needs}
+use Rattle.listing.proofs.Putting.{puts-then, room-first, room-second}
+use Rattle.listing.specs.Lines.{refusedLine}
 use Rattle.listing.proofs.put_refused.Statement.{statement}
 use Rattle.listing.proofs.put_refused.Tie as tie
 

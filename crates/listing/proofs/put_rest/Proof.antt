@@ -1,7 +1,7 @@
 -- `put_rest`: a word, then two numbers. Assumes nothing.
-use Rattle.digits.proofs.Putting.{puts-then, room-first, room-second}
-use Rattle.listing.specs.Lines.{restLine}
 use borrow.Author.Needs.{needs}
+use Rattle.listing.proofs.Putting.{puts-then, room-first, room-second}
+use Rattle.listing.specs.Lines.{restLine}
 use Rattle.listing.proofs.put_rest.Statement.{statement}
 use Rattle.listing.proofs.put_rest.Tie as tie
 

@@ -2,15 +2,11 @@
 use Prim.Native.Nat.{ℕ}
 use lib.ListN.{length-replicate}
 use borrow.Author.Needs.{needs}
-use Rattle.reading.proofs.Filling.{fresh-zeros}
+use Rattle.book.proofs.Filling.{fresh-zeros}
 use Rattle.lexer.proofs.Outcomes.{loaded-held}
 use Rattle.printer.proofs.Outcomes.{answered-book, answered-refused}
 use Rattle.printer.proofs.print.Statement.{statement}
 use Rattle.printer.proofs.print.Tie as tie
-use Rattle.printer.proofs.print.Reads as reads
-use Rattle.printer.proofs.print.Lts as lts
-use Rattle.book.proofs.load_arrays.Reads as load-arrays-reads
-use Rattle.printer.proofs.print_arrays.Reads as print-arrays-reads
 
 load-arrays-requires : tie.Need-load-arrays-requires
 load-arrays-requires c κs = fresh-zeros

@@ -1,15 +1,11 @@
 -- `print_passed` writes what is put together. Assumes nothing.
 use mathlib.Core.Path.{_∙_}
+use borrow.Author.Needs.{needs}
 use denote.Ref.{now}
 use Rattle.spacing.specs.Separators.{spelled}
 use Rattle.separated.proofs.Answering.{passed-spaceable, answered-full, answered-at}
-use borrow.Author.Needs.{needs}
 use Rattle.separated.proofs.print_passed.Statement.{statement}
 use Rattle.separated.proofs.print_passed.Tie as tie
-use Rattle.separated.proofs.print_passed.Reads as reads
-use Rattle.separated.proofs.print_passed.Lts as lts
-use Rattle.writing.proofs.refused.Reads as refused-reads
-use Rattle.separated.proofs.write_from.Reads as write-from-reads
 
 put-list-requires : tie.Need-put-list-requires
 put-list-requires c κs = passed-spaceable (c .before .before .before .before .before .before .before .before .pre .0)

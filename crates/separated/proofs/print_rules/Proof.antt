@@ -1,14 +1,10 @@
 -- `print_rules` answers `separatedRules`. Assumes nothing.
 use mathlib.Core.Path.{sym, _∙_}
+use borrow.Author.Needs.{needs}
 use denote.Ref.{now}
 use Rattle.separated.proofs.Answering.{unrefused, answered-fault, answered-passed}
-use borrow.Author.Needs.{needs}
 use Rattle.separated.proofs.print_rules.Statement.{statement}
 use Rattle.separated.proofs.print_rules.Tie as tie
-use Rattle.separated.proofs.print_rules.Reads as reads
-use Rattle.separated.proofs.print_rules.Lts as lts
-use Rattle.checks.proofs.check_call.Reads as check-call-reads
-use Rattle.separated.proofs.print_passed.Reads as print-passed-reads
 
 check-call-requires : tie.Need-check-call-requires
 check-call-requires c κs = search needs

@@ -1,10 +1,10 @@
 -- `print_separated` answers `separatedOutcome` of the book that it loads. Assumes nothing.
 use Prim.Native.Nat.{ℕ}
 use lib.ListN.{length-replicate}
-use Rattle.reading.proofs.Filling.{fresh-zeros}
+use borrow.Author.Needs.{needs}
+use Rattle.book.proofs.Filling.{fresh-zeros}
 use Rattle.lexer.proofs.Outcomes.{loaded-held}
 use Rattle.separated.proofs.Answering.{answered-book, answered-refused}
-use borrow.Author.Needs.{needs}
 use Rattle.separated.proofs.print_separated.Statement.{statement}
 use Rattle.separated.proofs.print_separated.Tie as tie
 

@@ -2,14 +2,11 @@
 use mathlib.Core.Path.{sym}
 use native.Mathlib.Omega.{arith}
 use lib.ListN.{length-drop}
+use borrow.Author.Needs.{needs}
 use denote.Ref.{now}
 use Rattle.separated.proofs.Answering.{answered-written}
-use borrow.Author.Needs.{needs}
 use Rattle.separated.proofs.write_from.Statement.{statement}
 use Rattle.separated.proofs.write_from.Tie as tie
-use Rattle.separated.proofs.write_from.Reads as reads
-use Rattle.separated.proofs.write_from.Lts as lts
-use Rattle.writing.proofs.write.Reads as write-reads
 
 sub-write : tie.Need-sub-write
 sub-write c = search needs

@@ -1,8 +1,8 @@
 -- `is_due` answers `follows`, by what is chosen at the token. Assumes nothing.
 use mathlib.Core.Path.{sym, _∙_}
-use Rattle.cutting.proofs.Held.{held-empty}
-use Rattle.spacing.proofs.Due.{due-last, due-always, due-more, due-no}
 use borrow.Author.Needs.{needs}
+use Rattle.longest_match.proofs.Held.{held-empty}
+use Rattle.spacing.proofs.Due.{due-last, due-always, due-more, due-no}
 use Rattle.spacing.proofs.is_due.Statement.{statement}
 use Rattle.spacing.proofs.is_due.Tie as tie
 

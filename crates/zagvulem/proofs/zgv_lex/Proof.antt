@@ -1,6 +1,6 @@
-use mathlib.Core.Path.{_≡_, sym, _∙_, ap}
-use Rattle.answers.specs.Words.{lexWord}
+use mathlib.Core.Path.{_∙_, ap}
 use borrow.Author.Needs.{needs}
+use Rattle.zagvulem.specs.Words.{lexWord}
 use Rattle.zagvulem.proofs.zgv_lex.Statement.{statement}
 use Rattle.zagvulem.proofs.zgv_lex.Tie as tie
 

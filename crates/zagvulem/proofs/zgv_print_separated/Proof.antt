@@ -1,6 +1,6 @@
-use mathlib.Core.Path.{_≡_, sym, _∙_, ap}
-use Rattle.answers.specs.Words.{printWord}
+use mathlib.Core.Path.{_∙_, ap}
 use borrow.Author.Needs.{needs}
+use Rattle.zagvulem.specs.Words.{printWord}
 use Rattle.zagvulem.proofs.zgv_print_separated.Statement.{statement}
 use Rattle.zagvulem.proofs.zgv_print_separated.Tie as tie
 

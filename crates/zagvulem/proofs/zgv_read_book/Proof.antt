@@ -1,6 +1,6 @@
-use mathlib.Core.Path.{_≡_, sym, _∙_, ap}
-use Rattle.answers.specs.Words.{bookWord}
+use mathlib.Core.Path.{sym, _∙_, ap}
 use borrow.Author.Needs.{needs}
+use Rattle.zagvulem.specs.Words.{bookWord}
 use Rattle.zagvulem.proofs.zgv_read_book.Statement.{statement}
 use Rattle.zagvulem.proofs.zgv_read_book.Tie as tie
 

@@ -1,6 +1,6 @@
 -- `book` is the very list of `builtinBytes`. Assumes nothing.
 use mathlib.Core.Path.{refl}
-use Rattle.tables.specs.Book.{builtinBytes}
+use Rattle.builtin.specs.Book.{builtinBytes}
 use Rattle.builtin.proofs.commands.book.Statement.{statement}
 use Rattle.builtin.proofs.commands.book.Tie as tie
 

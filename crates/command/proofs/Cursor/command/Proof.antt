@@ -1,19 +1,13 @@
-use borrow.Author.Tests.{eq-eqb, ne-eqb, le-leb, lt-leb, not-true, not-false}
-use mathlib.Core.Path.{_≡_, refl, sym, _∙_, ap}
+use mathlib.Core.Path.{_≡_, sym, _∙_}
 use native.Mathlib.Omega.{arith}
-use denote.Ref.{now}
 use lib.ListN.{getD}
-use Prim.Native.Nat.{_+_}
-use Rattle.command.specs.Commands.{commandAt, operandsOf, placed}
-use Rattle.command.proofs.Commands.{operands-le}
+use borrow.Author.Tests.{le-leb, lt-leb, not-true, not-false}
 use borrow.Author.Needs.{needs}
+use denote.Ref.{now}
+use Rattle.command.specs.Commands.{commandAt}
+use Rattle.command.proofs.Commands.{operands-le}
 use Rattle.command.proofs.Cursor.command.Statement.{statement}
 use Rattle.command.proofs.Cursor.command.Tie as tie
-use Rattle.command.proofs.Cursor.command.Reads as reads
-use Rattle.command.proofs.Cursor.command.Lts as lts
-use Rattle.command.proofs.command_of.Reads as command-of-reads
-use Rattle.command.proofs.is_placed.Reads as is-placed-reads
-use Rattle.command.proofs.operands.Reads as operands-reads
 
 shared-slice-read-code : tie.Need-shared-slice-read-code
 shared-slice-read-code c = search needs

@@ -1,0 +1,79 @@
+// What a call answers where it refuses: the number of document 01 and a place.
+
+pub struct Refusal {
+    pub number: u8,
+    pub place: usize,
+}
+
+impl Refusal {
+    // Reading a book.
+    pub const BOOK_TOO_LONG: u8 = 1;
+
+    pub const CUT_OFF: u8 = 2;
+
+    pub const MISPLACED: u8 = 3;
+
+    pub const BYTES_AFTER_END: u8 = 4;
+
+    pub const TOO_MANY: u8 = 5;
+
+    pub const OUT_OF_RANGE: u8 = 6;
+
+    pub const TAG_TAKEN: u8 = 7;
+
+    pub const TWICE_OR_MISSING: u8 = 8;
+
+    pub const OVERLAP: u8 = 9;
+
+    pub const LEAVES_ERROR: u8 = 10;
+
+    pub const ERROR_FINAL: u8 = 11;
+
+    pub const START_FINAL: u8 = 12;
+
+    pub const NO_RULE: u8 = 13;
+    // Lexing.
+    pub const TEXT_TOO_LONG: u8 = 14;
+
+    pub const TOO_FEW_RECORDS: u8 = 15;
+    // Printing.
+    pub const TOO_MANY_TOKENS: u8 = 16;
+
+    pub const PAST_THE_POOL: u8 = 17;
+
+    pub const UNKNOWN_TAG: u8 = 18;
+
+    pub const NOT_ALONE: u8 = 19;
+
+    pub const OUTPUT_TOO_LONG: u8 = 20;
+
+    pub const READ_ON: u8 = 21;
+
+    pub const OUTPUT_TOO_SHORT: u8 = 22;
+    // Printing with separators.
+    pub const SHARED_BYTE: u8 = 23;
+
+    pub const UNKNOWN_MODE: u8 = 24;
+
+    pub const NO_SEPARATOR: u8 = 25;
+
+    pub const SEPARATOR_IN_LIST: u8 = 26;
+}
+
+// What reading a book answers: the number of its rules, or a refusal.
+pub enum BookAnswer {
+    Accepted(usize),
+    Refused(Refusal),
+}
+
+// What lexing a text answers: the number of tokens and the place of the rest, or a refusal.
+pub enum LexAnswer {
+    Lexed { tokens: usize, rest: usize },
+    Refused(Refusal),
+}
+
+// What printing answers: the number of bytes written, or a refusal.
+pub enum PrintAnswer {
+    Printed(usize),
+    Refused(Refusal),
+}

@@ -1,2 +1,0 @@
--- The words that the C interface answers.
-pub mod Words

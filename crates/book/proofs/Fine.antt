@@ -1,0 +1,191 @@
+-- What a command leaves is fine, and what END accepts is valid. Assumes nothing.
+use mathlib.Core.Path.{_≡_, refl, sym}
+use mathlib.Core.Bool.{Bool, true, false, _||_}
+use mathlib.Core.List.{List, [], _∷_, _++_}
+use mathlib.Core.Option.{Option, none, some}
+use Prim.Native.Nat.{ℕ, _+_, _<_, _≤_}
+use native.Mathlib.Omega.{arith}
+use lib.Dec.{leb, ltb, eqb}
+use lib.ListN.{length, length-append}
+use borrow.Author.Tests.{leb-false, ltb-false, eqb-false, ne-eqb}
+use Rattle.automaton.specs.Choice.{All, any, among}
+use Rattle.automaton.specs.Rule.{Transition, Rule, overlaps, stateCount}
+use Rattle.automaton.proofs.Tests.{clash, or-false}
+use Rattle.command.specs.declared.Command.{Command}
+use Rattle.command.specs.declared.Command.the-variants.{Rule as RULE, Start, Error, Final, Step, Span, Close, End}
+use Rattle.book.specs.Limits.{maxRules, maxTransitions}
+use Rattle.book.specs.Draft.{Draft, between, isSet, isUnset, stateOf, ruleOf, Verdict, goes, accepts, refuses, check, tagged, isEmpty, move, apply}
+use Rattle.book.specs.Valid.{ValidRule, Distinct, ValidRules, Valid, Below, OpenRule, Fine}
+use Rattle.book.specs.Contracts.{standsInside}
+
+-- the operands of a command are bytes
+abbrev pub InRange : Command → Type 0
+InRange (RULE tag kind) = tag < 65536
+InRange (Start s) = s < 256
+InRange (Error s) = s < 256
+InRange (Final s) = s < 256
+InRange (Step from byte to) = (from < 256) × (byte < 256) × (to < 256)
+InRange (Span from low high to) = (from < 256) × (high < 256) × (to < 256)
+InRange Close = Unit {0}
+InRange End = Unit {0}
+
+-- what a verdict leaves is fine
+abbrev pub Good : Verdict → Type 0
+Good (goes d) = Fine d
+Good (accepts rules) = Valid rules
+Good (refuses number place) = Unit {0}
+
+check-good : (t : Bool) (number place : ℕ) (v : Verdict) → (t ≡ false → Good v) → Good (check t number place v)
+unfolding check
+check-good true number place v h = tt
+check-good false number place v h = h refl
+
+-- ---- lists of rules
+
+all-snoc : {A : Type 0} (P : A → Type 0) (xs : List A) (x : A) → All P xs → P x → All P (xs ++ (x ∷ []))
+all-snoc P [] x h p = (p, tt)
+all-snoc P (y ∷ ys) x (q, h) p = (q, all-snoc P ys x h p)
+
+distinct-snoc : (rs : List Rule) (r : Rule) → Distinct rs → tagged r.tag rs ≡ false → Distinct (rs ++ (r ∷ []))
+distinct-snoc [] r d e = (tt, tt)
+distinct-snoc (q ∷ rs) r (h, d) e =
+    let p = or-false (eqb q.tag r.tag) (tagged r.tag rs) e in
+    (all-snoc (λ (x : Rule). eqb x.tag q.tag ≡ false) rs r h (ne-eqb r.tag q.tag (λ z. eqb-false q.tag r.tag (p .0) (sym z))), distinct-snoc rs r d (p .1))
+
+-- ---- one command
+
+pub move-good : (d : Draft) (at from low high to : ℕ) → Fine d → d.inside ≡ true → from < 256 → high < 256 → to < 256 → Good (move d at from low high to)
+unfolding move
+move-good d at from low high to f i a b c =
+    check-good (leb maxTransitions (length d.transitions)) _ _ _ (λ few. check-good (ltb high low) _ _ _ (λ order.
+    record {
+      closed = f .closed;
+      current = λ e. let o = f .current e in record { tag-some = o .tag-some; tag-below = o .tag-below; tag-new = o .tag-new; kind = o .kind; room = o .room };
+      start = f .start;
+      error = f .error;
+      finals = f .finals;
+      ranged = (record { from-below = a; to-below = c; ordered = ltb-false high low order; byte = b }, f .ranged);
+      few = let h : length d.transitions < maxTransitions = leb-false _ _ few in omega arith;
+      idle-finals = f .idle-finals;
+      idle-transitions = λ e. clash i e;
+    }))
+
+start-below : (o : Option ℕ) → Below stateCount o → stateOf o < stateCount
+start-below none h = omega arith
+start-below (some s) h = h
+
+pub closed-rule : (d : Draft) → Fine d → OpenRule d → overlaps d.transitions ≡ false → any (λ (t : Transition). eqb t.from (stateOf d.error)) d.transitions ≡ false
+    → among (stateOf d.error) d.finals ≡ false → among (stateOf d.start) d.finals ≡ false → ValidRule (ruleOf d)
+closed-rule d f o apart stays fails nonempty =
+    record {
+      sound = record {
+        start-below = start-below d.start (f .start);
+        error-below = start-below d.error (f .error);
+        finals-below = f .finals;
+        ranged = f .ranged;
+        apart = apart;
+        stays = stays;
+        fails = fails;
+        nonempty = nonempty;
+      };
+      tag-some = o .tag-some;
+      tag-below = o .tag-below;
+      kind = o .kind;
+      few = f .few;
+    }
+
+between-fine : (rules : List Rule) → ValidRules rules → Fine (between rules)
+between-fine rules v =
+    record {
+      closed = v;
+      current = λ e. clash e refl;
+      start = tt;
+      error = tt;
+      finals = tt;
+      ranged = tt;
+      few = omega arith;
+      idle-finals = λ e. refl;
+      idle-transitions = λ e. refl;
+    }
+
+pub fine-start : Fine (between [])
+fine-start = between-fine [] (record { each = tt; distinct = tt; few = omega arith })
+
+positive : (rules : List Rule) → isEmpty rules ≡ false → 0 < length rules
+positive [] e = clash refl e
+positive (r ∷ rs) e = omega arith
+
+pub apply-good : (d : Draft) (c : Command) (at len : ℕ) → Fine d → InRange c → standsInside c ≡ d.inside → Good (apply d c at len)
+unfolding apply
+apply-good d (RULE tag kind) at len f r i =
+    check-good (leb maxRules (length d.rules)) _ _ _ (λ few. check-good (eqb tag 0 || ltb 1 kind) _ _ _ (λ range. check-good (tagged tag d.rules) _ _ _ (λ new.
+    let p = or-false (eqb tag 0) (ltb 1 kind) range in
+    let z : tag ≡ 0 → ⊥ = eqb-false tag 0 (p .0) in
+    let k : kind ≤ 1 = ltb-false 1 kind (p .1) in
+    let l : length d.rules < maxRules = leb-false _ _ few in
+    record {
+      closed = f .closed;
+      current = λ e. record { tag-some = omega arith; tag-below = r; tag-new = new; kind = k; room = l };
+      start = tt;
+      error = tt;
+      finals = tt;
+      ranged = tt;
+      few = omega arith;
+      idle-finals = λ e. refl;
+      idle-transitions = λ e. refl;
+    })))
+apply-good d (Start s) at len f r i =
+    check-good (isSet d.start) _ _ _ (λ e.
+    record {
+      closed = f .closed;
+      current = λ q. let o = f .current q in record { tag-some = o .tag-some; tag-below = o .tag-below; tag-new = o .tag-new; kind = o .kind; room = o .room };
+      start = r;
+      error = f .error;
+      finals = f .finals;
+      ranged = f .ranged;
+      few = f .few;
+      idle-finals = f .idle-finals;
+      idle-transitions = f .idle-transitions;
+    })
+apply-good d (Error s) at len f r i =
+    check-good (isSet d.error) _ _ _ (λ e.
+    record {
+      closed = f .closed;
+      current = λ q. let o = f .current q in record { tag-some = o .tag-some; tag-below = o .tag-below; tag-new = o .tag-new; kind = o .kind; room = o .room };
+      start = f .start;
+      error = r;
+      finals = f .finals;
+      ranged = f .ranged;
+      few = f .few;
+      idle-finals = f .idle-finals;
+      idle-transitions = f .idle-transitions;
+    })
+apply-good d (Final s) at len f r i =
+    record {
+      closed = f .closed;
+      current = λ q. let o = f .current q in record { tag-some = o .tag-some; tag-below = o .tag-below; tag-new = o .tag-new; kind = o .kind; room = o .room };
+      start = f .start;
+      error = f .error;
+      finals = (r, f .finals);
+      ranged = f .ranged;
+      few = f .few;
+      idle-finals = λ e. clash (sym i) e;
+      idle-transitions = f .idle-transitions;
+    }
+apply-good d (Step from byte to) at len f (a, b, c) i = move-good d at from byte byte to f (sym i) a b c
+apply-good d (Span from low high to) at len f (a, b, c) i = move-good d at from low high to f (sym i) a b c
+apply-good d Close at len f r i =
+    check-good (isUnset d.start || isUnset d.error) _ _ _ (λ set. check-good (overlaps d.transitions) _ _ _ (λ apart.
+    check-good (any (λ (t : Transition). eqb t.from (stateOf d.error)) d.transitions) _ _ _ (λ stays. check-good (among (stateOf d.error) d.finals) _ _ _ (λ fails.
+    check-good (among (stateOf d.start) d.finals) _ _ _ (λ nonempty.
+    let o = f .current (sym i) in
+    let l = length-append d.rules (ruleOf d ∷ []) in
+    between-fine (d.rules ++ (ruleOf d ∷ []))
+    (record {
+      each = all-snoc ValidRule d.rules (ruleOf d) (f .closed .each) (closed-rule d f o apart stays fails nonempty);
+      distinct = distinct-snoc d.rules (ruleOf d) (f .closed .distinct) (o .tag-new);
+      few = omega (arith, o .room, l);
+    }))))))
+apply-good d End at len f r i =
+    check-good (isEmpty d.rules) _ _ _ (λ some-rule. check-good (ltb (at + 1) len) _ _ _ (λ last.
+    record { rules-valid = f .closed; some-rule = positive d.rules some-rule }))

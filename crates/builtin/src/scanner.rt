@@ -1,0 +1,95 @@
+// One automaton for all five rules of the built-in book of document 01, by byte classes: one table step a byte.
+ghost use mathlib.Core.Path.{_≡_};
+ghost use Prim.Native.Nat.{_+_, _≤_, _<_};
+ghost use lib.ListN.{length, drop};
+ghost use Rattle.builtin.specs.Classes.{classTable};
+ghost use Rattle.builtin.specs.Joined.{State, nextTable, tagTable, nextState, tagAt, Lent, Stays, Scanned};
+
+// States of the automaton: from the first no byte leads to a match, in the second nothing is read, and from the third on
+// some rule matches what is read. A state is the place of its row in the table of next states.
+const DEAD: usize = 0;
+
+const START: usize = 16;
+
+const ACCEPTING: usize = 160;
+
+// What stands at the front of a text: a token's tag and how many bytes it takes, 0 for none.
+pub struct Match {
+    pub tag: u64,
+    pub len: usize,
+}
+
+// Where a byte leads from state `s`.
+fn step(classes: &[u8; 256], next: &[u8; 256], s: usize, byte: u8) -> usize
+    requires { ⌜ (now classes ≡ classTable) × (now next ≡ nextTable) × State s ⌝ }
+    ensures { λ r. ⌜ r ≡ nextState s byte ⌝ }
+{
+    let class = classes[byte as usize];
+    next[s + (class as usize)] as usize
+}
+
+fn found(tags: &[u8; 16], s: usize, len: usize) -> Match
+    requires { ⌜ (now tags ≡ tagTable) × State s ⌝ }
+    ensures { λ r. ⌜ (r .tag ≡ tagAt s) × (r .len ≡ len) ⌝ }
+{
+    let tag = tags[s / 16];
+    Match {
+        tag: tag as u64,
+        len,
+    }
+}
+
+// The first place from `from` on whose byte leads away from state `s`. No turn waits for the table step of the one before, which is
+// what makes long words fast.
+fn run(classes: &[u8; 256], next: &[u8; 256], s: usize, text: &[u8], from: usize) -> usize
+    requires { ⌜ (now classes ≡ classTable) × (now next ≡ nextTable) × State s × (from ≤ length (now text)) ⌝ }
+    ensures { λ r. ⌜ Stays s (now (text .entry)) from r ⌝ }
+{
+    let mut i = from;
+    while i < text.len() {
+        if step(classes, next, s, text[i]) != s {
+            return i;
+        }
+        i += 1;
+    }
+    i
+}
+
+// The longest token at the front of `text`: the walk remembers the last state that accepts, and stops where no match can follow.
+fn scan(classes: &[u8; 256], next: &[u8; 256], tags: &[u8; 16], text: &[u8]) -> Match
+    requires { ⌜ Lent (now classes) (now next) (now tags) ⌝ }
+    ensures { λ r. ⌜ Scanned (now (text .entry)) (r .tag) (r .len) ⌝ }
+{
+    let mut s = START;
+    let mut last = DEAD;
+    let mut len = 0;
+    let mut i = 0;
+    while i < text.len() {
+        s = step(classes, next, s, text[i]);
+        if s == DEAD {
+            return found(tags, last, len);
+        }
+        i += 1;
+        if ACCEPTING <= s {
+            i = run(classes, next, s, text, i);
+            last = s;
+            len = i;
+        }
+    }
+    found(tags, last, len)
+}
+
+// The same from a place of a text.
+pub fn scan_at(
+    classes: &[u8; 256],
+    next: &[u8; 256],
+    tags: &[u8; 16],
+    text: &[u8],
+    at: usize,
+) -> Match
+    requires { ⌜ Lent (now classes) (now next) (now tags) ⌝ }
+    requires { ⌜ at ≤ length (now text) ⌝ }
+    ensures { λ r. ⌜ Scanned (drop at (now (text .entry))) (r .tag) (r .len) ⌝ }
+{
+    scan(classes, next, tags, &text[at..])
+}

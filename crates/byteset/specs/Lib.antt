@@ -1,2 +1,0 @@
--- What a set of bytes says.
-pub mod Marks

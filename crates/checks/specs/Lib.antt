@@ -1,2 +1,0 @@
--- What a call is refused for before anything is put together.
-pub mod Refusals

@@ -1,0 +1,66 @@
+// Lexing by rules that lent tables hold.
+use answer::LexAnswer;
+use answer::Refusal;
+use book::Book;
+ghost use mathlib.Core.List.{List};
+ghost use Rattle.automaton.specs.Rule.{Rule};
+ghost use Rattle.longest_match.specs.Contracts.{Holds, Held};
+ghost use Rattle.lexer.specs.Outcome.{lexRules, restRules};
+ghost use Rattle.lexer.specs.Contracts.{LexAnswered, RestAt};
+
+// Every token has a byte, so that as many records as the text has bytes are surely enough, and the text is walked once; else
+// the tokens are counted before the first record is written.
+pub fn lex_rules(
+    headers: &[u64],
+    states: &[u16],
+    edges: &[u64],
+    rules: usize,
+    text: &[u8],
+    records: &mut [u8],
+) -> LexAnswer
+    requires { ⌜ Held (now headers) (now states) (now edges) rules ⌝ }
+    ensures { λ r. ⌜ ((rs : List Rule) → Holds (now (headers .entry)) (now (states .entry)) (now (edges .entry)) rules rs
+        → LexAnswered (lexRules rs (now (text .entry)) (now (records .entry))) r (now (records .exit))) ⌝ }
+{
+    if Book::TEXT < text.len() {
+        return LexAnswer::Refused(Refusal {
+            number: Refusal::TEXT_TOO_LONG,
+            place: 0,
+        });
+    }
+    let room = records.len() / 10;
+    if room < text.len() {
+        let needed = longest_match::count(headers, states, edges, rules, text);
+        if room < needed.tokens {
+            return LexAnswer::Refused(Refusal {
+                number: Refusal::TOO_FEW_RECORDS,
+                place: needed.tokens,
+            });
+        }
+    }
+    let cut = crate::filling::fill(headers, states, edges, rules, text, records);
+    LexAnswer::Lexed {
+        tokens: cut.tokens,
+        rest: cut.rest,
+    }
+}
+
+// The place of the rest.
+pub fn rest_rules(
+    headers: &[u64],
+    states: &[u16],
+    edges: &[u64],
+    rules: usize,
+    text: &[u8],
+) -> usize
+    requires { ⌜ Held (now headers) (now states) (now edges) rules ⌝ }
+    ensures { λ r. ⌜ ((rs : List Rule) → Holds (now (headers .entry)) (now (states .entry)) (now (edges .entry)) rules rs
+        → RestAt (now (text .entry)) r (restRules rs (now (text .entry)))) ⌝ }
+{
+    if text.len() <= Book::TEXT {
+        let cut = longest_match::count(headers, states, edges, rules, text);
+        cut.rest
+    } else {
+        0
+    }
+}

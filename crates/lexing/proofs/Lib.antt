@@ -1,2 +1,0 @@
--- What the proofs of this crate share, and the laws for the layers above.
-pub mod Outcomes

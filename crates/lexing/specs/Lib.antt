@@ -1,2 +1,0 @@
--- What lexing a text by rules answers and leaves.
-pub mod Outcome

@@ -1,2 +1,0 @@
--- The lines of tokens.
-pub mod Lines

@@ -1,0 +1,20 @@
+-- `put_field`: a number, then a byte. Assumes nothing.
+use borrow.Author.Needs.{needs}
+use Rattle.listing.proofs.Putting.{puts-then, room-first, room-second}
+use Rattle.listing.proofs.digits.put_field.Statement.{statement}
+use Rattle.listing.proofs.digits.put_field.Tie as tie
+
+put-decimal-requires : tie.Need-put-decimal-requires
+put-decimal-requires c κs = room-first _ (c .before .before .pre)
+
+put-byte-requires : tie.Need-put-byte-requires
+put-byte-requires c κs = room-second (c .before .before .before .put-decimal .ensures) (c .before .before .before .put-decimal .kept .0) (c .before .before .before .before .before .before .pre)
+
+same-length : tie.Need-same-length
+same-length c = search needs
+
+returns : tie.Need-returns
+returns c = puts-then (c .before .before .before .before .before .before .put-decimal .ensures) (c .before .before .put-byte .ensures) (room-first _ (c .before .before .before .before .before .before .before .before .before .pre))
+
+pub put-field-spec : {M : Type 1} → statement M
+put-field-spec = tie.close (tie.spec put-decimal-requires put-byte-requires same-length returns)

@@ -1,0 +1,31 @@
+-- `put_token`: three texts, one behind the other. Assumes nothing.
+use mathlib.Core.Path.{_∙_}
+use borrow.Author.Needs.{needs}
+use Rattle.listing.proofs.Putting.{puts-then, room-first, room-second}
+use Rattle.listing.specs.Lines.{tokenLine}
+use Rattle.listing.proofs.lines.put_token.Statement.{statement}
+use Rattle.listing.proofs.lines.put_token.Tie as tie
+
+put-field-requires : tie.Need-put-field-requires
+unfolding tokenLine
+put-field-requires c κs = room-first _ (room-first _ (c .before .before .pre))
+
+put-field-requires-2 : tie.Need-put-field-requires-2
+unfolding tokenLine
+put-field-requires-2 c κs = room-second (c .before .before .before .put-field .ensures) (c .before .before .before .put-field .kept .0) (room-first _ (c .before .before .before .before .before .before .pre))
+
+put-last-two-requires : tie.Need-put-last-two-requires
+unfolding tokenLine
+put-last-two-requires c κs = room-second (puts-then (c .before .before .before .before .before .before .before .put-field .ensures) (c .before .before .before .put-field2 .ensures) (room-first _ (room-first _ (c .before .before .before .before .before .before .before .before .before .before .pre)))) (c .before .before .before .put-field2 .kept .0 ∙ c .before .before .before .before .before .before .before .put-field .kept .0) (c .before .before .before .before .before .before .before .before .before .before .pre)
+
+same-length : tie.Need-same-length
+same-length c = search needs
+
+returns : tie.Need-returns
+unfolding tokenLine
+returns c = puts-then (puts-then (c .before .before .before .before .before .before .before .before .before .before .put-field .ensures) (c .before .before .before .before .before .before .put-field2 .ensures) (room-first _ (room-first _ (c .before .before .before .before .before .before .before .before .before .before .before .before .before .pre)))) (c .before .before .put-last-two .ensures) (room-first _ (c .before .before .before .before .before .before .before .before .before .before .before .before .before .pre))
+
+pub put-token-spec : {M : Type 1} → statement M
+put-token-spec =
+    tie.close
+    (tie.spec put-field-requires put-field-requires-2 put-last-two-requires same-length returns)

@@ -1,0 +1,116 @@
+-- What `lex` does, and how it and `join` are inverse. Assumes nothing.
+use mathlib.Core.Path.{_≡_, refl, sym, ap, _∙_}
+use mathlib.Core.Option.{Option, none, some}
+use mathlib.Core.List.{List, [], _∷_, _++_, append-assoc, append-nil}
+use Prim.Native.Nat.{ℕ, zero, suc, _+_, _-_, _≤_, _<_}
+use native.Mathlib.Omega.{arith}
+use lib.ListN.{length, drop, length-append}
+use lib.Seq.{drop-at}
+use Rattle.automaton.specs.Rule.{Rule}
+use Rattle.longest_match.specs.Lexer.{Token, Found, Lexed, firstMatch, chooseWithin, choose, proceed, lexFor, lex, join, Printable}
+use Rattle.longest_match.proofs.Choosing.{choose-at, chosen-splits, chosen-shorter, choose-some}
+
+-- ---- the lexer unfolds: nobody opens its definition again
+
+proceed-same : (rules : List Rule) (text : List ℕ) (o : Option Found) → choose rules text ≡ o → (go ho : List ℕ → Lexed)
+    → ((x : List ℕ) → length x < length text → go x ≡ ho x) → proceed o text go ≡ proceed o text ho
+proceed-same rules text none e go ho h = refl
+proceed-same rules text (some f) e go ho h = rw (h f.rest (chosen-shorter rules text f e))
+
+fuel : (rules : List Rule) (n k : ℕ) (text : List ℕ) → length text ≤ n → length text ≤ k → lexFor n rules text ≡ lexFor k rules text
+unfolding lexFor choose chooseWithin
+fuel rules zero zero text h j = refl
+fuel rules zero (suc k) [] h j = refl
+fuel rules zero (suc k) (b ∷ text) h j = absurd (omega arith)
+fuel rules (suc n) zero [] h j = refl
+fuel rules (suc n) zero (b ∷ text) h j = absurd (omega arith)
+fuel rules (suc n) (suc k) text h j =
+    proceed-same rules text _ refl _ _ (λ x l. fuel rules n k x (omega arith) (omega arith))
+
+pub lex-unfolds : (rules : List Rule) (text : List ℕ) → lex rules text ≡ proceed (choose rules text) text (lex rules)
+unfolding lex lexFor choose chooseWithin
+lex-unfolds rules [] = refl
+lex-unfolds rules (b ∷ text) = proceed-same rules (b ∷ text) _ refl _ _ (λ x l. fuel rules (length text) (length x) x (omega arith) (omega arith))
+
+-- ---- tokens and rest, joined, are the text
+
+joins-proceed : (rules : List Rule) (text : List ℕ) (o : Option Found) → choose rules text ≡ o → (go : List ℕ → Lexed)
+    → ((x : List ℕ) → join ((go x) .tokens) ++ (go x) .rest ≡ x) → join ((proceed o text go) .tokens) ++ (proceed o text go) .rest ≡ text
+joins-proceed rules text none e go h = refl
+joins-proceed rules text (some f) e go h = rw (append-assoc, h f.rest, chosen-splits rules text f e)
+
+joinsFor : (rules : List Rule) (n : ℕ) (text : List ℕ) → join ((lexFor n rules text) .tokens) ++ (lexFor n rules text) .rest ≡ text
+unfolding lexFor
+joinsFor rules zero text = refl
+joinsFor rules (suc n) text = joins-proceed rules text _ refl _ (joinsFor rules n)
+
+pub joins : (rules : List Rule) (text : List ℕ) → join ((lex rules text) .tokens) ++ (lex rules text) .rest ≡ text
+unfolding lex
+joins rules text = joinsFor rules (length text) text
+
+-- ---- how much there is
+
+few-proceed : (rules : List Rule) (text : List ℕ) (o : Option Found) → choose rules text ≡ o → (go : List ℕ → Lexed)
+    → ((x : List ℕ) → length ((go x) .tokens) ≤ length x) → length ((proceed o text go) .tokens) ≤ length text
+few-proceed rules text none e go h = omega arith
+few-proceed rules text (some f) e go h = omega (arith, h f.rest, chosen-shorter rules text f e)
+
+fewFor : (rules : List Rule) (n : ℕ) (text : List ℕ) → length ((lexFor n rules text) .tokens) ≤ length text
+unfolding lexFor
+fewFor rules zero text = omega arith
+fewFor rules (suc n) text = few-proceed rules text _ refl _ (fewFor rules n)
+
+-- no more tokens than bytes
+pub lex-few : (rules : List Rule) (text : List ℕ) → length ((lex rules text) .tokens) ≤ length text
+unfolding lex
+lex-few rules text = fewFor rules (length text) text
+
+pub lex-lengths : (rules : List Rule) (text : List ℕ) → length (join ((lex rules text) .tokens)) + length ((lex rules text) .rest) ≡ length text
+lex-lengths rules text = simp length-append at (ap length (joins rules text))
+
+-- the rest is the part of the text from the rest's place on
+pub rest-drop : (rules : List Rule) (text : List ℕ) → (lex rules text) .rest ≡ drop (length text - length ((lex rules text) .rest)) text
+rest-drop rules text =
+    let l = lex-lengths rules text in
+    let q : length (join ((lex rules text) .tokens)) ≡ length text - length ((lex rules text) .rest) = omega arith in
+    sym (ap (λ (t : List ℕ). drop (length text - length ((lex rules text) .rest)) t) (sym (joins rules text)) ∙ drop-at (join ((lex rules text) .tokens)) ((lex rules text) .rest) _ q)
+
+-- ---- what can be printed is read back
+
+pub printed-lexes : (rules : List Rule) (ts : List Token) → firstMatch rules [] ≡ none → Printable rules ts
+    → lex rules (join ts) ≡ record { tokens = ts; rest = [] }
+unfolding lex lexFor
+printed-lexes rules [] e h = refl
+printed-lexes rules (t ∷ ts) e (a, x, h) =
+    rw (lex-unfolds rules (t.bytes ++ join ts), choose-at rules t.bytes (join ts) t.tag e a x, printed-lexes rules ts e h)
+
+-- ---- what is cut without a rest can be printed
+
+printable-proceed : (rules : List Rule) (text : List ℕ) (o : Option Found) → choose rules text ≡ o → (go : List ℕ → Lexed)
+    → ((x : List ℕ) → join ((go x) .tokens) ++ (go x) .rest ≡ x) → ((x : List ℕ) → (go x) .rest ≡ [] → Printable rules ((go x) .tokens))
+    → (proceed o text go) .rest ≡ [] → Printable rules ((proceed o text go) .tokens)
+printable-proceed rules text none e go j h z = tt
+printable-proceed rules text (some f) e go j h z =
+    let g = choose-some rules text f e in
+    let y : join ((go f.rest) .tokens) ≡ f.rest = rw (z, append-nil) at (j f.rest) in
+    (g.alone, rw y g.stops, h f.rest z)
+
+printableFor : (rules : List Rule) (n : ℕ) (text : List ℕ) → (lexFor n rules text) .rest ≡ [] → Printable rules ((lexFor n rules text) .tokens)
+unfolding lexFor
+printableFor rules zero text z = tt
+printableFor rules (suc n) text z = printable-proceed rules text _ refl _ (joinsFor rules n) (printableFor rules n) z
+
+pub lexed-printable : (rules : List Rule) (text : List ℕ) → (lex rules text) .rest ≡ [] → Printable rules ((lex rules text) .tokens)
+unfolding lex
+lexed-printable rules text = printableFor rules (length text) text
+
+pub lexed-whole : (rules : List Rule) (text : List ℕ) (ts : List Token) → lex rules text ≡ record { tokens = ts; rest = [] } → Printable rules ts × (join ts ≡ text)
+lexed-whole rules text ts e = ((rw e at (lexed-printable rules text)) refl, rw (e, append-nil) at (joins rules text))
+
+-- ---- different lists are printed differently
+
+pub join-injective : (rules : List Rule) (ts us : List Token) → firstMatch rules [] ≡ none → Printable rules ts → Printable rules us
+    → join ts ≡ join us → ts ≡ us
+join-injective rules ts us e p q j =
+    let a = printed-lexes rules ts e p in let b = printed-lexes rules us e q in
+    ap (λ (l : Lexed). l.tokens) (sym a ∙ ap (lex rules) j ∙ b)

@@ -1,0 +1,42 @@
+-- What the layers of the code ask and answer between themselves. Nobody needs to believe it: the operations' contracts do not rest on it.
+use mathlib.Core.Path.{_≡_}
+use mathlib.Core.Bool.{true, false}
+use mathlib.Core.Option.{none, some}
+use mathlib.Core.List.{List}
+use Prim.Native.Nat.{ℕ, _-_, _<_, _≤_}
+use lib.ListN.{length, take, drop}
+use Rattle.automaton.specs.Rule.{Rule, matches}
+use Rattle.automaton.specs.Contracts.{Tables, ruleAt}
+use Rattle.longest_match.specs.Lexer.{Found, choose, lex}
+
+-- ---- What the code answers, said of the rules that the tables hold.
+
+-- the tables hold these n rules
+pub record Holds (hs ss es : List ℕ) (n : ℕ) (rules : List Rule) : Type 0 where
+  pub tables : Tables hs ss es rules
+  pub count : length rules ≡ n
+
+-- the tables hold some n rules
+pub record Held (hs ss es : List ℕ) (n : ℕ) : Type 0 where
+  pub rules : List Rule
+  pub holds : Holds hs ss es n rules
+
+-- the first len bytes of a text as a token of this tag
+abbrev pub front : ℕ → ℕ → List ℕ → Found
+front tag len text = record { token = record { tag = tag; bytes = take len text }; rest = drop len text }
+
+-- Rule number `rule` is chosen with the first `len` bytes: it matches them, no earlier rule does, and no rule matches more.
+-- Both are 0 where nothing is chosen.
+pub record Chooses (rules : List Rule) (text : List ℕ) (rule len : ℕ) : Type 0 where
+  pub within : len ≤ length text
+  pub nothing : len ≡ 0 → choose rules text ≡ none
+  pub idle : len ≡ 0 → rule ≡ 0
+  pub known : 0 < len → rule < length rules
+  pub matched : 0 < len → matches (ruleAt rules rule) (take len text) ≡ true
+  pub earlier : 0 < len → (k : ℕ) → k < rule → matches (ruleAt rules k) (take len text) ≡ false
+  pub chosen : 0 < len → choose rules text ≡ some (front ((ruleAt rules rule) .tag) len text)
+
+-- the number of tokens and the place of the rest
+pub record Cuts (rules : List Rule) (text : List ℕ) (tokens rest : ℕ) : Type 0 where
+  pub tokens-are : tokens ≡ length ((lex rules text) .tokens)
+  pub rest-is : rest ≡ length text - length ((lex rules text) .rest)

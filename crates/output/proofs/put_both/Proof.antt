@@ -1,0 +1,46 @@
+-- `put_both` puts the separator in front, and the token in front of it. Assumes nothing.
+use mathlib.Core.List.{_++_}
+use lib.ListN.{drop}
+use borrow.Author.Needs.{needs}
+use denote.Ref.{now}
+use Rattle.record.specs.Tokens.{bytesIn}
+use Rattle.output.proofs.Placing.{both-full, both-put}
+use Rattle.output.proofs.put_both.Statement.{statement}
+use Rattle.output.proofs.put_both.Tie as tie
+
+put-before-requires : tie.Need-put-before-requires
+put-before-requires c κs = (c .before .before .before .pre .1 .0 .in-pool, c .before .before .before .pre .1 .1)
+
+enum-known-start : tie.Need-enum-known-start
+enum-known-start c = search needs
+
+put-before-requires-2 : tie.Need-put-before-requires-2
+put-before-requires-2 c κs = (c .before .before .before .before .before .before .before .before .before .before .pre .0 .in-pool, c .before .before .before .before .before .before .put-before .ensures .at _ (c .before .before .start .given .1) .within)
+
+enum-told : tie.Need-enum-told
+enum-told c = search needs
+
+same-length : tie.Need-same-length
+same-length c = search needs
+
+returns : tie.Need-returns
+returns c = both-put (bytesIn (now (c .before .before .before .before .before .before .before .before .before .before .before .before .before .args .pool)) (c .before .before .before .before .before .before .before .before .before .before .before .before .before .args .token)) (bytesIn (now (c .before .before .before .before .before .before .before .before .before .before .before .before .before .args .pool)) (c .before .before .before .before .before .before .before .before .before .before .before .before .before .args .separator) ++ drop (c .before .before .before .before .before .before .before .before .before .before .before .before .before .args .at) (now (c .before .before .before .before .before .before .before .before .before .before .before .before .before .args .scratch))) (c .before .before .before .before .before .before .before .before .before .put-before .ensures .at _ (c .before .before .before .before .before .start .given .1)) (c .before .before .put-before2 .ensures)
+
+same-length-2 : tie.Need-same-length-2
+same-length-2 c = search needs
+
+returns-2 : tie.Need-returns-2
+returns-2 c = both-full (bytesIn (now (c .before .before .before .before .before .before .before .before .args .pool)) (c .before .before .before .before .before .before .before .before .args .token)) (bytesIn (now (c .before .before .before .before .before .before .before .before .args .pool)) (c .before .before .before .before .before .before .before .before .args .separator)) (drop (c .before .before .before .before .before .before .before .before .args .at) (now (c .before .before .before .before .before .before .before .before .args .scratch))) (c .enum-told .given .1) (c .before .before .before .before .put-before .ensures)
+
+pub put-both-spec : {M : Type 1} → statement M
+put-both-spec =
+    tie.close
+    (tie.spec
+    put-before-requires
+    enum-known-start
+    put-before-requires-2
+    enum-told
+    same-length
+    returns
+    same-length-2
+    returns-2)

@@ -1,2 +1,0 @@
--- What the code answers.
-pub mod Answers

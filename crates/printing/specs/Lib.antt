@@ -1,2 +1,0 @@
--- The outcome of printing by rules.
-pub mod Outcome

@@ -1,0 +1,42 @@
+-- The tokens that ten-byte records say, and their bytes in a pool.
+use mathlib.Core.List.{List, [], _∷_}
+use Prim.Native.Nat.{ℕ, zero, suc, _+_, _*_}
+use lib.ListN.{getD, take, drop}
+use Rattle.longest_match.specs.Lexer.{Token}
+use Rattle.record.specs.Records.{recordCount}
+use Rattle.record.specs.declared.TokenRecord.{TokenRecord}
+
+-- numbers of two and of four bytes, high byte first
+abbrev pub twoAt : List ℕ → ℕ → ℕ
+twoAt bytes i = getD bytes i 0 * 256 + getD bytes (i + 1) 0
+
+abbrev pub fourAt : List ℕ → ℕ → ℕ
+fourAt bytes i = ((getD bytes i 0 * 256 + getD bytes (i + 1) 0) * 256 + getD bytes (i + 2) 0) * 256 + getD bytes (i + 3) 0
+
+-- record number k: "tag two, place four, length four"
+unfoldable pub recordAt : List ℕ → ℕ → TokenRecord
+recordAt records k =
+    record { tag = twoAt records (10 * k); place = fourAt records (10 * k + 2); len = fourAt records (10 * k + 6) }
+
+-- n records from number k on
+unfoldable pub recordsFrom : List ℕ → ℕ → ℕ → List TokenRecord
+recordsFrom records k zero = []
+recordsFrom records k (suc n) = recordAt records k ∷ recordsFrom records (suc k) n
+
+unfoldable pub recordsOf : List ℕ → List TokenRecord
+recordsOf records = recordsFrom records 0 (recordCount records)
+
+-- the bytes of a record: "a place and a length, both counted in a lent byte pool"
+abbrev pub bytesIn : List ℕ → TokenRecord → List ℕ
+bytesIn pool r = take (r .len) (drop (r .place) pool)
+
+abbrev pub tokenIn : List ℕ → TokenRecord → Token
+tokenIn pool r = record { tag = r .tag; bytes = bytesIn pool r }
+
+unfoldable pub tokensIn : List ℕ → List TokenRecord → List Token
+tokensIn pool [] = []
+tokensIn pool (r ∷ rs) = tokenIn pool r ∷ tokensIn pool rs
+
+-- the token list that records say with a pool
+abbrev pub tokensOf : List ℕ → List ℕ → List Token
+tokensOf records pool = tokensIn pool (recordsOf records)

@@ -1,2 +1,0 @@
--- The records of tokens.
-pub mod Records

@@ -1,2 +1,0 @@
--- A list with which nothing is wrong, and what rehearsing one answers.
-pub mod Clean

@@ -1,2 +1,0 @@
--- What the proofs of this crate share, and the law for the layer above.
-pub mod Scanned

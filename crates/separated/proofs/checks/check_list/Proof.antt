@@ -1,0 +1,46 @@
+-- `check_list` answers `listRefusal`, test by test. Assumes nothing.
+use borrow.Author.Needs.{needs}
+use Rattle.separated.proofs.Checking.{separator-fault, list-mode, list-separator, list-many, list-tokens}
+use Rattle.separated.proofs.checks.check_list.Statement.{statement}
+use Rattle.separated.proofs.checks.check_list.Tie as tie
+
+refused-requires : tie.Need-refused-requires
+refused-requires c κs = search needs
+
+returns : tie.Need-returns
+returns c = λ rs h. list-mode rs _ _ _ _ (c .before .if1 .taken) (c .refused .ensures)
+
+fault-or-kind-requires : tie.Need-fault-or-kind-requires
+fault-or-kind-requires c κs = search needs
+
+refused-requires-2 : tie.Need-refused-requires-2
+refused-requires-2 c κs = search needs
+
+returns-2 : tie.Need-returns-2
+returns-2 c = λ rs h. list-separator rs _ _ _ _ (c .before .before .before .if1 .left) (separator-fault rs _ _ (c .before .before .fault-or-kind .ensures rs h)) (c .before .if2 .taken) (c .refused2 .ensures)
+
+refused-requires-3 : tie.Need-refused-requires-3
+refused-requires-3 c κs = search needs
+
+returns-3 : tie.Need-returns-3
+returns-3 c = λ rs h. list-many rs _ _ _ _ (c .before .before .before .before .if1 .left) (separator-fault rs _ _ (c .before .before .before .fault-or-kind .ensures rs h)) (c .before .before .if2 .left) (c .before .if3 .taken) (c .refused3 .ensures)
+
+check-tokens-requires : tie.Need-check-tokens-requires
+check-tokens-requires c κs = search needs
+
+returns-4 : tie.Need-returns-4
+returns-4 c = λ rs h. list-tokens rs _ _ _ _ (c .before .before .before .before .if1 .left) (separator-fault rs _ _ (c .before .before .before .fault-or-kind .ensures rs h)) (c .before .before .if2 .left) (c .before .if3 .left) (c .check-tokens .ensures rs h)
+
+pub check-list-spec : {M : Type 1} → statement M
+check-list-spec =
+    tie.close
+    (tie.spec
+    refused-requires
+    returns
+    fault-or-kind-requires
+    refused-requires-2
+    returns-2
+    refused-requires-3
+    returns-3
+    check-tokens-requires
+    returns-4)

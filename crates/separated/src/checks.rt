@@ -1,0 +1,181 @@
+// What is refused before anything is put together: shared bytes, the mode, the separator token, the tokens of the list.
+use answer::Refusal;
+use book::Book;
+use record::TokenRecord;
+use used_bytes::byteset::Lowest;
+ghost use mathlib.Core.Path.{_≡_};
+ghost use mathlib.Core.List.{List};
+ghost use Prim.Native.Nat.{ℕ, _≤_};
+ghost use lib.ListN.{length};
+ghost use Rattle.automaton.specs.Rule.{Rule};
+ghost use Rattle.longest_match.specs.Contracts.{Holds, Held};
+ghost use Rattle.record.specs.Tokens.{recordsOf};
+ghost use Rattle.token_list.specs.Faults.{faultOf};
+ghost use Rattle.token_list.specs.Checks.{firstFault};
+ghost use Rattle.used_bytes.specs.Kinds.{separates};
+ghost use Rattle.separated.specs.Refusals.{orElse, plainFault, listRefusal, separatedRefusal};
+ghost use Rattle.separated.specs.Contracts.{differs, checkedOf};
+
+// What the checks of a call come to.
+pub enum Checked {
+    Passed,
+    Refused(Refusal),
+}
+
+fn refused(number: u8, place: usize) -> Checked
+    ensures { λ r. ⌜ r ≡ Checked.Refused (record { number = number; place = place }) ⌝ }
+{
+    Checked::Refused(Refusal { number, place })
+}
+
+// Whether the tag belongs to a rule of separator kind.
+pub fn is_separator(headers: &[u64], rules: usize, tag: u64) -> bool
+    requires { ⌜ rules ≤ length (now headers) ⌝ }
+    ensures { λ r. ⌜ ((ss es : List ℕ) (rs : List Rule) → Holds (now (headers .entry)) ss es rules rs → r ≡ separates rs tag) ⌝ }
+{
+    let mut next = 0;
+    while next < rules {
+        let header = headers[next];
+        next += 1;
+        if automaton::tag_of(header) == tag {
+            if automaton::kind_of(header) == 1 {
+                return true;
+            }
+        }
+    }
+    false
+}
+
+// The number that refuses a token, 0 for none: its fault, or else `number` where its kind is not the wanted one.
+pub fn fault_or_kind(
+    headers: &[u64],
+    states: &[u16],
+    edges: &[u64],
+    rules: usize,
+    pool: &[u8],
+    token: TokenRecord,
+    separator: bool,
+    number: u8,
+) -> u8
+    requires { ⌜ Held (now headers) (now states) (now edges) rules ⌝ }
+    ensures { λ r. ⌜ ((rs : List Rule) → Holds (now (headers .entry)) (now (states .entry)) (now (edges .entry)) rules rs
+        → r ≡ orElse (faultOf rs (now (pool .entry)) token) (differs separator (separates rs (token .tag))) number) ⌝ }
+{
+    let fault = token_list::faults::token_fault(headers, states, edges, rules, pool, token);
+    if fault != 0 {
+        return fault;
+    }
+    if is_separator(headers, rules, token.tag) {
+        if separator {
+            return 0;
+        }
+        return number;
+    }
+    if separator {
+        return number;
+    }
+    0
+}
+
+// The first token of the list that is at fault.
+pub fn check_tokens(
+    headers: &[u64],
+    states: &[u16],
+    edges: &[u64],
+    rules: usize,
+    records: &[u8],
+    pool: &[u8],
+) -> Checked
+    requires { ⌜ Held (now headers) (now states) (now edges) rules ⌝ }
+    ensures { λ r. ⌜ ((rs : List Rule) → Holds (now (headers .entry)) (now (states .entry)) (now (edges .entry)) rules rs
+        → r ≡ checkedOf (firstFault (plainFault rs (now (pool .entry))) (recordsOf (now (records .entry))) 0)) ⌝ }
+{
+    let count = records.len() / 10;
+    let mut k = 0;
+    while k < count {
+        let token = record::read_record(records, k);
+        let number = fault_or_kind(
+            headers,
+            states,
+            edges,
+            rules,
+            pool,
+            token,
+            false,
+            Refusal::SEPARATOR_IN_LIST,
+        );
+        if number != 0 {
+            return refused(number, k);
+        }
+        k += 1;
+    }
+    Checked::Passed
+}
+
+// All the checks of a call, in the order of document 01.
+pub fn check_call(
+    headers: &[u64],
+    states: &[u16],
+    edges: &[u64],
+    rules: usize,
+    separator: TokenRecord,
+    mode: u32,
+    records: &[u8],
+    pool: &[u8],
+) -> Checked
+    requires { ⌜ Held (now headers) (now states) (now edges) rules ⌝ }
+    ensures { λ r. ⌜ ((rs : List Rule) → Holds (now (headers .entry)) (now (states .entry)) (now (edges .entry)) rules rs
+        → r ≡ checkedOf (separatedRefusal rs separator mode (now (records .entry)) (now (pool .entry)))) ⌝ }
+{
+    match used_bytes::shared_byte(headers, states, edges, rules) {
+        Lowest::Byte(b) => refused(Refusal::SHARED_BYTE, b),
+        Lowest::Nothing => check_list(
+            headers,
+            states,
+            edges,
+            rules,
+            separator,
+            mode,
+            records,
+            pool,
+        ),
+    }
+}
+
+// The same after the used bytes.
+fn check_list(
+    headers: &[u64],
+    states: &[u16],
+    edges: &[u64],
+    rules: usize,
+    separator: TokenRecord,
+    mode: u32,
+    records: &[u8],
+    pool: &[u8],
+) -> Checked
+    requires { ⌜ Held (now headers) (now states) (now edges) rules ⌝ }
+    ensures { λ r. ⌜ ((rs : List Rule) → Holds (now (headers .entry)) (now (states .entry)) (now (edges .entry)) rules rs
+        → r ≡ checkedOf (listRefusal rs separator mode (now (records .entry)) (now (pool .entry)))) ⌝ }
+{
+    if 2 < mode {
+        return refused(Refusal::UNKNOWN_MODE, 0);
+    }
+    let count = records.len() / 10;
+    let number = fault_or_kind(
+        headers,
+        states,
+        edges,
+        rules,
+        pool,
+        separator,
+        true,
+        Refusal::NO_SEPARATOR,
+    );
+    if number != 0 {
+        return refused(number, count);
+    }
+    if Book::TOKENS < count {
+        return refused(Refusal::TOO_MANY_TOKENS, 0);
+    }
+    check_tokens(headers, states, edges, rules, records, pool)
+}

@@ -1,0 +1,8 @@
+-- What the proofs of this crate share, and the laws for the layers above.
+pub mod Tests
+pub mod Arrays
+pub mod Locals
+pub mod Opening
+pub mod Starting
+pub mod Turning
+pub mod Staging

@@ -1,0 +1,44 @@
+-- `begin_rules`: each return is one case of `Opens`. Assumes nothing.
+use mathlib.Core.List.{List}
+use mathlib.Core.Logic.{⊎-elim}
+use Prim.Native.Nat.{_≤_}
+use native.Mathlib.Omega.{arith}
+use lib.ListN.{length}
+use borrow.Author.Needs.{needs}
+use denote.Ref.{now}
+use Rattle.automaton.specs.Rule.{Rule}
+use Rattle.longest_match.specs.Lexer.{lex}
+use Rattle.longest_match.specs.Contracts.{Holds}
+use Rattle.longest_match.proofs.Lexing.{lex-few}
+use Rattle.slices.proofs.Opening.{opens-long, opens-few, opens-turn}
+use Rattle.slices.proofs.lexing.begin_rules.Statement.{statement}
+use Rattle.slices.proofs.lexing.begin_rules.Tie as tie
+
+-- there is room for the tokens, counted or not
+fits : (c : tie.Joined2) (rs : List Rule) → Holds (now (c .before .before .before .before .before .before .args .headers)) (now (c .before .before .before .before .before .before .args .states)) (now (c .before .before .before .before .before .before .args .edges)) (c .before .before .before .before .before .before .args .rules) rs → length ((lex rs (now (c .before .before .before .before .before .before .args .text))) .tokens) ≤ c .before .before .before .before .before .before .args .room
+fits c rs h = ⊎-elim (λ w. omega (arith, w .1 .ensures rs h .tokens-are, w .3 .left)) (λ w. omega (arith, w .left, lex-few rs (now (c .before .before .before .before .before .before .args .text)))) (c .if2 .came)
+
+refuse-requires : tie.Need-refuse-requires
+refuse-requires c κs = search needs
+
+returns : tie.Need-returns
+returns c = λ rs h. opens-long (c .before .if1 .taken) (c .refuse .ensures)
+
+count-requires : tie.Need-count-requires
+count-requires c κs = search needs
+
+refuse-requires-2 : tie.Need-refuse-requires-2
+refuse-requires-2 c κs = search needs
+
+returns-2 : tie.Need-returns-2
+returns-2 c = λ rs h. opens-few (c .before .before .before .before .before .if1 .left) (c .before .before .before .count .ensures rs h) (c .before .if3 .taken) (c .refuse2 .ensures)
+
+turn-at-requires : tie.Need-turn-at-requires
+turn-at-requires c κs = search needs
+
+returns-3 : tie.Need-returns-3
+returns-3 c = λ rs h. opens-turn (c .before .before .if1 .left) (fits (c .before) rs h) (c .turn-at .ensures rs h)
+
+pub begin-rules-spec : {M : Type 1} → statement M
+begin-rules-spec =
+    tie.close (tie.spec refuse-requires returns count-requires refuse-requires-2 returns-2 turn-at-requires returns-3)

@@ -1,0 +1,21 @@
+-- `finish_scratch`: each return is one case of `Finishes`. Assumes nothing.
+use mathlib.Core.Path.{refl}
+use borrow.Author.Needs.{needs}
+use Rattle.automaton.proofs.Tests.{clash}
+use Rattle.slices.proofs.printing.finish_scratch.Statement.{statement}
+use Rattle.slices.proofs.printing.finish_scratch.Tie as tie
+
+returns : tie.Need-returns
+returns c = record { refuses = λ _. (refl, refl); lacks = λ p _. clash (c .if1 .taken) p; prints = λ p _. clash (c .if1 .taken) p }
+
+write-requires : tie.Need-write-requires
+write-requires c κs = search needs
+
+same-length : tie.Need-same-length
+same-length c = search needs
+
+returns-2 : tie.Need-returns-2
+returns-2 c = record { refuses = λ p. clash p (c .before .before .before .before .if1 .left); lacks = λ _. c .before .before .write .ensures .lacks; prints = λ _. c .before .before .write .ensures .prints }
+
+pub finish-scratch-spec : {M : Type 1} → statement M
+finish-scratch-spec = tie.close (tie.spec returns write-requires same-length returns-2)

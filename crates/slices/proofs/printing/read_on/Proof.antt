@@ -1,0 +1,34 @@
+-- `read_on`: what is chosen is as long as the token, or longer. Assumes nothing.
+use borrow.Author.Tests.{eq-eqb, ne-eqb}
+use borrow.Author.Needs.{needs}
+use Rattle.slices.proofs.printing.read_on.Statement.{statement}
+use Rattle.slices.proofs.printing.read_on.Tie as tie
+
+choose-within-requires : tie.Need-choose-within-requires
+choose-within-requires c κs = search needs
+
+refuse-requires : tie.Need-refuse-requires
+refuse-requires c κs = search needs
+
+returns : tie.Need-returns
+returns c = λ rs h. record {
+  rule = c .before .before .before .choose-within .result .rule;
+  most = c .before .before .before .choose-within .result .len;
+  chooses = c .before .before .before .choose-within .ensures rs h;
+  result = rw (ne-eqb _ _ (c .before .if1 .taken)) (c .refuse .ensures);
+}
+
+move-on-requires : tie.Need-move-on-requires
+move-on-requires c κs = search needs
+
+returns-2 : tie.Need-returns-2
+returns-2 c = λ rs h. record {
+  rule = c .before .before .before .choose-within .result .rule;
+  most = c .before .before .before .choose-within .result .len;
+  chooses = c .before .before .before .choose-within .ensures rs h;
+  result = rw (eq-eqb _ _ (c .before .if1 .left)) (c .move-on .ensures);
+}
+
+pub read-on-spec : {M : Type 1} → statement M
+read-on-spec =
+    tie.close (tie.spec choose-within-requires refuse-requires returns move-on-requires returns-2)

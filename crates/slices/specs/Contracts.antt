@@ -1,0 +1,174 @@
+-- What the layers of the code ask and answer between themselves. Nobody needs to believe it: the operations' contracts do not rest on it.
+use mathlib.Core.Path.{_≡_}
+use mathlib.Core.Bool.{true, false}
+use mathlib.Core.Option.{none}
+use mathlib.Core.List.{List}
+use Prim.Native.Nat.{ℕ, _+_, _%_, _^_, _<_, _≤_, _*_}
+use lib.ListN.{length, drop, take}
+use lib.Dec.{ltb, eqb}
+use lib.Seq.{paste}
+use Rattle.answer.specs.declared.Refusal.{Refusal}
+use Rattle.answer.specs.declared.LexAnswer.{LexAnswer}
+use Rattle.answer.specs.declared.PrintAnswer.{PrintAnswer}
+use Rattle.automaton.specs.Choice.{if}
+use Rattle.automaton.specs.Rule.{Rule}
+use Rattle.automaton.specs.Contracts.{ruleAt}
+use Rattle.book.specs.Limits.{maxText, maxTokens}
+use Rattle.reader.specs.Reading.{readBook, accepted}
+use Rattle.longest_match.specs.Lexer.{choose, lex}
+use Rattle.longest_match.specs.Contracts.{Held, Chooses, Holds}
+use Rattle.record.specs.Records.{recordCount}
+use Rattle.record.specs.Encoding.{noToken}
+use Rattle.record.specs.declared.TokenRecord.{TokenRecord}
+use Rattle.record.specs.Contracts.{Small}
+use Rattle.lexer.specs.Outcome.{lexRules, lexOutcome}
+use Rattle.lexer.specs.Contracts.{LexAnswered}
+use Rattle.token_list.specs.Faults.{faultOf}
+use Rattle.printer.specs.Contracts.{PrintAnswered}
+use Rattle.printer.specs.Outcome.{printOutcome}
+use Rattle.slices.specs.declared.lexing.Turn.{Turn}
+use Rattle.slices.specs.declared.printing.Stage.{Stage}
+use Rattle.answer.specs.declared.LexAnswer.the-variants as answer
+use Rattle.answer.specs.declared.PrintAnswer.the-variants as print
+
+-- ---- The turns of lexing into a slice of tokens, said of the rules that the tables hold.
+
+abbrev pub refusedTurn : ℕ → ℕ → Turn
+refusedTurn number place =
+    record { more = false; index = 0; token = noToken; next = 0; rules = 0; refused = true; number = number; place = place }
+
+abbrev pub turnRefusal : Turn → Refusal
+turnRefusal t = record { number = t .number; place = t .place }
+
+-- what a turn without a token answers
+abbrev pub answerOf : Turn → LexAnswer
+answerOf t = if (t .refused) (answer.Refused (turnRefusal t)) (answer.Lexed (t .index) (t .next))
+
+-- the token of the turn is the one that is chosen at `at`
+pub record Chosen (rules : List Rule) (text : List ℕ) (at : ℕ) (t : Turn) : Type 0 where
+  pub rule : ℕ
+  pub chooses : Chooses rules (drop at text) rule (t .token .length)
+  pub some : 0 < t .token .length
+  pub tag : t .token .tag ≡ (ruleAt rules rule) .tag % 65536
+  pub place : t .token .place ≡ at
+  pub next : t .next ≡ at + t .token .length
+
+-- the turn after `index` tokens, where the text goes on at `at`
+pub record Turns (rules : List Rule) (text : List ℕ) (n index at : ℕ) (t : Turn) : Type 0 where
+  pub plain : t .refused ≡ false
+  pub count : t .rules ≡ n
+  pub stored : t .index ≡ index
+  pub stops : t .more ≡ false → (choose rules (drop at text) ≡ none) × (t .next ≡ at)
+  pub goes : t .more ≡ true → Chosen rules text at t
+
+-- the tables and the text by which a turn goes on
+pub record Ready (hs ss es text : List ℕ) (t : Turn) : Type 0 where
+  pub held : Held hs ss es (t .rules)
+  pub counts : t .index + 1 < 2 ^ 64
+  pub within : t .next ≤ length text
+  pub short : length text ≤ maxText
+
+-- the first turn where neither 14 nor 15 applies
+pub record Started (rules : List Rule) (text : List ℕ) (n room : ℕ) (t : Turn) : Type 0 where
+  pub short : length text ≤ maxText
+  pub enough : length ((lex rules text) .tokens) ≤ room
+  pub turns : Turns rules text n 0 0 t
+
+-- the first turn by these rules: 14, 15, or the first token
+pub record Opens (rules : List Rule) (text : List ℕ) (n room : ℕ) (t : Turn) : Type 0 where
+  pub idle : t .refused ≡ true → t .more ≡ false
+  pub refuses : t .refused ≡ true → (records : List ℕ) → recordCount records ≡ room → LexAnswered (lexRules rules text records) (answer.Refused (turnRefusal t)) records
+  pub starts : t .refused ≡ false → Started rules text n room t
+
+-- ---- The first turn by a book.
+
+-- refused, or the first turn by the rules of the book
+pub record Begun (book text : List ℕ) (room : ℕ) (hs ss es : List ℕ) (t : Turn) : Type 0 where
+  pub idle : t .refused ≡ true → t .more ≡ false
+  pub refuses : t .refused ≡ true → (records : List ℕ) → recordCount records ≡ room → LexAnswered (lexOutcome book text records) (answer.Refused (turnRefusal t)) records
+  pub starts : t .refused ≡ false → (rules : List Rule) × ((readBook book ≡ accepted rules) × (Holds hs ss es (t .rules) rules × Started rules text (t .rules) room t))
+
+-- ---- The stages of printing a slice of tokens.
+
+-- ---- the stages
+
+abbrev pub going : ℕ → ℕ → ℕ → ℕ → ℕ → Stage
+going pass index at total rules =
+    record { more = true; pass = pass; index = index; at = at; total = total; rules = rules; refused = false; number = 0; place = 0 }
+
+-- every token has passed; there are `total` bytes
+abbrev pub done : ℕ → Stage
+done total =
+    record { more = false; pass = 0; index = 0; at = 0; total = total; rules = 0; refused = false; number = 0; place = 0 }
+
+abbrev pub refusedStage : ℕ → ℕ → Stage
+refusedStage number place =
+    record { more = false; pass = 0; index = 0; at = 0; total = 0; rules = 0; refused = true; number = number; place = place }
+
+abbrev pub stageRefusal : Stage → Refusal
+stageRefusal s = record { number = s .number; place = s .place }
+
+-- ---- from stage to stage
+
+-- a pass is over after `at` bytes: the first with 20 where they are too many
+abbrev pub passOver : ℕ → ℕ → ℕ → ℕ → Stage
+passOver pass at total rules =
+    if (eqb pass 0) (if (ltb maxText at) (refusedStage 20 0) (going 1 0 0 at rules))
+    (if (eqb pass 1) (going 2 0 0 total rules)
+    (done total))
+
+-- the stage after a token of `len` bytes
+abbrev pub movedOn : Stage → ℕ → ℕ → Stage
+movedOn s len count =
+    if (ltb (s .index + 1) count) (going (s .pass) (s .index + 1) (s .at + len) (s .total) (s .rules))
+    (passOver (s .pass) (s .at + len) (s .total) (s .rules))
+
+-- the first pass: the token's fault, 0 for none
+abbrev pub checked : ℕ → Stage → ℕ → ℕ → Stage
+checked number s len count = if (eqb number 0) (movedOn s len count) (refusedStage number (s .index))
+
+-- the third pass: as many bytes are chosen at the token's place as it has, or 21
+pub record Reads (rules : List Rule) (text : List ℕ) (s : Stage) (len count : ℕ) (r : Stage) : Type 0 where
+  pub rule : ℕ
+  pub most : ℕ
+  pub chooses : Chooses rules (drop (s .at) text) rule most
+  pub result : r ≡ if (eqb most len) (movedOn s len count) (refusedStage 21 (s .index))
+
+-- what a step asks
+pub record Steps (hs ss es scratch pool : List ℕ) (s : Stage) (t : TokenRecord) : Type 0 where
+  pub held : Held hs ss es (s .rules)
+  pub sized : length scratch ≡ maxText
+  pub small : Small t
+  pub few : s .index < maxTokens
+  pub checks : s .pass ≡ 0 → s .at ≤ s .index * 4294967295
+  pub joins : s .pass ≡ 1 → (t .place + t .len ≤ length pool) × (s .at + t .len ≤ length scratch)
+  pub reads : (s .pass ≡ 0 → ⊥) → (s .pass ≡ 1 → ⊥) → (s .at ≤ s .total) × (s .total ≤ maxText)
+
+-- what a step does with token t
+pub record Stepped (hs ss es scratch after pool : List ℕ) (s : Stage) (t : TokenRecord) (count : ℕ) (r : Stage) : Type 0 where
+  pub checks : s .pass ≡ 0 → (after ≡ scratch) × ((rules : List Rule) → Holds hs ss es (s .rules) rules → r ≡ checked (faultOf rules pool t) s (t .len) count)
+  pub joins : s .pass ≡ 1 → (after ≡ paste scratch (s .at) (drop (t .place) pool) (t .len)) × (r ≡ movedOn s (t .len) count)
+  pub reads : (s .pass ≡ 0 → ⊥) → (s .pass ≡ 1 → ⊥)
+      → (after ≡ scratch) × ((rules : List Rule) → Holds hs ss es (s .rules) rules → Reads rules (take (s .total) scratch) s (t .len) count r)
+
+-- ---- the first stage and the last
+
+abbrev pub firstStage : ℕ → ℕ → Stage
+firstStage rules count = if (eqb count 0) (done 0) (going 0 0 0 0 rules)
+
+-- 16 before it
+abbrev pub begun : ℕ → ℕ → Stage
+begun rules count = if (ltb maxTokens count) (refusedStage 16 0) (firstStage rules count)
+
+-- the first stage of printing `count` tokens: refused by the book or by 16, or the first token
+pub record Begins (book : List ℕ) (count : ℕ) (hs ss es : List ℕ) (r : Stage) : Type 0 where
+  pub refuses : r .refused ≡ true → (r ≡ refusedStage (r .number) (r .place))
+      × ((records pool out : List ℕ) → recordCount records ≡ count → PrintAnswered (printOutcome book records pool out) (print.Refused (stageRefusal r)) out)
+  pub starts : r .refused ≡ false
+      → (rules : List Rule) × ((n : ℕ) × ((readBook book ≡ accepted rules) × (Holds hs ss es n rules × ((count ≤ maxTokens) × (r ≡ firstStage n count)))))
+
+-- the answer, by the joined bytes in the scratch
+pub record Finishes (scratch : List ℕ) (s : Stage) (out : List ℕ) (r : PrintAnswer) (exit : List ℕ) : Type 0 where
+  pub refuses : s .refused ≡ true → (r ≡ print.Refused (stageRefusal s)) × (exit ≡ out)
+  pub lacks : s .refused ≡ false → length out < s .total → (r ≡ print.Refused (record { number = 22; place = s .total })) × (exit ≡ out)
+  pub prints : s .refused ≡ false → s .total ≤ length out → (r ≡ print.Printed (s .total)) × (exit ≡ paste out 0 (drop 0 scratch) (s .total))

@@ -1,0 +1,65 @@
+// Lexing into a slice of token structs, for callers inside the server.
+// What is decided stands below, in functions over plain data; the function that holds the slice is one loop.
+// Printing a slice of token structs, for callers inside the server.
+// What is decided stands below, in functions over plain data; the function that holds the slice is one loop.
+pub mod lexing;
+pub mod printing;
+
+use answer::LexAnswer;
+use answer::PrintAnswer;
+use book::Book;
+use record::Token;
+ghost use mathlib.Core.Path.{_≡_};
+ghost use Rattle.record.specs.Encoding.{encoded};
+ghost use Rattle.lexer.specs.Outcome.{lexOutcome};
+ghost use Rattle.printer.specs.Outcome.{printOutcome};
+
+// Cuts `text` by the rules of a book, as `lexer::lex` does, into tokens of a slice: the number of tokens and the
+// place of the rest, or the refusal of document 01. The tokens past the count stay as they were.
+pub fn lex_tokens(book: &[u8], text: &[u8], tokens: &mut [Token]) -> LexAnswer
+    ensures { λ r. ⌜ (r ≡ (lexOutcome (now (book .entry)) (now (text .entry)) (encoded (now (tokens .entry)))) .answer)
+        × (encoded (now (tokens .exit)) ≡ (lexOutcome (now (book .entry)) (now (text .entry)) (encoded (now (tokens .entry)))) .records) ⌝ }
+{
+    let mut headers = [0u64; Book::RULES];
+    let mut states = [0u16; Book::CELLS];
+    let mut edges = [0u64; Book::EDGES];
+    let mut turn = crate::lexing::begin(
+        book,
+        &mut headers,
+        &mut states,
+        &mut edges,
+        text,
+        tokens.len(),
+    );
+    let h = &headers;
+    let s = &states;
+    let e = &edges;
+    while turn.more {
+        let index = turn.index;
+        tokens[index] = turn.token;
+        turn = crate::lexing::next(h, s, e, text, turn);
+    }
+    crate::lexing::answer(turn)
+}
+
+// Prints tokens whose bytes lie in `pool`, as `printer::print` does: the number of bytes, which stand at the start of `out`, or
+// the refusal of document 01. Every other byte of `out` stays as it was.
+pub fn print_tokens(book: &[u8], tokens: &[Token], pool: &[u8], out: &mut [u8]) -> PrintAnswer
+    ensures { λ r. ⌜ (r ≡ (printOutcome (now (book .entry)) (encoded (now (tokens .entry))) (now (pool .entry)) (now (out .entry))) .answer)
+        × (now (out .exit) ≡ (printOutcome (now (book .entry)) (encoded (now (tokens .entry))) (now (pool .entry)) (now (out .entry))) .out) ⌝ }
+{
+    let mut headers = [0u64; Book::RULES];
+    let mut states = [0u16; Book::CELLS];
+    let mut edges = [0u64; Book::EDGES];
+    let mut scratch = [0u8; Book::TEXT];
+    let count = tokens.len();
+    let mut stage = crate::printing::begin(book, &mut headers, &mut states, &mut edges, count);
+    let h = &headers;
+    let s = &states;
+    let e = &edges;
+    while stage.more {
+        let index = stage.index;
+        stage = crate::printing::step(h, s, e, &mut scratch, pool, stage, tokens[index], count);
+    }
+    crate::printing::finish(&scratch, stage, out)
+}

@@ -1,0 +1,289 @@
+// Printing a slice of tokens. The tokens are read in three passes, a token at a time: each is checked and their bytes are counted,
+// the bytes are joined in a scratch, and at each token it is asked whether a rule reads on into what follows. All that is decided
+// stands in `begin`, `step` and `finish`.
+use answer::BookAnswer;
+use answer::PrintAnswer;
+use answer::Refusal;
+use book::Book;
+use longest_match::Choice;
+use record::Token;
+use record::TokenRecord;
+ghost use mathlib.Core.Path.{_≡_};
+ghost use mathlib.Core.List.{List};
+ghost use Prim.Native.Nat.{_+_, _*_, _^_, _<_, _≤_};
+ghost use lib.ListN.{length, take, drop};
+ghost use lib.Seq.{paste};
+ghost use Rattle.automaton.specs.Rule.{Rule};
+ghost use Rattle.book.specs.Contracts.{Fresh};
+ghost use Rattle.book.specs.Limits.{maxText, maxTokens};
+ghost use Rattle.longest_match.specs.Contracts.{Holds, Held, Chooses};
+ghost use Rattle.record.specs.Contracts.{Small};
+ghost use Rattle.record.specs.Encoding.{recordIn};
+ghost use Rattle.token_list.specs.Faults.{faultOf};
+ghost use Rattle.slices.specs.Contracts.{going, done, refusedStage, movedOn, checked, Reads, Steps, Stepped, begun, Begins, Finishes};
+
+// Where printing stands: the pass, the number of the token to be read, and how many bytes its pass is past; `total` is known
+// after the first pass. Where no token is to be read, all have passed, or the call is refused.
+pub struct Stage {
+    pub more: bool,
+    pub pass: u8,
+    pub index: usize,
+    pub at: usize,
+    pub total: usize,
+    pub rules: usize,
+    pub refused: bool,
+    pub number: u8,
+    pub place: usize,
+}
+
+impl Stage {
+    // The passes; the third asks what reads on.
+    pub const CHECK: u8 = 0;
+
+    pub const JOIN: u8 = 1;
+
+    pub const READ: u8 = 2;
+}
+
+fn go(pass: u8, index: usize, at: usize, total: usize, rules: usize) -> Stage
+    ensures { λ r. ⌜ r ≡ going pass index at total rules ⌝ }
+{
+    Stage {
+        more: true,
+        pass,
+        index,
+        at,
+        total,
+        rules,
+        refused: false,
+        number: 0,
+        place: 0,
+    }
+}
+
+fn end(total: usize) -> Stage
+    ensures { λ r. ⌜ r ≡ done total ⌝ }
+{
+    Stage {
+        more: false,
+        pass: 0,
+        index: 0,
+        at: 0,
+        total,
+        rules: 0,
+        refused: false,
+        number: 0,
+        place: 0,
+    }
+}
+
+fn refuse(number: u8, place: usize) -> Stage
+    ensures { λ r. ⌜ r ≡ refusedStage number place ⌝ }
+{
+    Stage {
+        more: false,
+        pass: 0,
+        index: 0,
+        at: 0,
+        total: 0,
+        rules: 0,
+        refused: true,
+        number,
+        place,
+    }
+}
+
+// The stage after a token of `len` bytes that passed.
+fn move_on(stage: Stage, len: usize, count: usize) -> Stage
+    requires { ⌜ (stage .index + 1 < 2 ^ 64) × (stage .at + len < 2 ^ 64) ⌝ }
+    ensures { λ r. ⌜ r ≡ movedOn stage len count ⌝ }
+{
+    let index = stage.index + 1;
+    let at = stage.at + len;
+    if index < count {
+        return go(stage.pass, index, at, stage.total, stage.rules);
+    }
+    if stage.pass == Stage::CHECK {
+        if Book::TEXT < at {
+            return refuse(Refusal::OUTPUT_TOO_LONG, 0);
+        }
+        return go(Stage::JOIN, 0, 0, at, stage.rules);
+    }
+    if stage.pass == Stage::JOIN {
+        return go(Stage::READ, 0, 0, stage.total, stage.rules);
+    }
+    end(stage.total)
+}
+
+fn check(
+    headers: &[u64],
+    states: &[u16],
+    edges: &[u64],
+    pool: &[u8],
+    stage: Stage,
+    token: TokenRecord,
+    count: usize,
+) -> Stage
+    requires { ⌜ Held (now headers) (now states) (now edges) (stage .rules) ⌝ }
+    requires { ⌜ Small token ⌝ }
+    requires { ⌜ (stage .index < maxTokens) × (stage .at ≤ stage .index * 4294967295) ⌝ }
+    ensures { λ r. ⌜ ((rs : List Rule) → Holds (now (headers .entry)) (now (states .entry)) (now (edges .entry)) (stage .rules) rs
+        → r ≡ checked (faultOf rs (now (pool .entry)) token) stage (token .len) count) ⌝ }
+{
+    let len = token.len;
+    let rules = stage.rules;
+    let number = token_list::faults::token_fault(headers, states, edges, rules, pool, token);
+    if number != 0 {
+        return refuse(number, stage.index);
+    }
+    move_on(stage, len, count)
+}
+
+fn join(pool: &[u8], scratch: &mut [u8], stage: Stage, token: TokenRecord, count: usize) -> Stage
+    requires { ⌜ (token .place + token .len ≤ length (now pool)) × (stage .at + token .len ≤ length (now scratch)) ⌝ }
+    requires { ⌜ stage .index < maxTokens ⌝ }
+    ensures { λ r. ⌜ (now (scratch .exit) ≡ paste (now (scratch .entry)) (stage .at) (drop (token .place) (now (pool .entry))) (token .len)) × (r ≡ movedOn stage (token .len) count) ⌝ }
+{
+    let place = token.place;
+    let len = token.len;
+    let at = stage.at;
+    output::copy(pool, place, len, scratch, at);
+    move_on(stage, len, count)
+}
+
+// What is chosen from `at` on of the first `total` bytes of the scratch.
+fn choose_within(
+    headers: &[u64],
+    states: &[u16],
+    edges: &[u64],
+    rules: usize,
+    scratch: &[u8],
+    total: usize,
+    at: usize,
+) -> Choice
+    requires { ⌜ Held (now headers) (now states) (now edges) rules ⌝ }
+    requires { ⌜ (at ≤ total) × (total ≤ length (now scratch)) ⌝ }
+    ensures { λ r. ⌜ ((rs : List Rule) → Holds (now (headers .entry)) (now (states .entry)) (now (edges .entry)) rules rs
+        → Chooses rs (drop at (take total (now (scratch .entry)))) (r .rule) (r .len)) ⌝ }
+{
+    longest_match::choose_at(headers, states, edges, rules, &scratch[..total], at)
+}
+
+fn read_on(
+    headers: &[u64],
+    states: &[u16],
+    edges: &[u64],
+    scratch: &[u8],
+    stage: Stage,
+    len: usize,
+    count: usize,
+) -> Stage
+    requires { ⌜ Held (now headers) (now states) (now edges) (stage .rules) ⌝ }
+    requires { ⌜ (stage .at ≤ stage .total) × (stage .total ≤ maxText) × (length (now scratch) ≡ maxText) ⌝ }
+    requires { ⌜ (len < 4294967296) × (stage .index < maxTokens) ⌝ }
+    ensures { λ r. ⌜ ((rs : List Rule) → Holds (now (headers .entry)) (now (states .entry)) (now (edges .entry)) (stage .rules) rs
+        → Reads rs (take (stage .total) (now (scratch .entry))) stage len count r) ⌝ }
+{
+    let rules = stage.rules;
+    let total = stage.total;
+    let at = stage.at;
+    let chosen = choose_within(headers, states, edges, rules, scratch, total, at);
+    if chosen.len != len {
+        return refuse(Refusal::READ_ON, stage.index);
+    }
+    move_on(stage, len, count)
+}
+
+fn step_pass(
+    headers: &[u64],
+    states: &[u16],
+    edges: &[u64],
+    scratch: &mut [u8],
+    pool: &[u8],
+    stage: Stage,
+    token: TokenRecord,
+    count: usize,
+) -> Stage
+    requires { ⌜ Steps (now headers) (now states) (now edges) (now scratch) (now pool) stage token ⌝ }
+    ensures { λ r. ⌜ Stepped (now (headers .entry)) (now (states .entry)) (now (edges .entry)) (now (scratch .entry)) (now (scratch .exit)) (now (pool .entry)) stage token count r ⌝ }
+{
+    if stage.pass == Stage::CHECK {
+        return check(headers, states, edges, pool, stage, token, count);
+    }
+    if stage.pass == Stage::JOIN {
+        return join(pool, scratch, stage, token, count);
+    }
+    read_on(headers, states, edges, scratch, stage, token.len, count)
+}
+
+// The stage after token number `stage.index` of `count`.
+pub fn step(
+    headers: &[u64; Book::RULES],
+    states: &[u16; Book::CELLS],
+    edges: &[u64; Book::EDGES],
+    scratch: &mut [u8; Book::TEXT],
+    pool: &[u8],
+    stage: Stage,
+    token: Token,
+    count: usize,
+) -> Stage
+    requires { ⌜ Steps (now headers) (now states) (now edges) (now scratch) (now pool) stage (recordIn token) ⌝ }
+    ensures { λ r. ⌜ Stepped (now (headers .entry)) (now (states .entry)) (now (edges .entry)) (now (scratch .entry)) (now (scratch .exit)) (now (pool .entry)) stage (recordIn token) count r ⌝ }
+{
+    let said = TokenRecord {
+        tag: token.tag as u64,
+        place: token.place as usize,
+        len: token.length as usize,
+    };
+    step_pass(headers, states, edges, scratch, pool, stage, said, count)
+}
+
+fn begin_rules(rules: usize, count: usize) -> Stage
+    ensures { λ r. ⌜ r ≡ begun rules count ⌝ }
+{
+    if Book::TOKENS < count {
+        refuse(Refusal::TOO_MANY_TOKENS, 0)
+    } else if count == 0 {
+        end(0)
+    } else {
+        go(Stage::CHECK, 0, 0, 0, rules)
+    }
+}
+
+// The first stage of printing `count` tokens by a book; the tables are lent fresh, and hold the book's rules afterwards.
+pub fn begin(
+    book: &[u8],
+    headers: &mut [u64; Book::RULES],
+    states: &mut [u16; Book::CELLS],
+    edges: &mut [u64; Book::EDGES],
+    count: usize,
+) -> Stage
+    requires { ⌜ Fresh (now headers) (now states) (now edges) ⌝ }
+    ensures { λ r. ⌜ Begins (now (book .entry)) count (now (headers .exit)) (now (states .exit)) (now (edges .exit)) r ⌝ }
+{
+    match reader::load_arrays(book, headers, states, edges) {
+        BookAnswer::Accepted(rules) => begin_rules(rules, count),
+        BookAnswer::Refused(refusal) => refuse(refusal.number, refusal.place),
+    }
+}
+
+fn finish_scratch(scratch: &[u8], stage: Stage, out: &mut [u8]) -> PrintAnswer
+    requires { ⌜ stage .total ≤ length (now scratch) ⌝ }
+    ensures { λ r. ⌜ Finishes (now (scratch .entry)) stage (now (out .entry)) r (now (out .exit)) ⌝ }
+{
+    if stage.refused {
+        return PrintAnswer::Refused(Refusal {
+            number: stage.number,
+            place: stage.place,
+        });
+    }
+    output::write(scratch, 0, stage.total, out)
+}
+
+// What is answered when there is no token to be read: the joined bytes are written, or the call is refused.
+pub fn finish(scratch: &[u8; Book::TEXT], stage: Stage, out: &mut [u8]) -> PrintAnswer
+    requires { ⌜ stage .total ≤ length (now scratch) ⌝ }
+    ensures { λ r. ⌜ Finishes (now (scratch .entry)) stage (now (out .entry)) r (now (out .exit)) ⌝ }
+{
+    finish_scratch(scratch, stage, out)
+}

@@ -1,2 +1,0 @@
--- What the code asks.
-pub mod Answers

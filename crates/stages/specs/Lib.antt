@@ -1,2 +1,0 @@
--- The stages of printing a slice of tokens.
-pub mod Stages

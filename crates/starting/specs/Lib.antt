@@ -1,2 +1,0 @@
--- The first turn by a book.
-pub mod Starting

@@ -1,2 +1,0 @@
--- What a slice of tokens says as ten-byte records.
-pub mod Encoding

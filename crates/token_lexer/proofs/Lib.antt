@@ -1,2 +1,0 @@
--- What the proof of this crate stands on.
-mod Turning

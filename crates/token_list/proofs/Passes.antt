@@ -1,0 +1,247 @@
+-- The passes over a list of tokens: what holds at the head of each loop, and how a turn keeps it. Assumes nothing.
+use mathlib.Core.Path.{_≡_, refl, sym, ap, _∙_, subst}
+use mathlib.Core.Bool.{Bool, true, false, not}
+use mathlib.Core.Option.{none}
+use mathlib.Core.List.{List, [], _∷_, _++_, append-assoc, append-nil}
+use Prim.Native.Nat.{ℕ, zero, suc, _+_, _-_, _*_, _<_, _≤_}
+use native.Mathlib.Omega.{arith}
+use native.Mathlib.Nat.{add-zero}
+use native.Mathlib.Numerals.{add-one}
+use lib.Dec.{eqb}
+use lib.ListN.{length, take, drop, length-append, length-drop, take-append-drop}
+use lib.Seq.{paste, length-paste, take-paste, drop-paste, drop-drop, drop-at, length-take-le}
+use borrow.Author.Tests.{lt-ltb, le-ltb, eqb-true, ne-eqb}
+use Rattle.automaton.specs.Choice.{All}
+use Rattle.automaton.specs.Rule.{Rule}
+use Rattle.longest_match.specs.Lexer.{firstMatch, join}
+use Rattle.longest_match.specs.Contracts.{Chooses}
+use Rattle.longest_match.proofs.First.{nothing}
+use Rattle.record.specs.Records.{recordCount}
+use Rattle.record.specs.declared.TokenRecord.{TokenRecord}
+use Rattle.record.specs.Tokens.{recordAt, recordsFrom, recordsOf, bytesIn, tokensIn, tokensOf}
+use Rattle.record.specs.Contracts.{InPool}
+use Rattle.token_list.specs.Faults.{faultOf}
+use Rattle.token_list.specs.Checks.{refuse, firstFault, firstExtended}
+use Rattle.token_list.specs.Contracts.{measured, Fitting, Joined, Laid, extendedAt}
+use Rattle.token_list.proofs.Alone.{alone-first}
+use Rattle.token_list.proofs.Faulting.{Faultless, faultless, bytes-length}
+use Rattle.token_list.proofs.Extended.{read-no-more, read-on}
+use Rattle.token_list.specs.declared.Measured.the-variants as measure
+
+-- ---- the records from number k on
+
+unfoldable pub left : List ℕ → ℕ → List TokenRecord
+left records k = recordsFrom records k (recordCount records - k)
+
+pub left-start : (records : List ℕ) → recordsOf records ≡ left records 0
+unfolding recordsOf left
+left-start records = let q : recordCount records ≡ recordCount records - 0 = omega arith in ap (recordsFrom records 0) q
+
+pub left-next : (records : List ℕ) (k : ℕ) → k < recordCount records → left records k ≡ recordAt records k ∷ left records (k + 1)
+unfolding left recordsFrom
+left-next records k l = let q : recordCount records - k ≡ suc (recordCount records - (k + 1)) = omega arith in rw (q, add-one)
+
+pub left-end : (records : List ℕ) (k : ℕ) → recordCount records ≤ k → left records k ≡ []
+unfolding left recordsFrom
+left-end records k l = let q : recordCount records - k ≡ 0 = omega arith in rw q
+
+-- what holds of every record holds of record number k
+pub record-at : (P : TokenRecord → Type 0) (records : List ℕ) → All P (recordsOf records) → (k : ℕ) → k < recordCount records → P (recordAt records k)
+record-at P records h k l = (subst (All P) (left-next records k l) (from k (omega arith))) .0
+  where
+    from : (j : ℕ) → j ≤ recordCount records → All P (left records j)
+    from zero p = subst (All P) (left-start records) h
+    from (suc j) p =
+        let q : j < recordCount records = omega arith in
+        subst (λ (i : ℕ). All P (left records i)) (add-one j) ((subst (All P) (left-next records j q) (from j (omega arith))) .1)
+
+-- ---- the first fault, and the number of bytes
+
+-- the first k tokens have no fault, and `total` bytes
+pub record Measuring (rules : List Rule) (records pool : List ℕ) (total k : ℕ) : Type 0 where
+  pub within : k ≤ recordCount records
+  pub few : total ≤ k * 4294967295
+  pub first : firstFault (faultOf rules pool) (recordsOf records) 0 ≡ firstFault (faultOf rules pool) (left records k) k
+  pub sum : length (join (tokensOf records pool)) ≡ total + length (join (tokensIn pool (left records k)))
+
+pub measuring-start : (rules : List Rule) (records pool : List ℕ) → Measuring rules records pool 0 0
+measuring-start rules records pool =
+    record { within = omega arith; few = omega arith; first = rw left-start; sum = rw left-start (omega arith) }
+
+module _ {rules : List Rule} {records pool : List ℕ} {total k : ℕ} (w : Measuring rules records pool total k) where
+  module _ (more : k < recordCount records) {r : TokenRecord} (e : r ≡ recordAt records k) {number : ℕ} (f : number ≡ faultOf rules pool r) where
+    fault-here : faultOf rules pool (recordAt records k) ≡ number
+    fault-here = ap (faultOf rules pool) (sym e) ∙ sym f
+
+    pub measuring-refused : (number ≡ 0 → ⊥) → measure.Refused (record { number = number; place = k })
+        ≡ measured (firstFault (faultOf rules pool) (recordsOf records) 0) (length (join (tokensOf records pool)))
+    unfolding firstFault refuse
+    measuring-refused ne = rw (w .first, left-next records k more, fault-here, ne-eqb number 0 ne)
+
+    pub measuring-next : number ≡ 0 → r .len < 4294967296 → Measuring rules records pool (total + r .len) (k + 1)
+    unfolding firstFault refuse tokensIn
+    measuring-next z small =
+        let t = faultless rules pool r (sym f ∙ z) in
+        let l : length (bytesIn pool (recordAt records k)) ≡ r .len = ap (λ (q : TokenRecord). length (bytesIn pool q)) (sym e) ∙ bytes-length pool r (t .in-pool) in
+        let s = rw (left-next records k more) at (w .sum) in
+        record {
+          within = omega arith;
+          few = omega (arith, w .few);
+          first = w .first ∙ rw (left-next records k more, fault-here, z, add-one);
+          sum = omega (arith, length-append (bytesIn pool (recordAt records k)) (join (tokensIn pool (left records (k + 1)))));
+        }
+
+  pub measuring-end : recordCount records ≤ k → measure.Bytes total
+      ≡ measured (firstFault (faultOf rules pool) (recordsOf records) 0) (length (join (tokensOf records pool)))
+  unfolding firstFault tokensIn
+  measuring-end l = rw (w .first, w .sum, left-end records k l, add-zero)
+
+-- no fault in a list: none at its front and none behind
+pub faultless-front : (fault : TokenRecord → ℕ) (r : TokenRecord) (rs : List TokenRecord) (k : ℕ) → firstFault fault (r ∷ rs) k ≡ none
+    → (fault r ≡ 0) × (firstFault fault rs (suc k) ≡ none)
+unfolding firstFault refuse
+faultless-front fault r rs k e = go (eqb (fault r) 0) refl e
+  where
+    go : (t : Bool) → eqb (fault r) 0 ≡ t → refuse (not t) (fault r) k (firstFault fault rs (suc k)) ≡ none → (fault r ≡ 0) × (firstFault fault rs (suc k) ≡ none)
+    go true q z = (eqb-true (fault r) 0 q, z)
+    go false q z = nothing z refl
+
+-- tokens without fault lie in the pool
+pub faultless-pool : (rules : List Rule) (pool : List ℕ) (rs : List TokenRecord) (k : ℕ) → firstFault (faultOf rules pool) rs k ≡ none → All (InPool pool) rs
+faultless-pool rules pool [] k e = tt
+faultless-pool rules pool (r ∷ rs) k e =
+    let f = faultless-front (faultOf rules pool) r rs k e in
+    (record { in-pool = faultless rules pool r (f .0) .in-pool }, faultless-pool rules pool rs (suc k) (f .1))
+
+-- ---- joining
+
+-- the first k tokens are written, `at` bytes
+pub record Joining (records pool entry out : List ℕ) (at k : ℕ) : Type 0 where
+  pub within : k ≤ recordCount records
+  pub same : length out ≡ length entry
+  pub each : All (InPool pool) (left records k)
+  pub room : at + length (join (tokensIn pool (left records k))) ≤ length entry
+  pub written : join (tokensOf records pool) ≡ take at out ++ join (tokensIn pool (left records k))
+  pub kept : drop at out ≡ drop at entry
+
+pub joining-start : (records pool out : List ℕ) → Fitting records pool out → Joining records pool out out 0 0
+joining-start records pool out f =
+    let q = left-start records in
+    let r : length (join (tokensIn pool (left records 0))) ≤ length out = rw left-start at (f .room) in
+    record { within = omega arith; same = refl; each = rw left-start at (f .each); room = omega arith; written = rw left-start; kept = refl }
+
+module _ {records pool entry out : List ℕ} {at k : ℕ} (w : Joining records pool entry out at k) where
+  module _ (more : k < recordCount records) {r : TokenRecord} (e : r ≡ recordAt records k) where
+    here : left records k ≡ r ∷ left records (k + 1)
+    here = left-next records k more ∙ ap (λ (q : TokenRecord). q ∷ left records (k + 1)) (sym e)
+
+    each-here : All (InPool pool) (r ∷ left records (k + 1))
+    each-here = subst (All (InPool pool)) here (w .each)
+
+    pub joining-pool : r .place + r .len ≤ length pool
+    joining-pool = each-here .0 .in-pool
+
+    parts : length (join (tokensIn pool (left records k))) ≡ r .len + length (join (tokensIn pool (left records (k + 1))))
+    unfolding tokensIn
+    parts = rw here (length-append (bytesIn pool r) (join (tokensIn pool (left records (k + 1)))) ∙ rw (bytes-length pool r joining-pool))
+
+    pub joining-room : at + r .len ≤ length out
+    joining-room = omega (arith, parts, w .room, w .same)
+
+    module _ {next : List ℕ} (p : next ≡ paste out at (drop (r .place) pool) (r .len)) where
+      source : r .len ≤ length (drop (r .place) pool)
+      source = simp length-drop (omega (arith, joining-pool))
+
+      pub joining-next : Joining records pool entry next (at + r .len) (k + 1)
+      unfolding tokensIn
+      joining-next =
+          let room : at + r .len ≤ length out = joining-room in
+          let below : at ≤ length out = omega arith in
+          record {
+            within = omega arith;
+            same = ap length p ∙ length-paste out at (drop (r .place) pool) (r .len) room source ∙ w .same;
+            each = each-here .1;
+            room = omega (arith, parts, w .room);
+            written =
+                w .written ∙ rw (here, p, take-paste out at (drop (r .place) pool) (r .len) below source, append-assoc);
+            kept =
+                ap (drop (at + r .len)) p ∙ drop-paste out at (drop (r .place) pool) (r .len) below source
+                ∙ sym (drop-drop (r .len) at out) ∙ ap (drop (r .len)) (w .kept) ∙ drop-drop (r .len) at entry;
+          }
+
+  pub joining-end : recordCount records ≤ k → Joined (join (tokensOf records pool)) entry out
+  unfolding tokensIn
+  joining-end l =
+      let b : join (tokensOf records pool) ≡ take at out = rw (left-end records k l, append-nil) at (w .written) in
+      let r = w .room in
+      let n : length (join (tokensOf records pool)) ≡ at = ap length b ∙ length-take-le at out (omega (arith, w .room, w .same)) in
+      record { written = rw (n, b, ← (w .kept)) (sym (take-append-drop at out)) }
+
+-- ---- the first token that is read on
+
+-- the first k tokens, `at` bytes, are not read on
+pub record Extending (rules : List Rule) (records pool text : List ℕ) (at k : ℕ) : Type 0 where
+  pub within : at ≤ length text
+  pub few : k ≤ recordCount records
+  pub behind : drop at text ≡ join (tokensIn pool (left records k))
+  pub faultless : firstFault (faultOf rules pool) (left records k) k ≡ none
+  pub first : firstExtended rules (tokensOf records pool) 0 ≡ firstExtended rules (tokensIn pool (left records k)) k
+
+pub extending-start : {rules : List Rule} {records pool text : List ℕ} → Laid rules records pool text → Extending rules records pool text 0 0
+extending-start {records = records} l =
+    record { within = omega arith; few = omega arith; behind = rw left-start at (l .written); faultless = rw left-start at (l .faultless); first = rw left-start }
+
+module _ {rules : List Rule} {records pool text : List ℕ} {at k : ℕ} (w : Extending rules records pool text at k) where
+  module _ (empty : firstMatch rules [] ≡ none) (more : k < recordCount records) {r : TokenRecord} (e : r ≡ recordAt records k)
+      {rule len : ℕ} (c : Chooses rules (drop at text) rule len) where
+    front-is : left records k ≡ r ∷ left records (k + 1)
+    front-is = left-next records k more ∙ ap (λ (q : TokenRecord). q ∷ left records (k + 1)) (sym e)
+
+    fine : (faultOf rules pool r ≡ 0) × (firstFault (faultOf rules pool) (left records (k + 1)) (suc k) ≡ none)
+    fine = faultless-front (faultOf rules pool) r (left records (k + 1)) k (rw front-is at (w .faultless))
+
+    token-fine : Faultless rules pool r
+    token-fine = faultless rules pool r (fine .0)
+
+    split : drop at text ≡ bytesIn pool r ++ join (tokensIn pool (left records (k + 1)))
+    unfolding tokensIn
+    split = rw front-is at (w .behind)
+
+    long : length (bytesIn pool r) ≡ r .len
+    long = bytes-length pool r (token-fine .in-pool)
+
+    chosen-here : Chooses rules (bytesIn pool r ++ join (tokensIn pool (left records (k + 1)))) rule len
+    chosen-here = subst (λ (x : List ℕ). Chooses rules x rule len) split c
+
+    pub extending-found : (len ≡ r .len → ⊥) → firstExtended rules (tokensOf records pool) 0 ≡ extendedAt k (recordCount records)
+    unfolding firstExtended tokensIn refuse
+    extending-found ne =
+        w .first ∙ rw (
+          front-is,
+          lt-ltb k (recordCount records) more,
+          read-on rules (bytesIn pool r) (join (tokensIn pool (left records (k + 1)))) (r .tag) empty (alone-first rules (r .tag) (bytesIn pool r) (token-fine .alone)) chosen-here (λ q. ne (q ∙ long)),
+        )
+
+    pub extending-within : at + r .len ≤ length text
+    extending-within =
+        let l = simp (length-drop, length-append) at (ap length split) in
+        omega (arith, w .within, long)
+
+    pub extending-next : len ≡ r .len → Extending rules records pool text (at + r .len) (k + 1)
+    unfolding firstExtended tokensIn refuse
+    extending-next q =
+        record {
+          within = extending-within;
+          few = omega arith;
+          behind = sym (drop-drop (r .len) at text) ∙ rw split (drop-at (bytesIn pool r) (join (tokensIn pool (left records (k + 1)))) (r .len) long);
+          faultless = ap (firstFault (faultOf rules pool) (left records (k + 1))) (add-one k) ∙ fine .1;
+          first = w .first ∙ rw (
+            front-is,
+            read-no-more rules (bytesIn pool r) (join (tokensIn pool (left records (k + 1)))) (r .tag) empty (alone-first rules (r .tag) (bytesIn pool r) (token-fine .alone)) chosen-here (q ∙ sym long),
+          )
+              (ap (firstExtended rules (tokensIn pool (left records (k + 1)))) (sym (add-one k)));
+        }
+
+  pub extending-end : recordCount records ≤ k → firstExtended rules (tokensOf records pool) 0 ≡ extendedAt k (recordCount records)
+  unfolding firstExtended tokensIn refuse
+  extending-end l = w .first ∙ rw (left-end records k l, le-ltb k (recordCount records) l)

@@ -1,0 +1,25 @@
+-- What a printer asks of one token.
+use mathlib.Core.Bool.{Bool, false, not}
+use mathlib.Core.List.{List, [], _∷_}
+use Prim.Native.Nat.{ℕ, _+_}
+use lib.Dec.{ltb, eqb}
+use lib.ListN.{length}
+use Rattle.automaton.specs.Choice.{if}
+use Rattle.automaton.specs.Rule.{Rule, matches}
+use Rattle.book.specs.Draft.{tagged}
+use Rattle.record.specs.declared.TokenRecord.{TokenRecord}
+use Rattle.record.specs.Tokens.{bytesIn}
+
+-- "A token alone is cut as itself when its rule matches its bytes and no earlier rule does": in book order, the rule of the tag
+-- comes before any other that matches, and it matches.
+unfoldable pub aloneIn : List Rule → ℕ → List ℕ → Bool
+aloneIn [] tag w = false
+aloneIn (r ∷ rs) tag w = if (eqb r.tag tag) (matches r w) (if (matches r w) false (aloneIn rs tag w))
+
+-- The number that refuses a token, 0 for none: "17 place plus length passes the pool, 18 tag not in the book, 19 not cut as itself alone".
+unfoldable pub faultOf : List Rule → List ℕ → TokenRecord → ℕ
+faultOf rules pool r =
+    if (ltb (length pool) (r .place + r .len)) 17
+    (if (not (tagged (r .tag) rules)) 18
+    (if (not (aloneIn rules (r .tag) (bytesIn pool r))) 19
+    0))

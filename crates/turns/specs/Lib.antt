@@ -1,2 +1,0 @@
--- The turns of lexing into a slice of tokens.
-pub mod Turns

@@ -1,3 +1,0 @@
--- The kinds of rules, and the bytes that they use.
-pub mod Kinds
-pub mod Bytes

@@ -1,0 +1,18 @@
+-- The kinds of rules and of tags.
+use mathlib.Core.Bool.{Bool, _&&_}
+use mathlib.Core.List.{List}
+use Prim.Native.Nat.{ℕ}
+use lib.Dec.{eqb}
+use Rattle.automaton.specs.Choice.{any}
+use Rattle.automaton.specs.Rule.{Rule}
+
+-- "kind (one byte: 0 plain, 1 separator)"
+abbrev pub plainKind : ℕ
+plainKind = 0
+
+abbrev pub separatorKind : ℕ
+separatorKind = 1
+
+-- the tag belongs to a rule of separator kind
+unfoldable pub separates : List Rule → ℕ → Bool
+separates rules tag = any (λ (r : Rule). eqb r.tag tag && eqb r.kind separatorKind) rules

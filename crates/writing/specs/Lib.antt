@@ -1,2 +1,0 @@
--- What writing bytes to an output answers and leaves there.
-pub mod Writing

@@ -1,0 +1,38 @@
+-- An answer in 64 bits: bits 56 to 63 the refusal's number, 0 where accepted. Refused: bits 0 to 55 the place. Accepted: bits 28 to 55
+-- the first value, bits 0 to 27 the second. A value that has more bits than its part is answered as the largest of the part: no
+-- buffer that a machine can lend has such a place, and no accepted call such a value.
+use Prim.Native.Nat.{ℕ, _+_, _*_, min}
+use Rattle.answer.specs.declared.Refusal.{Refusal}
+use Rattle.answer.specs.declared.BookAnswer.{BookAnswer}
+use Rattle.answer.specs.declared.LexAnswer.{LexAnswer}
+use Rattle.answer.specs.declared.PrintAnswer.{PrintAnswer}
+use Rattle.answer.specs.declared.BookAnswer.the-variants as book
+use Rattle.answer.specs.declared.LexAnswer.the-variants as lexer
+use Rattle.answer.specs.declared.PrintAnswer.the-variants as printer
+
+abbrev pub largestPlace : ℕ
+largestPlace = 72057594037927935
+
+abbrev pub largestValue : ℕ
+largestValue = 268435455
+
+abbrev pub refusalWord : Refusal → ℕ
+refusalWord f = f .number * 72057594037927936 + min (f .place) largestPlace
+
+abbrev pub acceptedWord : ℕ → ℕ → ℕ
+acceptedWord first second = min first largestValue * 268435456 + min second largestValue
+
+-- rule count, 0
+abbrev pub bookWord : BookAnswer → ℕ
+bookWord (book.Accepted rules) = acceptedWord rules 0
+bookWord (book.Refused f) = refusalWord f
+
+-- token count, place of the rest
+abbrev pub lexWord : LexAnswer → ℕ
+lexWord (lexer.Lexed tokens rest) = acceptedWord tokens rest
+lexWord (lexer.Refused f) = refusalWord f
+
+-- byte count, 0
+abbrev pub printWord : PrintAnswer → ℕ
+printWord (printer.Printed bytes) = acceptedWord bytes 0
+printWord (printer.Refused f) = refusalWord f

@@ -1,0 +1,46 @@
+// Answers in 64 bits, for C.
+use answer::LexAnswer;
+use answer::PrintAnswer;
+use answer::Refusal;
+ghost use mathlib.Core.Path.{_≡_};
+ghost use Prim.Native.Nat.{min};
+ghost use Rattle.zagvulem.specs.Words.{refusalWord, acceptedWord, lexWord, printWord};
+
+pub fn printed(answer: PrintAnswer) -> u64
+    ensures { λ r. ⌜ r ≡ printWord answer ⌝ }
+{
+    match answer {
+        PrintAnswer::Printed(bytes) => accepted(bytes, 0),
+        PrintAnswer::Refused(refusal) => refused(refusal),
+    }
+}
+
+pub fn lexed(answer: LexAnswer) -> u64
+    ensures { λ r. ⌜ r ≡ lexWord answer ⌝ }
+{
+    match answer {
+        LexAnswer::Lexed { tokens, rest } => accepted(tokens, rest),
+        LexAnswer::Refused(refusal) => refused(refusal),
+    }
+}
+
+pub fn refused(refusal: Refusal) -> u64
+    ensures { λ r. ⌜ r ≡ refusalWord refusal ⌝ }
+{
+    let number = refusal.number;
+    let place = refusal.place;
+    (number as u64) * 72057594037927936 + least(place, 72057594037927935)
+}
+
+pub fn accepted(first: usize, second: usize) -> u64
+    ensures { λ r. ⌜ r ≡ acceptedWord first second ⌝ }
+{
+    least(first, 268435455) * 268435456 + least(second, 268435455)
+}
+
+fn least(a: usize, b: u64) -> u64
+    ensures { λ r. ⌜ r ≡ min a b ⌝ }
+{
+    let n = a as u64;
+    if n < b { n } else { b }
+}
