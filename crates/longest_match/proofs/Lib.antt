@@ -4,5 +4,6 @@ pub mod Longest
 pub mod Choosing
 pub mod Lexing
 pub mod Held
+pub mod Parts
 pub mod Picking
 pub mod Cutting

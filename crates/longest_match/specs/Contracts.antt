@@ -21,6 +21,10 @@ pub record Held (hs ss es : List ℕ) (n : ℕ) : Type 0 where
   pub rules : List Rule
   pub holds : Holds hs ss es n rules
 
+-- the bytes of a text from one place to another
+unfoldable pub part : List ℕ → ℕ → ℕ → List ℕ
+part text from to = take (to - from) (drop from text)
+
 -- the first len bytes of a text as a token of this tag
 abbrev pub front : ℕ → ℕ → List ℕ → Found
 front tag len text = record { token = record { tag = tag; bytes = take len text }; rest = drop len text }

@@ -1,10 +1,11 @@
 // Lexing a text by the rules that the tables hold: at each place the longest match, by the earliest rule.
 // A token costs one walk for each rule.
+ghost use mathlib.Core.Path.{_≡_};
 ghost use mathlib.Core.List.{List};
-ghost use Prim.Native.Nat.{_≤_};
-ghost use lib.ListN.{length, drop};
+ghost use Prim.Native.Nat.{ℕ, _≤_};
+ghost use lib.ListN.{length};
 ghost use Rattle.automaton.specs.Rule.{Rule};
-ghost use Rattle.longest_match.specs.Contracts.{Holds, Held, Chooses, Cuts};
+ghost use Rattle.longest_match.specs.Contracts.{Holds, Held, part, Chooses, Cuts};
 
 // What is chosen at the start of a text: the number of the rule and how many bytes it takes; both 0 for no rule.
 pub struct Choice {
@@ -12,10 +13,35 @@ pub struct Choice {
     pub len: usize,
 }
 
-// The rule that matches the longest prefix of `text`, the earliest of them on a tie.
-pub fn choose(headers: &[u64], states: &[u16], edges: &[u64], rules: usize, text: &[u8]) -> Choice
+// The rule that matches the longest prefix of the bytes of `text` from `from` to `to`, the earliest of them on a tie.
+pub fn choose(
+    headers: &[u64],
+    states: &[u16],
+    edges: &[u64],
+    rules: usize,
+    text: &[u8],
+    from: usize,
+    to: usize,
+) -> Choice
     requires { ⌜ Held (now headers) (now states) (now edges) rules ⌝ }
-    ensures { λ r. ⌜ ((rs : List Rule) → Holds (now (headers .entry)) (now (states .entry)) (now (edges .entry)) rules rs → Chooses rs (now (text .entry)) (r .rule) (r .len)) ⌝ }
+    requires { ⌜ (from ≤ to) × (to ≤ length (now text)) ⌝ }
+    ensures { λ r. ⌜ ((rs : List Rule) (t : List ℕ) → Holds (now (headers .entry)) (now (states .entry)) (now (edges .entry)) rules rs
+        → part (now (text .entry)) from to ≡ t → Chooses rs t (r .rule) (r .len)) ⌝ }
+{
+    choose_of(headers, states, edges, rules, &text[from..to])
+}
+
+// The same of a whole text.
+fn choose_of(
+    headers: &[u64],
+    states: &[u16],
+    edges: &[u64],
+    rules: usize,
+    text: &[u8],
+) -> Choice
+    requires { ⌜ Held (now headers) (now states) (now edges) rules ⌝ }
+    ensures { λ r. ⌜ ((rs : List Rule) → Holds (now (headers .entry)) (now (states .entry)) (now (edges .entry)) rules rs
+        → Chooses rs (now (text .entry)) (r .rule) (r .len)) ⌝ }
 {
     let mut rule = 0;
     let mut len = 0;
@@ -32,22 +58,6 @@ pub fn choose(headers: &[u64], states: &[u16], edges: &[u64], rules: usize, text
     Choice { rule, len }
 }
 
-// The same from a place of a text.
-pub fn choose_at(
-    headers: &[u64],
-    states: &[u16],
-    edges: &[u64],
-    rules: usize,
-    text: &[u8],
-    at: usize,
-) -> Choice
-    requires { ⌜ Held (now headers) (now states) (now edges) rules ⌝ }
-    requires { ⌜ at ≤ length (now text) ⌝ }
-    ensures { λ r. ⌜ ((rs : List Rule) → Holds (now (headers .entry)) (now (states .entry)) (now (edges .entry)) rules rs → Chooses rs (drop at (now (text .entry))) (r .rule) (r .len)) ⌝ }
-{
-    choose(headers, states, edges, rules, &text[at..])
-}
-
 // A cut of a text: how many tokens it has, and the place of the rest.
 pub struct Cut {
     pub tokens: usize,
@@ -57,12 +67,13 @@ pub struct Cut {
 // How `text` is cut, with nothing written.
 pub fn count(headers: &[u64], states: &[u16], edges: &[u64], rules: usize, text: &[u8]) -> Cut
     requires { ⌜ Held (now headers) (now states) (now edges) rules ⌝ }
-    ensures { λ r. ⌜ ((rs : List Rule) → Holds (now (headers .entry)) (now (states .entry)) (now (edges .entry)) rules rs → Cuts rs (now (text .entry)) (r .tokens) (r .rest)) ⌝ }
+    ensures { λ r. ⌜ ((rs : List Rule) → Holds (now (headers .entry)) (now (states .entry)) (now (edges .entry)) rules rs
+        → Cuts rs (now (text .entry)) (r .tokens) (r .rest)) ⌝ }
 {
     let mut tokens = 0;
     let mut at = 0;
     while at < text.len() {
-        let c = choose_at(headers, states, edges, rules, text, at);
+        let c = choose(headers, states, edges, rules, text, at, text.len());
         if c.len == 0 {
             return Cut { tokens, rest: at };
         }

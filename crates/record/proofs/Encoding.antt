@@ -7,26 +7,26 @@ use lib.ListN.{length, getD, set, take, drop, drop-of-length-le}
 use lib.Seq.{drop-at}
 use Rattle.automaton.specs.Choice.{All}
 use Rattle.record.specs.Records.{recordOf, recordCount}
-use Rattle.record.proofs.Records.{two-value, four-value}
+use Rattle.big_endian.proofs.Numbers.{two-value, four-value}
 use Rattle.record.specs.Tokens.{recordAt, recordsFrom, recordsOf, tokensIn, tokensOf}
-use Rattle.record.specs.declared.Token.{Token}
-use Rattle.record.specs.Encoding.{encoded, said, noToken, recordIn}
-use Rattle.record.specs.Contracts.{Fits}
+use Rattle.record.specs.declared.TokenRecord.{TokenRecord}
+use Rattle.record.specs.Encoding.{encoded}
+use Rattle.record.specs.Contracts.{Fits, noRecord}
 
-pub length-encoded : (ts : List Token) → length (encoded ts) ≡ 10 * length ts
+pub length-encoded : (ts : List TokenRecord) → length (encoded ts) ≡ 10 * length ts
 unfolding encoded
 length-encoded [] = refl
 length-encoded (t ∷ ts) = omega (arith, length-encoded ts)
 
 -- a slice counts as its length
-pub count-encoded : (ts : List Token) → recordCount (encoded ts) ≡ length ts
+pub count-encoded : (ts : List TokenRecord) → recordCount (encoded ts) ≡ length ts
 count-encoded ts = omega (arith, length-encoded ts)
 
-abbrev pub tenBytes : Token → List ℕ
-tenBytes t = recordOf (t .tag) (t .place) (t .length)
+abbrev pub tenBytes : TokenRecord → List ℕ
+tenBytes t = recordOf (t .tag) (t .place) (t .len)
 
 -- to store a token is to put its record in the place of another
-pub encoded-set : (ts : List Token) (i : ℕ) (t : Token) → i < length ts
+pub encoded-set : (ts : List TokenRecord) (i : ℕ) (t : TokenRecord) → i < length ts
     → encoded (set ts i t) ≡ take (10 * i) (encoded ts) ++ tenBytes t ++ drop (10 * i + 10) (encoded ts)
 unfolding encoded
 encoded-set [] i t l = absurd (omega arith)
@@ -45,14 +45,14 @@ two-bytes tag place len =
 
 -- ---- nothing is lost
 
-same-record : (t u : Token) (xs ys : List ℕ) → Fits t → Fits u → tenBytes t ++ xs ≡ tenBytes u ++ ys → (t ≡ u) × (xs ≡ ys)
+same-record : (t u : TokenRecord) (xs ys : List ℕ) → Fits t → Fits u → tenBytes t ++ xs ≡ tenBytes u ++ ys → (t ≡ u) × (xs ≡ ys)
 same-record t u xs ys f g e =
     let a : t .tag ≡ u .tag = cc (e, two-value (t .tag) (f .tag), two-value (u .tag) (g .tag)) in
     let b : t .place ≡ u .place = cc (e, four-value (t .place) (f .place), four-value (u .place) (g .place)) in
-    let c : t .length ≡ u .length = cc (e, four-value (t .length) (f .length), four-value (u .length) (g .length)) in
-    (λ i. record { tag = a i; place = b i; length = c i }, cc)
+    let c : t .len ≡ u .len = cc (e, four-value (t .len) (f .len), four-value (u .len) (g .len)) in
+    (λ i. record { tag = a i; place = b i; len = c i }, cc)
 
-pub encoded-injective : (ts us : List Token) → All Fits ts → All Fits us → encoded ts ≡ encoded us → ts ≡ us
+pub encoded-injective : (ts us : List TokenRecord) → All Fits ts → All Fits us → encoded ts ≡ encoded us → ts ≡ us
 unfolding encoded
 encoded-injective [] [] f g e = refl
 encoded-injective [] (u ∷ us) f g e = absurd (omega (arith, ap length e))
@@ -63,11 +63,11 @@ encoded-injective (t ∷ ts) (u ∷ us) (f, fs) (g, gs) e =
 
 -- ---- the records are those that the tokens say
 
-front : (t : Token) (bytes : List ℕ) → Fits t → recordAt (tenBytes t ++ bytes) 0 ≡ recordIn t
+front : (t : TokenRecord) (bytes : List ℕ) → Fits t → recordAt (tenBytes t ++ bytes) 0 ≡ t
 unfolding recordAt
-front t bytes f = rw (two-value (t .tag) (f .tag), four-value (t .place) (f .place), four-value (t .length) (f .length))
+front t bytes f = rw (two-value (t .tag) (f .tag), four-value (t .place) (f .place), four-value (t .len) (f .len))
 
-behind : (t : Token) (bytes : List ℕ) (k : ℕ) → recordAt (tenBytes t ++ bytes) (suc k) ≡ recordAt bytes k
+behind : (t : TokenRecord) (bytes : List ℕ) (k : ℕ) → recordAt (tenBytes t ++ bytes) (suc k) ≡ recordAt bytes k
 unfolding recordAt
 behind t bytes k =
     rw (
@@ -87,30 +87,30 @@ behind t bytes k =
     later i j e = rw e
 
 -- record number k is that of token number k
-pub record-encoded : (ts : List Token) (k : ℕ) → k < length ts → Fits (getD ts k noToken) → recordAt (encoded ts) k ≡ recordIn (getD ts k noToken)
+pub record-encoded : (ts : List TokenRecord) (k : ℕ) → k < length ts → Fits (getD ts k noRecord) → recordAt (encoded ts) k ≡ getD ts k noRecord
 unfolding encoded
 record-encoded [] k l f = absurd (omega arith)
 record-encoded (t ∷ ts) zero l f = front t (encoded ts) f
 record-encoded (t ∷ ts) (suc k) l f = behind t (encoded ts) k ∙ record-encoded ts k (omega arith) f
 
-records-behind : (t : Token) (bytes : List ℕ) (k n : ℕ) → recordsFrom (tenBytes t ++ bytes) (suc k) n ≡ recordsFrom bytes k n
+records-behind : (t : TokenRecord) (bytes : List ℕ) (k n : ℕ) → recordsFrom (tenBytes t ++ bytes) (suc k) n ≡ recordsFrom bytes k n
 unfolding recordsFrom
 records-behind t bytes k zero = refl
 records-behind t bytes k (suc n) = rw (behind t bytes k, records-behind t bytes (suc k) n)
 
-said-from : (ts : List Token) (pool : List ℕ) → All Fits ts → tokensIn pool (recordsFrom (encoded ts) 0 (length ts)) ≡ said pool ts
-unfolding encoded said tokensIn recordsFrom
+said-from : (ts : List TokenRecord) (pool : List ℕ) → All Fits ts → tokensIn pool (recordsFrom (encoded ts) 0 (length ts)) ≡ tokensIn pool ts
+unfolding encoded tokensIn recordsFrom
 said-from [] pool f = refl
 said-from (t ∷ ts) pool (f, fs) = rw (front t (encoded ts) f, records-behind t (encoded ts) 0 (length ts), said-from ts pool fs)
 
 -- the token list that the encoding says with a pool is the one that the slice says
-pub tokens-encoded : (ts : List Token) (pool : List ℕ) → All Fits ts → tokensOf (encoded ts) pool ≡ said pool ts
+pub tokens-encoded : (ts : List TokenRecord) (pool : List ℕ) → All Fits ts → tokensOf (encoded ts) pool ≡ tokensIn pool ts
 unfolding recordsOf
 tokens-encoded ts pool f = rw (count-encoded ts) (said-from ts pool f)
 
 -- ---- what lies behind the first n tokens
 
-pub drop-encoded : (ts : List Token) (n : ℕ) → drop (10 * n) (encoded ts) ≡ encoded (drop n ts)
+pub drop-encoded : (ts : List TokenRecord) (n : ℕ) → drop (10 * n) (encoded ts) ≡ encoded (drop n ts)
 unfolding encoded
 drop-encoded ts zero = refl
 drop-encoded [] (suc n) = let l : length {A = ℕ} [] ≤ 10 * suc n = omega arith in drop-of-length-le [] l
@@ -118,13 +118,13 @@ drop-encoded (t ∷ ts) (suc n) =
     let q : 10 * suc n ≡ suc (suc (suc (suc (suc (suc (suc (suc (suc (suc (10 * n)))))))))) = omega arith in
     rw (q, drop-encoded ts n)
 
-all-drop : (ts : List Token) (n : ℕ) → All Fits ts → All Fits (drop n ts)
+all-drop : (ts : List TokenRecord) (n : ℕ) → All Fits ts → All Fits (drop n ts)
 all-drop ts zero f = f
 all-drop [] (suc n) f = tt
 all-drop (t ∷ ts) (suc n) (f, fs) = all-drop ts n fs
 
 -- records that keep their bytes behind the first n are those of tokens that keep what lies behind the first n
-pub kept-behind : (ts us : List Token) (n : ℕ) (front : List ℕ) → All Fits ts → All Fits us → length front ≡ 10 * n
+pub kept-behind : (ts us : List TokenRecord) (n : ℕ) (front : List ℕ) → All Fits ts → All Fits us → length front ≡ 10 * n
     → encoded us ≡ front ++ drop (10 * n) (encoded ts) → drop n us ≡ drop n ts
 kept-behind ts us n front f g l e =
     encoded-injective (drop n us) (drop n ts) (all-drop us n g) (all-drop ts n f)

@@ -1,14 +1,9 @@
 -- "a record is ten bytes: tag two, place four, length four, high byte first".
 use mathlib.Core.List.{List, [], _∷_, _++_}
-use Prim.Native.Nat.{ℕ, _+_, _/_, _%_}
+use Prim.Native.Nat.{ℕ, _+_, _/_}
 use lib.ListN.{length}
+use Rattle.big_endian.specs.Numbers.{two, four}
 use Rattle.longest_match.specs.Lexer.{Token}
-
-abbrev pub two : ℕ → List ℕ
-two n = n / 256 % 256 ∷ n % 256 ∷ []
-
-abbrev pub four : ℕ → List ℕ
-four n = n / 16777216 % 256 ∷ n / 65536 % 256 ∷ n / 256 % 256 ∷ n % 256 ∷ []
 
 abbrev pub recordOf : ℕ → ℕ → ℕ → List ℕ
 recordOf tag place len = two tag ++ four place ++ four len

@@ -1,17 +1,11 @@
 -- The tokens that ten-byte records say, and their bytes in a pool.
 use mathlib.Core.List.{List, [], _∷_}
 use Prim.Native.Nat.{ℕ, zero, suc, _+_, _*_}
-use lib.ListN.{getD, take, drop}
+use lib.ListN.{take, drop}
+use Rattle.big_endian.specs.Numbers.{twoAt, fourAt}
 use Rattle.longest_match.specs.Lexer.{Token}
 use Rattle.record.specs.Records.{recordCount}
 use Rattle.record.specs.declared.TokenRecord.{TokenRecord}
-
--- numbers of two and of four bytes, high byte first
-abbrev pub twoAt : List ℕ → ℕ → ℕ
-twoAt bytes i = getD bytes i 0 * 256 + getD bytes (i + 1) 0
-
-abbrev pub fourAt : List ℕ → ℕ → ℕ
-fourAt bytes i = ((getD bytes i 0 * 256 + getD bytes (i + 1) 0) * 256 + getD bytes (i + 2) 0) * 256 + getD bytes (i + 3) 0
 
 -- record number k: "tag two, place four, length four"
 unfoldable pub recordAt : List ℕ → ℕ → TokenRecord

@@ -1,60 +1,30 @@
--- `choose`: every rule in turn; the invariant is `Best` of the rules walked so far, for any rules that the tables hold. Assumes nothing.
-use mathlib.Core.Path.{_≡_}
+-- `choose`: `choose_of` of the part. Assumes nothing.
+use mathlib.Core.Path.{subst}
 use mathlib.Core.List.{List}
-use Prim.Native.Nat.{_-_, _≤_}
-use native.Mathlib.Omega.{arith}
-use lib.ListN.{length}
-use Rattle.automaton.specs.Rule.{Rule}
-use Rattle.automaton.specs.Contracts.{ruleAt}
-use Rattle.longest_match.specs.Contracts.{Holds}
-use Rattle.longest_match.proofs.Held.{table-at}
-use Rattle.longest_match.proofs.Picking.{Best, best-start, best-take, best-keep, best-chooses}
+use Prim.Native.Nat.{ℕ}
+use borrow.Author.Needs.{needs}
+use Rattle.longest_match.specs.Contracts.{part, Chooses}
 use Rattle.longest_match.proofs.choose.Statement.{statement}
 use Rattle.longest_match.proofs.choose.Tie as tie
 
-abbrev Inv-loop : tie.InvT-loop
-Inv-loop headers states edges rules text rule₀ len₀ next₀ rule len next = (next ≤ rules) × ((rs : List Rule) → Holds headers states edges rules rs → Best rs text next rule len)
+sub-choose-of : tie.Need-sub-choose-of
+sub-choose-of c = search needs
 
-abbrev μ-loop : tie.MeasureT-loop
-μ-loop headers states edges rules text rule₀ len₀ next₀ rule len next = rules - next
+part-choose-of-start : tie.Need-part-choose-of-start
+part-choose-of-start c = search needs
 
-loop-holds : tie.Need-loop-holds Inv-loop μ-loop
-loop-holds c = (omega arith, λ rs h. best-start rs _)
+part-choose-of-end : tie.Need-part-choose-of-end
+part-choose-of-end c = search needs
 
-add-next : tie.Need-add-next Inv-loop μ-loop
-add-next c = omega arith
+choose-of-requires : tie.Need-choose-of-requires
+choose-of-requires c κs = search needs
 
-longest-prefix-requires : tie.Need-longest-prefix-requires Inv-loop μ-loop
-longest-prefix-requires c κs = let p = c .before .before .before .before .before .before .pre in record { rule = ruleAt (p .rules) (c .before .loop .next); table = table-at (p .holds) (c .loop-test .taken) }
-
-loop-less : tie.Need-loop-less Inv-loop μ-loop
-loop-less c = omega arith
-
-loop-again : tie.Need-loop-again Inv-loop μ-loop
-loop-again c = (omega arith, λ rs h. best-take (c .before .before .before .loop .inv .1 rs h) (c .before .longest-prefix .ensures (ruleAt rs (c .before .before .before .loop .next)) (table-at h (c .before .before .loop-test .taken))) (c .if1 .taken))
-
-loop-less-2 : tie.Need-loop-less-2 Inv-loop μ-loop
-loop-less-2 c = omega arith
-
-loop-again-2 : tie.Need-loop-again-2 Inv-loop μ-loop
-loop-again-2 c = (omega arith, λ rs h. best-keep (c .before .before .before .loop .inv .1 rs h) (c .before .longest-prefix .ensures (ruleAt rs (c .before .before .before .loop .next)) (table-at h (c .before .before .loop-test .taken))) (c .if1 .left))
-
-returns : tie.Need-returns Inv-loop μ-loop
-returns c = λ rs h.
-    let e : c .before .loop .next ≡ length rs = omega (arith, h .count) in
-    best-chooses (rw e at (c .before .loop .inv .1 rs h))
+returns : tie.Need-returns
+unfolding part
+returns c = λ rs t h e.
+    subst (λ (x : List ℕ). Chooses rs x (c .choose-of .result .rule) (c .choose-of .result .len)) e (c .choose-of .ensures rs h)
 
 pub choose-spec : {M : Type 1} → statement M
 choose-spec =
     tie.close
-    (tie.spec
-    Inv-loop
-    μ-loop
-    loop-holds
-    add-next
-    longest-prefix-requires
-    loop-less
-    loop-again
-    loop-less-2
-    loop-again-2
-    returns)
+    (tie.spec sub-choose-of part-choose-of-start part-choose-of-end choose-of-requires returns)

@@ -1,11 +1,13 @@
 -- `count`: the invariant is `Cutting`, for any rules that the tables hold. Assumes nothing.
 use mathlib.Core.List.{List}
 use Prim.Native.Nat.{_+_, _-_, _≤_}
+use native.Mathlib.Nat.{le-refl}
 use native.Mathlib.Omega.{arith}
 use lib.ListN.{length}
 use denote.Ref.{now}
 use Rattle.automaton.specs.Rule.{Rule}
 use Rattle.longest_match.specs.Contracts.{Holds}
+use Rattle.longest_match.proofs.Parts.{part-end}
 use Rattle.longest_match.proofs.Cutting.{Cutting, cutting-start, cutting-within, cutting-next, cutting-stop, lex-stop, lex-end}
 use Rattle.longest_match.proofs.count.Statement.{statement}
 use Rattle.longest_match.proofs.count.Tie as tie
@@ -20,8 +22,8 @@ abbrev μ-loop : tie.MeasureT-loop
 some : (c : tie.At-loop Inv-loop μ-loop) → Cutting (c .before .before .before .before .before .pre .rules) (now (c .before .before .before .before .before .args .text)) (c .loop .at) (c .loop .tokens)
 some c = c .loop .inv (c .before .before .before .before .before .pre .rules) (c .before .before .before .before .before .pre .holds)
 
-more : (c : tie.After-struct-known2 Inv-loop μ-loop) → c .before .before .before .before .before .loop .at + c .before .before .before .choose-at .result .len ≤ length (now (c .before .before .before .before .before .before .before .before .before .before .args .text))
-more c = cutting-within (some (c .before .before .before .before .before)) (c .before .before .before .choose-at .ensures (c .before .before .before .before .before .before .before .before .before .before .pre .rules) (c .before .before .before .before .before .before .before .before .before .before .pre .holds)) (omega arith)
+more : (c : tie.After-struct-known2 Inv-loop μ-loop) → c .before .before .before .before .before .loop .at + c .before .before .before .choose .result .len ≤ length (now (c .before .before .before .before .before .before .before .before .before .before .args .text))
+more c = cutting-within (some (c .before .before .before .before .before)) (c .before .before .before .choose .ensures (c .before .before .before .before .before .before .before .before .before .before .pre .rules) _ (c .before .before .before .before .before .before .before .before .before .before .pre .holds) (part-end _ _)) (omega arith)
 
 ended : (c : tie.After-loop Inv-loop μ-loop) → length (now (c .before .before .before .before .before .before .args .text)) ≤ c .before .loop .at
 ended c = omega arith
@@ -29,11 +31,11 @@ ended c = omega arith
 loop-holds : tie.Need-loop-holds Inv-loop μ-loop
 loop-holds c = λ rs h. cutting-start rs _
 
-choose-at-requires : tie.Need-choose-at-requires Inv-loop μ-loop
-choose-at-requires c κs = (c .before .before .before .before .before .before .pre, some (c .before) .within)
+choose-requires : tie.Need-choose-requires Inv-loop μ-loop
+choose-requires c κs = (c .before .before .before .before .before .before .pre, (some (c .before) .within, le-refl _))
 
 returns : tie.Need-returns Inv-loop μ-loop
-returns c = λ rs h. cutting-stop (c .before .before .before .before .loop .inv rs h) (lex-stop rs _ (c .before .before .choose-at .ensures rs h .nothing (c .if1 .taken)))
+returns c = λ rs h. cutting-stop (c .before .before .before .before .loop .inv rs h) (lex-stop rs _ ((c .before .before .choose .ensures rs _ h (part-end _ _)) .nothing (c .if1 .taken)))
 
 add-tokens : tie.Need-add-tokens Inv-loop μ-loop
 add-tokens c = omega (arith, some (c .before .before .before .before) .few, some (c .before .before .before .before) .within)
@@ -45,7 +47,7 @@ loop-less : tie.Need-loop-less Inv-loop μ-loop
 loop-less c = omega (arith, more c)
 
 loop-again : tie.Need-loop-again Inv-loop μ-loop
-loop-again c = λ rs h. cutting-next (c .before .before .before .before .before .loop .inv rs h) (c .before .before .before .choose-at .ensures rs h) (omega arith)
+loop-again c = λ rs h. cutting-next (c .before .before .before .before .before .loop .inv rs h) (c .before .before .before .choose .ensures rs _ h (part-end _ _)) (omega arith)
 
 returns-2 : tie.Need-returns-2 Inv-loop μ-loop
 returns-2 c = λ rs h. cutting-stop (c .before .loop .inv rs h) (lex-end rs _ _ (ended c))
@@ -57,7 +59,7 @@ count-spec =
     Inv-loop
     μ-loop
     loop-holds
-    choose-at-requires
+    choose-requires
     returns
     add-tokens
     add-at

@@ -7,33 +7,33 @@ use Rattle.record.proofs.read_record.Tie as tie
 mul-at : tie.Need-mul-at
 mul-at c = search needs
 
-two-bytes-requires : tie.Need-two-bytes-requires
-two-bytes-requires c κs = search needs
+read-two-requires : tie.Need-read-two-requires
+read-two-requires c κs = search needs
 
-add-four-bytes : tie.Need-add-four-bytes
-add-four-bytes c = search needs
+add-read-four : tie.Need-add-read-four
+add-read-four c = search needs
 
-four-bytes-requires : tie.Need-four-bytes-requires
-four-bytes-requires c κs = search needs
+read-four-requires : tie.Need-read-four-requires
+read-four-requires c κs = search needs
 
-add-four-bytes-2 : tie.Need-add-four-bytes-2
-add-four-bytes-2 c = search needs
+add-read-four-2 : tie.Need-add-read-four-2
+add-read-four-2 c = search needs
 
-four-bytes-requires-2 : tie.Need-four-bytes-requires-2
-four-bytes-requires-2 c κs = search needs
+read-four-requires-2 : tie.Need-read-four-requires-2
+read-four-requires-2 c κs = search needs
 
 returns : tie.Need-returns
 unfolding recordAt
-returns c = (rw (c .before .before .two-bytes .ensures .0, c .before .four-bytes .ensures .0, c .four-bytes2 .ensures .0), record { place-below = c .before .four-bytes .ensures .1; len-below = c .four-bytes2 .ensures .1 })
+returns c = rw (c .before .before .read-two .ensures, c .before .read-four .ensures, c .read-four2 .ensures)
 
 pub read-record-spec : {M : Type 1} → statement M
 read-record-spec =
     tie.close
     (tie.spec
     mul-at
-    two-bytes-requires
-    add-four-bytes
-    four-bytes-requires
-    add-four-bytes-2
-    four-bytes-requires-2
+    read-two-requires
+    add-read-four
+    read-four-requires
+    add-read-four-2
+    read-four-requires-2
     returns)

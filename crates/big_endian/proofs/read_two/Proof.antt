@@ -1,10 +1,9 @@
--- `two_bytes`: a number below 65536. Assumes nothing.
-use mathlib.Core.Path.{refl}
+-- `read_two`: each byte fits. Assumes nothing.
 use Prim.Native.Nat.{_+_}
 use native.Mathlib.Omega.{arith}
 use borrow.Author.Needs.{needs}
-use Rattle.record.proofs.two_bytes.Statement.{statement}
-use Rattle.record.proofs.two_bytes.Tie as tie
+use Rattle.big_endian.proofs.read_two.Statement.{statement}
+use Rattle.big_endian.proofs.read_two.Tie as tie
 
 shared-slice-read-result : tie.Need-shared-slice-read-result
 shared-slice-read-result c = search needs
@@ -22,16 +21,16 @@ shared-slice-read-result-2 : tie.Need-shared-slice-read-result-2
 shared-slice-read-result-2 c = search needs
 
 cast-result-2 : tie.Need-cast-result-2
-cast-result-2 c = omega (arith, c .shared-slice-known2 .given (c .before .before .args .at + 1), c .before .shared-slice-known .given (c .before .before .args .at))
+cast-result-2 c = omega (arith, c .shared-slice-known2 .given (c .before .before .args .at + 1))
 
 add-result-2 : tie.Need-add-result-2
 add-result-2 c = omega (arith, c .shared-slice-known2 .given (c .before .before .args .at + 1), c .before .shared-slice-known .given (c .before .before .args .at))
 
 returns : tie.Need-returns
-returns c = (refl, omega (arith, c .shared-slice-known2 .given (c .before .before .args .at + 1), c .before .shared-slice-known .given (c .before .before .args .at)))
+returns c = search needs
 
-pub two-bytes-spec : {M : Type 1} → statement M
-two-bytes-spec =
+pub read-two-spec : {M : Type 1} → statement M
+read-two-spec =
     tie.close
     (tie.spec
     shared-slice-read-result

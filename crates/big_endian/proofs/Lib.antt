@@ -1,0 +1,2 @@
+-- A number is had back from its bytes.
+pub mod Numbers
