@@ -59,7 +59,7 @@ fn fill(
             };
         }
         let len = m.len;
-        record::put_record(records, 10 * tokens, m.tag, place, len);
+        record::put_record(records, tokens, m.tag, place, len);
         tokens += 1;
         place += len;
     }

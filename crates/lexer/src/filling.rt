@@ -21,7 +21,7 @@ pub fn fill(
     let mut tokens = 0;
     let mut place = 0;
     while place < text.len() {
-        let c = longest_match::choose_at(headers, states, edges, rules, text, place);
+        let c = longest_match::choose(headers, states, edges, rules, text, place, text.len());
         if c.len == 0 {
             return Cut {
                 tokens,
@@ -31,7 +31,7 @@ pub fn fill(
         let rule = c.rule;
         let len = c.len;
         let header = headers[rule];
-        record::put_record(records, 10 * tokens, automaton::tag_of(header), place, len);
+        record::put_record(records, tokens, automaton::tag_of(header), place, len);
         tokens += 1;
         place += len;
     }

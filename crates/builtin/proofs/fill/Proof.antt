@@ -42,9 +42,6 @@ returns : tie.Need-returns Inv-loop μ-loop
 returns c = let e = lex-stop builtinRules _ (c .before .before .scan-at .ensures .nothing (c .if1 .taken)) in
     (cutting-stop (c .before .before .before .before .loop .inv .cut) e, filling-stop (c .before .before .before .before .loop .inv) e)
 
-mul-put-record : tie.Need-mul-put-record Inv-loop μ-loop
-mul-put-record c = let l = c .before .before .before .before .before .loop .inv .same in omega (arith, room (c .before), c .before .before .before .before .before .before .before .before .good)
-
 put-record-requires : tie.Need-put-record-requires Inv-loop μ-loop
 put-record-requires c κs = omega (arith, room (c .before))
 
@@ -77,7 +74,6 @@ fill-spec =
     scan-at-requires
     same-length
     returns
-    mul-put-record
     put-record-requires
     add-tokens
     add-place

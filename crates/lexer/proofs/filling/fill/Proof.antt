@@ -2,6 +2,7 @@
 use mathlib.Core.Path.{_∙_}
 use mathlib.Core.List.{List}
 use Prim.Native.Nat.{_+_, _-_, _*_, _≤_}
+use native.Mathlib.Nat.{le-refl}
 use native.Mathlib.Omega.{arith}
 use lib.ListN.{length, drop}
 use borrow.Author.Needs.{needs}
@@ -11,58 +12,79 @@ use Rattle.automaton.specs.Contracts.{Table, ruleAt}
 use Rattle.automaton.proofs.Walks.{header-tag}
 use Rattle.longest_match.specs.Contracts.{Holds, Chooses}
 use Rattle.longest_match.proofs.Cutting.{cutting-within, cutting-stop, lex-stop, lex-end}
+use Rattle.longest_match.proofs.Parts.{part-end}
 use Rattle.lexer.proofs.Filled.{Filling, filling-start, filling-room, filling-next, filling-stop}
 use Rattle.lexer.proofs.filling.fill.Statement.{statement}
 use Rattle.lexer.proofs.filling.fill.Tie as tie
 
 abbrev Inv-loop : tie.InvT-loop
-Inv-loop headers states edges rules text records₀ tokens₀ place₀ records tokens place = (rs : List Rule) → Holds headers states edges rules rs → Filling rs text records₀ records place tokens
+Inv-loop headers states edges rules text records₀ tokens₀ place₀ records tokens place =
+    (rs : List Rule) → Holds headers states edges rules rs → Filling rs text records₀ records place tokens
 
 abbrev μ-loop : tie.MeasureT-loop
 μ-loop headers states edges rules text records₀ tokens₀ place₀ records tokens place = length text - place
 
+-- the call, from the loop's head
+abbrev call : tie.At-loop Inv-loop μ-loop → tie.Start Inv-loop μ-loop
+call c = c .before .before .before .before .before .before
+
+-- the loop's head, from where `choose` has answered
+abbrev head : tie.After-struct-known Inv-loop μ-loop → tie.At-loop Inv-loop μ-loop
+head c = c .before .before .before
+
 -- by one list of rules that the tables hold
-some : (c : tie.At-loop Inv-loop μ-loop) → Filling (c .before .before .before .before .before .before .pre .held .rules) (now (c .before .before .before .before .before .before .args .text)) (now (c .before .before .before .before .before .before .args .records)) (c .loop .records) (c .loop .place) (c .loop .tokens)
-some c = c .loop .inv (c .before .before .before .before .before .before .pre .held .rules) (c .before .before .before .before .before .before .pre .held .holds)
+some : (c : tie.At-loop Inv-loop μ-loop)
+    → Filling (call c .pre .held .rules) (now (call c .args .text)) (now (call c .args .records)) (c .loop .records) (c .loop .place) (c .loop .tokens)
+some c = c .loop .inv (call c .pre .held .rules) (call c .pre .held .holds)
 
-chosen : (c : tie.Else1 Inv-loop μ-loop) → Chooses (c .before .before .before .before .before .before .before .before .before .before .pre .held .rules) (drop (c .before .before .before .before .loop .place) (now (c .before .before .before .before .before .before .before .before .before .before .args .text))) (c .before .before .choose-at .result .rule) (c .before .before .choose-at .result .len)
-chosen c = c .before .before .choose-at .ensures (c .before .before .before .before .before .before .before .before .before .before .pre .held .rules) (c .before .before .before .before .before .before .before .before .before .before .pre .held .holds)
+module _ (c : tie.After-struct-known Inv-loop μ-loop) where
+  chosen : (rs : List Rule)
+      → Holds (now (call (head c) .args .headers)) (now (call (head c) .args .states)) (now (call (head c) .args .edges)) (call (head c) .args .rules) rs
+      → Chooses rs (drop (head c .loop .place) (now (call (head c) .args .text))) (c .before .choose .result .rule) (c .before .choose .result .len)
+  chosen rs h = c .before .choose .ensures rs _ h (part-end _ _)
 
-known : (c : tie.Else1 Inv-loop μ-loop) → Table (now (c .before .before .before .before .before .before .before .before .before .before .args .headers)) (now (c .before .before .before .before .before .before .before .before .before .before .args .states)) (now (c .before .before .before .before .before .before .before .before .before .before .args .edges)) (c .before .before .choose-at .result .rule) (ruleAt (c .before .before .before .before .before .before .before .before .before .before .pre .held .rules) (c .before .before .choose-at .result .rule))
-known c = c .before .before .before .before .before .before .before .before .before .before .pre .held .holds .tables .each _ (chosen c .known (omega arith))
+  one : Chooses (call (head c) .pre .held .rules) (drop (head c .loop .place) (now (call (head c) .args .text)))
+      (c .before .choose .result .rule) (c .before .choose .result .len)
+  one = chosen (call (head c) .pre .held .rules) (call (head c) .pre .held .holds)
 
-more : (c : tie.Else1 Inv-loop μ-loop) → c .before .before .before .before .loop .place + c .before .before .choose-at .result .len ≤ length (now (c .before .before .before .before .before .before .before .before .before .before .args .text))
-more c = cutting-within (some (c .before .before .before .before) .cut) (chosen c) (omega arith)
+module _ (e : tie.Else1 Inv-loop μ-loop) where
+  known : Table (now (call (head (e .before)) .args .headers)) (now (call (head (e .before)) .args .states)) (now (call (head (e .before)) .args .edges))
+      (e .before .before .choose .result .rule) (ruleAt (call (head (e .before)) .pre .held .rules) (e .before .before .choose .result .rule))
+  known = call (head (e .before)) .pre .held .holds .tables .each _ (one (e .before) .known (omega arith))
 
-room : (c : tie.Else1 Inv-loop μ-loop) → 10 * c .before .before .before .before .loop .tokens + 10 ≤ length (c .before .before .before .before .loop .records)
-room c = filling-room (some (c .before .before .before .before)) (c .before .before .before .before .before .before .before .before .before .before .pre .room (c .before .before .before .before .before .before .before .before .before .before .pre .held .rules) (c .before .before .before .before .before .before .before .before .before .before .pre .held .holds)) (chosen c) (omega arith)
+  more : head (e .before) .loop .place + e .before .before .choose .result .len ≤ length (now (call (head (e .before)) .args .text))
+  more = cutting-within (some (head (e .before)) .cut) (one (e .before)) (omega arith)
 
-ended : (c : tie.After-loop Inv-loop μ-loop) → length (now (c .before .before .before .before .before .before .before .args .text)) ≤ c .before .loop .place
+  room : 10 * head (e .before) .loop .tokens + 10 ≤ length (head (e .before) .loop .records)
+  room =
+      let p = call (head (e .before)) .pre in
+      filling-room (some (head (e .before))) (p .room (p .held .rules) (p .held .holds)) (one (e .before)) (omega arith)
+
+ended : (c : tie.After-loop Inv-loop μ-loop) → length (now (call (c .before) .args .text)) ≤ c .before .loop .place
 ended c = omega arith
 
 loop-holds : tie.Need-loop-holds Inv-loop μ-loop
 loop-holds c = λ rs h. filling-start rs _ _
 
-choose-at-requires : tie.Need-choose-at-requires Inv-loop μ-loop
-choose-at-requires c κs = (c .before .before .before .before .before .before .before .pre .held, some (c .before) .cut .within)
+choose-requires : tie.Need-choose-requires Inv-loop μ-loop
+choose-requires c κs = (call (c .before) .pre .held, (some (c .before) .cut .within, le-refl _))
 
 same-length : tie.Need-same-length Inv-loop μ-loop
 same-length c = some (c .before .before .before .before) .same
 
 returns : tie.Need-returns Inv-loop μ-loop
-returns c = (
-  λ rs h. cutting-stop (c .before .before .before .before .loop .inv rs h .cut) (lex-stop rs _ (c .before .before .choose-at .ensures rs h .nothing (c .if1 .taken))),
-  λ rs h. filling-stop (c .before .before .before .before .loop .inv rs h) (lex-stop rs _ (c .before .before .choose-at .ensures rs h .nothing (c .if1 .taken))),
-)
+returns c =
+    let inv = head (c .before) .loop .inv in
+    (
+      λ rs h. cutting-stop (inv rs h .cut) (lex-stop rs _ (chosen (c .before) rs h .nothing (c .if1 .taken))),
+      λ rs h. filling-stop (inv rs h) (lex-stop rs _ (chosen (c .before) rs h .nothing (c .if1 .taken))),
+    )
 
 mul-header : tie.Need-mul-header Inv-loop μ-loop
-mul-header c = omega (arith, known c .room, c .before .before .before .before .before .before .before .before .before .before .good .0 .1)
+mul-header c = omega (arith, known c .room, call (head (c .before)) .good .0 .1)
 
 shared-slice-read-header : tie.Need-shared-slice-read-header Inv-loop μ-loop
 shared-slice-read-header c = known (c .before) .room
-
-mul-put-record : tie.Need-mul-put-record Inv-loop μ-loop
-mul-put-record c = let l = some (c .before .before .before .before .before .before) .same in omega (arith, room (c .before .before), c .before .before .before .before .before .before .before .before .before .before .before .before .good .1 .1 .1 .1 .1)
 
 tag-of-requires : tie.Need-tag-of-requires Inv-loop μ-loop
 tag-of-requires c κs = search needs
@@ -70,17 +92,26 @@ tag-of-requires c κs = search needs
 put-record-requires : tie.Need-put-record-requires Inv-loop μ-loop
 put-record-requires c κs = omega (arith, room (c .before .before .before))
 
+-- where something is chosen, from the end of the turn
+abbrev turn : tie.After-slice-known2 Inv-loop μ-loop → tie.Else1 Inv-loop μ-loop
+turn c = c .before .before .before .before .before .before
+
 add-tokens : tie.Need-add-tokens Inv-loop μ-loop
-add-tokens c = let w = some (c .before .before .before .before .before .before .before .before .before .before) .cut in omega (arith, more (c .before .before .before .before .before .before), w .few, w .within)
+add-tokens c = let w = some (head (turn c .before)) .cut in omega (arith, more (turn c), w .few, w .within)
 
 add-place : tie.Need-add-place Inv-loop μ-loop
-add-place c = omega (arith, more (c .before .before .before .before .before .before))
+add-place c = omega (arith, more (turn c))
 
 loop-less : tie.Need-loop-less Inv-loop μ-loop
-loop-less c = omega (arith, more (c .before .before .before .before .before .before))
+loop-less c = omega (arith, more (turn c))
 
 loop-again : tie.Need-loop-again Inv-loop μ-loop
-loop-again c = λ rs h. filling-next (c .before .before .before .before .before .before .before .before .before .before .loop .inv rs h) (c .before .before .before .before .before .before .before .before .before .before .before .before .before .before .before .before .pre .room rs h) (c .before .before .before .before .before .before .before .before .choose-at .ensures rs h) (omega arith) (c .before .before .before .tag-of .ensures ∙ header-tag (h .tables .each _ (c .before .before .before .before .before .before .before .before .choose-at .ensures rs h .known (omega arith)))) (c .before .before .put-record .ensures)
+loop-again c = λ rs h.
+    let before = head (turn c .before) in
+    let chooses = chosen (turn c .before) rs h in
+    filling-next (before .loop .inv rs h) (call before .pre .room rs h) chooses (omega arith)
+    (c .before .before .before .tag-of .ensures ∙ header-tag (h .tables .each _ (chooses .known (omega arith))))
+    (c .before .before .put-record .ensures)
 
 same-length-2 : tie.Need-same-length-2 Inv-loop μ-loop
 same-length-2 c = some (c .before) .same
@@ -98,12 +129,11 @@ fill-spec =
     Inv-loop
     μ-loop
     loop-holds
-    choose-at-requires
+    choose-requires
     same-length
     returns
     mul-header
     shared-slice-read-header
-    mul-put-record
     tag-of-requires
     put-record-requires
     add-tokens
