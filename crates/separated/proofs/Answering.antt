@@ -32,7 +32,6 @@ use Rattle.spacing.specs.Contracts.{Spaceable}
 use Rattle.separated.specs.Refusals.{separatedRefusal}
 use Rattle.separated.specs.Contracts.{checkedOf, Passed}
 use Rattle.separated.specs.Outcome.{writing, separatedRules, separatedOutcome}
-use Rattle.separated.specs.Claims.{FitPlain}
 use Rattle.separated.proofs.Sides.{all-map}
 use Rattle.separated.proofs.Unrefused.{Passes, passes}
 use Rattle.answer.specs.declared.BookAnswer.the-variants as book
@@ -126,9 +125,9 @@ pub passed-spaceable : {hs ss es : List ℕ} {n : ℕ} {sep : TokenRecord} {mode
 passed-spaceable {hs} {ss} {es} {n} {sep} {mode} {records} {pool} p =
     record {
       held = p .held;
-      separator = record { in-pool = fine (p .held .holds) .separator .fit .not-17 };
-      inside = all-map (FitPlain (p .held .rules) pool) (InPool pool) (λ r f. record { in-pool = f .fit .not-17 }) (recordsOf records) (fine (p .held .holds) .tokens);
-      alone = λ rules h. all-map (FitPlain rules pool) (λ (r : TokenRecord). Alone rules (tokenIn pool r)) (λ r f. alone-first rules (r .tag) _ (f .fit .not-19)) (recordsOf records) (fine h .tokens);
+      separator = record { in-pool = fine (p .held .holds) .separator .faultless .in-pool };
+      inside = all-map _ _ (λ r t. record { in-pool = t .faultless .in-pool }) (recordsOf records) (fine (p .held .holds) .tokens);
+      alone = λ rules h. all-map _ _ (λ r t. alone-first rules (r .tag) _ (t .faultless .alone)) (recordsOf records) (fine h .tokens);
     }
   where
     fine : {rules : List Rule} → Holds hs ss es n rules → Passes rules sep mode records pool
