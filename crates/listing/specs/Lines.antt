@@ -33,11 +33,15 @@ restWord = 114 ∷ 101 ∷ 115 ∷ 116 ∷ blank ∷ []
 abbrev pub refusedWord : List ℕ
 refusedWord = 114 ∷ 101 ∷ 102 ∷ 117 ∷ 115 ∷ 101 ∷ 100 ∷ blank ∷ []
 
+-- a word and the two numbers behind it
+abbrev pub wordLine : List ℕ → ℕ → ℕ → List ℕ
+wordLine word a b = word ++ lastTwo a b
+
 unfoldable pub restLine : ℕ → ℕ → List ℕ
-restLine place len = restWord ++ lastTwo place len
+restLine place len = wordLine restWord place len
 
 unfoldable pub refusedLine : ℕ → ℕ → List ℕ
-refusedLine number place = refusedWord ++ lastTwo number place
+refusedLine number place = wordLine refusedWord number place
 
 -- ---- an outcome of lexing
 
