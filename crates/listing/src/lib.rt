@@ -76,7 +76,8 @@ pub fn list(book: &[u8], text: &[u8], records: &mut [u8], out: &mut [u8]) -> usi
     requires { ⌜ (length (now records) ≡ recordBytes) × (length (now out) ≡ outputBytes) ⌝ }
     ensures { λ r. ⌜ r ≡ length (listing (now (book .entry)) (now (text .entry)) (now (records .entry))) ⌝ }
     ensures { λ r. ⌜ now (records .exit) ≡ (lexOutcome (now (book .entry)) (now (text .entry)) (now (records .entry))) .records ⌝ }
-    ensures { λ r. ⌜ now (out .exit) ≡ listing (now (book .entry)) (now (text .entry)) (now (records .entry)) ++ drop r (now (out .entry)) ⌝ }
+    ensures { λ r. ⌜ now (out .exit)
+        ≡ listing (now (book .entry)) (now (text .entry)) (now (records .entry)) ++ drop r (now (out .entry)) ⌝ }
 {
     let answer = lexer::lex(book, text, records);
     put_lines(out, answer, records, text.len())
