@@ -83,6 +83,28 @@ pub decimal-more : (n : ℕ) → 10 ≤ n → decimal n ≡ decimal (n / 10) ++ 
 unfolding decimal decimalFor
 decimal-more n l = rw (le-ltb n 10 l) (ap (λ (ds : List ℕ). ds ++ ((48 + n % 10) ∷ [])) (decimal-fuel n (suc (n / 10)) (n / 10) (omega arith) (omega arith)))
 
+-- one digit, and one more digit
+module _ {at : ℕ} {entry : List ℕ} {n : ℕ} (l : n < 10) where
+  pub room-digit : Room at (decimal n) entry → Room at ((48 + n) ∷ []) entry
+  room-digit r = rw (decimal-digit n l) at r
+
+  pub puts-digit : {end : ℕ} {exit : List ℕ} → Puts entry at ((48 + n) ∷ []) end exit → Puts entry at (decimal n) end exit
+  puts-digit p = rw (decimal-digit n l) p
+
+module _ {at : ℕ} {entry : List ℕ} {n : ℕ} (l : 10 ≤ n) (r : Room at (decimal n) entry) where
+  room-both : Room at (decimal (n / 10) ++ ((48 + n % 10) ∷ [])) entry
+  room-both = rw (decimal-more n l) at r
+
+  pub room-tenth : Room at (decimal (n / 10)) entry
+  room-tenth = room-first _ room-both
+
+  module _ {m : ℕ} {middle : List ℕ} (p : Puts entry at (decimal (n / 10)) m middle) where
+    pub room-last : length middle ≡ length entry → Room m ((48 + n % 10) ∷ []) middle
+    room-last e = room-second p e room-both
+
+    pub puts-last : {end : ℕ} {exit : List ℕ} → Puts middle m ((48 + n % 10) ∷ []) end exit → Puts entry at (decimal n) end exit
+    puts-last q = rw (decimal-more n l) (puts-then p q room-tenth)
+
 pub length-digit : (n : ℕ) → n < 10 → length (decimal n) ≡ 1
 length-digit n l = ap length (decimal-digit n l)
 

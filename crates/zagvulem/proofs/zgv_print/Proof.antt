@@ -7,4 +7,7 @@ use Rattle.zagvulem.proofs.zgv_print.Tie as tie
 
 pub zgv-print-spec : {M : Type 1} → statement M
 zgv-print-spec = tie.close (tie.spec (λ c κs. search needs) (λ c κs. search needs) (λ c. search needs)
-    (λ c. (c .printed .ensures ∙ ap printWord (c .before .before .before .print .ensures .0), c .before .before .before .print .ensures .1)))
+    (λ c. (
+      c .printed .ensures ∙ ap printWord (c .before .before .before .print .ensures .0),
+      c .before .before .before .print .ensures .1,
+    )))
