@@ -17,11 +17,14 @@ use Rattle.longest_match.proofs.Cutting.{lex-nil}
 use Rattle.record.specs.Tokens.{tokensOf}
 use Rattle.token_list.specs.Faults.{aloneIn}
 use Rattle.printer.proofs.Accepting.{written-joins, alone-tagged}
-use Rattle.printer.proofs.RoundTrip.{byte-below, same-rules, Cut, lexed-cut, cut-accepts, stored-say, equal-lists, accepts-printable, output-cut, cut-printed}
+use Rattle.printer.proofs.RoundTrip.{byte-below, same-rules, Cut, lexed-cut, cut-accepts, stored-say}
+use Rattle.printer.proofs.RoundTrip.{equal-lists, accepts-printable, output-cut, cut-printed}
 use Rattle.spacing.specs.Separators.{spelled}
 use Rattle.separated.proofs.RoundTrip.{spelled-rest, spelled-back, spelled-injective}
 use Rattle.demands.specs.Words.{Book, Lexes, stored, LongestMatch}
-use Rattle.demands.specs.Demands.{CutIsLongestMatch, StoredIsLongestMatch, TokensAndRestJoined, WritingJoins, EqualLists, AcceptedExactly, UnknownNotAlone, OutputsAreCut, CutsArePrinted, EmptyTextIsCut, SpacingAccepts, SpacingAcceptsNoOther, SpacingEqualLists, SpacingCutsBack}
+use Rattle.demands.specs.Demands.{CutIsLongestMatch, StoredIsLongestMatch, TokensAndRestJoined, WritingJoins}
+use Rattle.demands.specs.Demands.{EqualLists, AcceptedExactly, UnknownNotAlone, OutputsAreCut, CutsArePrinted, EmptyTextIsCut}
+use Rattle.demands.specs.Demands.{SpacingAccepts, SpacingAcceptsNoOther, SpacingEqualLists, SpacingCutsBack}
 use Rattle.demands.proofs.LongestMatch.{lex-longest, longest-lex}
 use Rattle.demands.proofs.Separable.{separable-printable, printable-separable}
 use Rattle.demands.proofs.Spacing.{unrefused-passes, unrefused-spaces, spaces-unrefused}
@@ -38,7 +41,8 @@ cut-is-longest-match book rules b text ts rest = (
 )
 
 -- the reported place is that of the rest
-rest-at : {book text room : List ℕ} {n place : ℕ} (rules : List Rule) → readBook book ≡ accepted rules → Cut book text room n place → drop place text ≡ (lex rules text) .rest
+rest-at : {book text room : List ℕ} {n place : ℕ} (rules : List Rule) → readBook book ≡ accepted rules → Cut book text room n place
+    → drop place text ≡ (lex rules text) .rest
 rest-at {book} {text} {room} {n} {place} rules e c =
     let q : c .rules ≡ rules = same-rules book (c .reads) e in
     let p : place ≡ length text - length ((lex rules text) .rest) = rw q at (c .place-is) in
@@ -50,7 +54,8 @@ stored-is-longest-match book rules b text room n place e =
     let t : tokensOf (stored book text room n) text ≡ (lex rules text) .tokens = stored-say book (b .bytes) c rules (b .reads) in
     let r : drop place text ≡ (lex rules text) .rest = rest-at rules (b .reads) c in
     subst (λ (x : List Token). LongestMatch rules text x (drop place text)) (sym t)
-    (subst (λ (x : List ℕ). LongestMatch rules text ((lex rules text) .tokens) x) (sym r) (lex-longest rules (valid b .rules-valid .distinct) text))
+    (subst (λ (x : List ℕ). LongestMatch rules text ((lex rules text) .tokens) x) (sym r)
+    (lex-longest rules (valid b .rules-valid .distinct) text))
 
 pub tokens-and-rest-joined : TokensAndRestJoined
 tokens-and-rest-joined book rules b text room n place e =
@@ -65,7 +70,8 @@ writing-joins = written-joins
 -- ---- demand 3, the plain printer
 
 pub equal-lists-equal-bytes : EqualLists
-equal-lists-equal-bytes book rules b records pool out n e records₁ pool₁ out₁ n₁ e₁ = equal-lists book (b .bytes) records pool out n records₁ pool₁ out₁ n₁ e e₁
+equal-lists-equal-bytes book rules b records pool out n e records₁ pool₁ out₁ n₁ e₁ =
+    equal-lists book (b .bytes) records pool out n records₁ pool₁ out₁ n₁ e e₁
 
 pub accepted-exactly : AcceptedExactly
 accepted-exactly book rules b records pool out u =

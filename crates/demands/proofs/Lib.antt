@@ -1,5 +1,5 @@
--- A proof of each demand (Demands), and what these rest on: the longest-match rule, the lists that the plain printer accepts, the calls that the
--- spacing printer accepts.
+-- A proof of each demand (Demands), and what these rest on: `lex` goes by longest match (LongestMatch), and what the printers accept, in
+-- the words of the demands (Separable, Spacing).
 pub mod LongestMatch
 pub mod Separable
 pub mod Spacing

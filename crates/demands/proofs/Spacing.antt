@@ -17,7 +17,7 @@ use Rattle.used_bytes.specs.Bytes.{usedByKind, shared}
 use Rattle.spacing.specs.Separators.{spelled}
 use Rattle.separated.proofs.Sides.{all-map}
 use Rattle.separated.proofs.Unrefused.{Taken, Passes, passes-accepted, accepted-passes}
-use Rattle.demands.specs.Words.{Fit, FitSeparator, FitPlain, Unrefused, Spaces, spaced}
+use Rattle.demands.specs.Words.{Fit, Unrefused, Spaces, spaced}
 use Rattle.answer.specs.declared.PrintAnswer.the-variants as print
 
 -- ---- the parts of a call
@@ -69,7 +69,8 @@ module _ {rules : List Rule} {sep : TokenRecord} {mode : ℕ} {records pool out 
 
 -- ---- what is written
 
-module _ (book : List ℕ) (rules : List Rule) (reads : readBook book ≡ accepted rules) (sep : TokenRecord) (mode : ℕ) (records pool out : List ℕ) where
+module _ (book : List ℕ) (rules : List Rule) (reads : readBook book ≡ accepted rules)
+    (sep : TokenRecord) (mode : ℕ) (records pool out : List ℕ) where
   abbrev bytes : List ℕ
   bytes = spelled rules sep mode records pool
 

@@ -24,7 +24,8 @@ pub puts-byte : (entry : List ℕ) (at byte : ℕ) → Room at (byte ∷ []) ent
 puts-byte entry at byte l =
     record { behind = refl; written = rw (set-split entry at byte (omega (arith, l .room)), append-snoc, add-one) }
 
-module _ {entry middle exit xs ys : List ℕ} {at m end : ℕ} (p : Puts entry at xs m middle) (q : Puts middle m ys end exit) (r : Room at xs entry) where
+module _ {entry middle exit xs ys : List ℕ} {at m end : ℕ}
+    (p : Puts entry at xs m middle) (q : Puts middle m ys end exit) (r : Room at xs entry) where
   head-length : length (take at entry ++ xs) ≡ at + length xs
   head-length =
       let l : length (take at entry) ≡ at = length-take-le at entry (omega (arith, r .room)) in
@@ -58,7 +59,8 @@ module _ {entry middle exit xs ys : List ℕ} {at m end : ℕ} (p : Puts entry a
 pub room-first : {at : ℕ} {xs out : List ℕ} (ys : List ℕ) → Room at (xs ++ ys) out → Room at xs out
 room-first {at} {xs} {out} ys r = record { room = omega (arith, length-append xs ys, r .room) }
 
-pub room-second : {entry middle xs ys : List ℕ} {at m : ℕ} → Puts entry at xs m middle → length middle ≡ length entry → Room at (xs ++ ys) entry
+pub room-second : {entry middle xs ys : List ℕ} {at m : ℕ} → Puts entry at xs m middle → length middle ≡ length entry
+    → Room at (xs ++ ys) entry
     → Room m ys middle
 room-second {entry} {middle} {xs} {ys} p e r = record { room = omega (arith, length-append xs ys, p .behind, r .room) }
 
@@ -71,7 +73,8 @@ decimal-fuel (suc f) zero n p q = absurd (omega arith)
 decimal-fuel (suc f) (suc g) n p q = go (ltb n 10) refl (decimal-fuel f g (n / 10))
   where
     go : (t : Bool) → ltb n 10 ≡ t → (n / 10 < f → n / 10 < g → decimalFor f (n / 10) ≡ decimalFor g (n / 10))
-        → if t ((48 + n) ∷ []) (decimalFor f (n / 10) ++ ((48 + n % 10) ∷ [])) ≡ if t ((48 + n) ∷ []) (decimalFor g (n / 10) ++ ((48 + n % 10) ∷ []))
+        → if t ((48 + n) ∷ []) (decimalFor f (n / 10) ++ ((48 + n % 10) ∷ []))
+        ≡ if t ((48 + n) ∷ []) (decimalFor g (n / 10) ++ ((48 + n % 10) ∷ []))
     go true e h = refl
     go false e h = let l : 10 ≤ n = ltb-false n 10 e in rw (h (omega arith) (omega arith))
 
@@ -81,7 +84,9 @@ decimal-digit n l = rw (lt-ltb n 10 l)
 
 pub decimal-more : (n : ℕ) → 10 ≤ n → decimal n ≡ decimal (n / 10) ++ ((48 + n % 10) ∷ [])
 unfolding decimal decimalFor
-decimal-more n l = rw (le-ltb n 10 l) (ap (λ (ds : List ℕ). ds ++ ((48 + n % 10) ∷ [])) (decimal-fuel n (suc (n / 10)) (n / 10) (omega arith) (omega arith)))
+decimal-more n l =
+    let e = decimal-fuel n (suc (n / 10)) (n / 10) (omega arith) (omega arith) in
+    rw (le-ltb n 10 l) (ap (λ (ds : List ℕ). ds ++ ((48 + n % 10) ∷ [])) e)
 
 -- one digit, and one more digit
 module _ {at : ℕ} {entry : List ℕ} {n : ℕ} (l : n < 10) where

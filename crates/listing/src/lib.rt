@@ -1,4 +1,5 @@
-// The lines of the program cutlist, written into a lent buffer.
+// What the program cutlist prints of a book and a text: `list` cuts the text and writes the lines of the outcome into a lent buffer.
+// `digits` writes numbers in decimal, `lines` a token's line.
 pub mod digits;
 pub mod lines;
 

@@ -1,4 +1,4 @@
--- What the code computes is the outcome (Checking, Answering), which calls are accepted (Unrefused), and that what is written is cut back into
+-- What the code answers is the outcome (Checking, Answering), which calls are accepted (Unrefused), and what is written is cut back into
 -- the list (Sides, RoundTrip).
 pub mod Checking
 pub mod Sides

@@ -61,7 +61,9 @@ module _ {rules : List Rule} (v : ValidRules rules) (d : Disjoint rules) where
     unfolding separated follows extends
     separated-printable [] h = tt
     separated-printable (t ∷ []) h = (h .0 .alone, refl, tt)
-    separated-printable (t ∷ u ∷ us) (p, h) = put-printable t u (put (follows rules mode u (separated rules sep mode us)) sep (separated rules sep mode us)) _ refl p (h .0) (separated-printable (u ∷ us) h)
+    separated-printable (t ∷ u ∷ us) (p, h) =
+        let rest = separated rules sep mode us in
+        put-printable t u (put (follows rules mode u rest) sep rest) _ refl p (h .0) (separated-printable (u ∷ us) h)
 
     drop-put : (c : Bool) (t : Token) (us ts : List Token) → separates rules t.tag ≡ false → dropSeparators rules us ≡ ts
         → dropSeparators rules (t ∷ put c sep us) ≡ t ∷ ts
@@ -72,14 +74,15 @@ module _ {rules : List Rule} (v : ValidRules rules) (d : Disjoint rules) where
     drop-separated : (ts : List Token) → All (OfKind rules false) ts → dropSeparators rules (separated rules sep mode ts) ≡ ts
     unfolding separated dropSeparators
     drop-separated [] h = refl
-    drop-separated (t ∷ ts) (p, h) = drop-put (follows rules mode t (separated rules sep mode ts)) t (separated rules sep mode ts) ts (p .kind) (drop-separated ts h)
+    drop-separated (t ∷ ts) (p, h) = drop-put (follows rules mode t (separated rules sep mode ts)) t _ ts (p .kind) (drop-separated ts h)
 
     -- what is printed is cut into the tokens and their separators, and no rest
     pub separated-lexes : (ts : List Token) → All (OfKind rules false) ts
         → lex rules (join (separated rules sep mode ts)) ≡ record { tokens = separated rules sep mode ts; rest = [] }
     separated-lexes ts h = printed-lexes rules (separated rules sep mode ts) (valid-empty v) (separated-printable ts h)
 
-    pub separated-back : (ts : List Token) → All (OfKind rules false) ts → dropSeparators rules ((lex rules (join (separated rules sep mode ts))) .tokens) ≡ ts
+    pub separated-back : (ts : List Token) → All (OfKind rules false) ts
+        → dropSeparators rules ((lex rules (join (separated rules sep mode ts))) .tokens) ≡ ts
     separated-back ts h = rw (separated-lexes ts h) (drop-separated ts h)
 
 -- ---- a call that passes the checks
@@ -94,7 +97,8 @@ unfolding tokensIn
 taken-kinds rules pool [] h = tt
 taken-kinds rules pool (r ∷ rs) (t, h) = (taken-kind t, taken-kinds rules pool rs h)
 
-module _ {rules : List Rule} (v : ValidRules rules) {sep : TokenRecord} {mode : ℕ} {records pool : List ℕ} (p : Passes rules sep mode records pool) where
+module _ {rules : List Rule} (v : ValidRules rules) {sep : TokenRecord} {mode : ℕ} {records pool : List ℕ}
+    (p : Passes rules sep mode records pool) where
   disjoint : Disjoint rules
   disjoint = record { apart = p .unshared }
 

@@ -113,7 +113,8 @@ module _ (rules : List Rule) (pool : List ℕ) (r : TokenRecord) where
   taken-plain t = or-else-none _ _ 26 (of-faultless (t .faultless)) (t .kind)
 
 -- the list has no fault
-pub faults-none : (fault : TokenRecord → ℕ) (rs : List TokenRecord) (k : ℕ) → firstFault fault rs k ≡ none → All (λ (r : TokenRecord). fault r ≡ 0) rs
+pub faults-none : (fault : TokenRecord → ℕ) (rs : List TokenRecord) (k : ℕ) → firstFault fault rs k ≡ none
+    → All (λ (r : TokenRecord). fault r ≡ 0) rs
 unfolding firstFault refuse
 faults-none fault [] k e = tt
 faults-none fault (r ∷ rs) k e = go (eqb (fault r) 0) refl (faults-none fault rs (suc k)) e
@@ -123,7 +124,8 @@ faults-none fault (r ∷ rs) k e = go (eqb (fault r) 0) refl (faults-none fault 
     go true q ih z = (eqb-true (fault r) 0 q, ih z)
     go false q ih z = nothing z refl
 
-pub none-faults : (fault : TokenRecord → ℕ) (rs : List TokenRecord) (k : ℕ) → All (λ (r : TokenRecord). fault r ≡ 0) rs → firstFault fault rs k ≡ none
+pub none-faults : (fault : TokenRecord → ℕ) (rs : List TokenRecord) (k : ℕ) → All (λ (r : TokenRecord). fault r ≡ 0) rs
+    → firstFault fault rs k ≡ none
 unfolding firstFault refuse
 none-faults fault [] k h = refl
 none-faults fault (r ∷ rs) k (e, h) = rw (eq-eqb (fault r) 0 e, none-faults fault rs (suc k) h)
@@ -160,7 +162,7 @@ module _ (rules : List Rule) (sep : TokenRecord) (mode : ℕ) (records pool : Li
         known-mode = ltb-false 2 mode (b .0);
         separator = separator-taken rules pool sep (eqb-true _ 0 (not-not _ (c .0)));
         few = ltb-false _ _ (d .0);
-        tokens = all-map _ _ (plain-taken rules pool) (recordsOf records) (faults-none (plainFault rules pool) (recordsOf records) 0 (d .1));
+        tokens = all-map _ _ (plain-taken rules pool) (recordsOf records) (faults-none _ (recordsOf records) 0 (d .1));
       }
 
   pub passes-none : Passes rules sep mode records pool → separatedRefusal rules sep mode records pool ≡ none
@@ -172,9 +174,10 @@ module _ (rules : List Rule) (sep : TokenRecord) (mode : ℕ) (records pool : Li
         taken-separator rules pool sep (p .separator),
         le-ltb maxTokens (recordCount records) (p .few),
       )
-      (none-faults (plainFault rules pool) (recordsOf records) 0 (all-map _ _ (taken-plain rules pool) (recordsOf records) (p .tokens)))
+      (none-faults _ (recordsOf records) 0 (all-map _ _ (taken-plain rules pool) (recordsOf records) (p .tokens)))
 
-check-printed : (t : Bool) (number place : ℕ) (out : List ℕ) (next : PrintOutcome) (n : ℕ) → (refusedIf t number place out next) .answer ≡ answer.Printed n
+check-printed : (t : Bool) (number place : ℕ) (out : List ℕ) (next : PrintOutcome) (n : ℕ)
+    → (refusedIf t number place out next) .answer ≡ answer.Printed n
     → (t ≡ false) × (next .answer ≡ answer.Printed n)
 unfolding refusedIf
 check-printed true number place out next n e = let z : _≡_ {A = ℕ} 0 1 = cc in absurd (omega arith)

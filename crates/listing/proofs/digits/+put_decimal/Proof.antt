@@ -47,8 +47,10 @@ pub +put-decimal-spec : {M : Type 1} → statement M
     (λ c. record { fits = omega arith })
     (λ c κs.
     let d = c .before .before .before in
-    room-last (d .before .before .if1 .left) (d .before .before .before .before .pre .1) (d .put-decimal .ensures) (d .put-decimal .kept .0))
+    let s = d .before .before in
+    room-last (s .if1 .left) (s .before .before .pre .1) (d .put-decimal .ensures) (d .put-decimal .kept .0))
     (λ c. c .before .before .put-byte2 .kept .0 ∙ c .before .before .before .before .before .before .put-decimal .kept .0)
     (λ c.
     let d = c .before .before .before .before .before .before in
-    puts-last (d .before .before .if1 .left) (d .before .before .before .before .pre .1) (d .put-decimal .ensures) (c .before .before .put-byte2 .ensures))
+    let s = d .before .before in
+    puts-last (s .if1 .left) (s .before .before .pre .1) (d .put-decimal .ensures) (c .before .before .put-byte2 .ensures))
