@@ -16,7 +16,7 @@ use Rattle.used_bytes.specs.Kinds.{plainKind, separatorKind}
 use Rattle.used_bytes.specs.Bytes.{usedByKind, shared}
 use Rattle.spacing.specs.Separators.{spelled}
 use Rattle.separated.proofs.Sides.{all-map}
-use Rattle.separated.proofs.Unrefused.{Taken, Passes, passes-accepted, accepted-passes}
+use Rattle.separated.proofs.Unrefused.{Taken, CallPasses, passes-accepted, accepted-passes}
 use Rattle.demands.specs.Words.{Fit, Unrefused, Spaces, spaced}
 use Rattle.answer.specs.declared.PrintAnswer.the-variants as print
 
@@ -46,7 +46,7 @@ module _ {rules : List Rule} {pool : List ℕ} {r : TokenRecord} where
 -- ---- the call
 
 module _ {rules : List Rule} {sep : TokenRecord} {mode : ℕ} {records pool out : List ℕ} where
-  pub unrefused-passes : Unrefused rules sep mode records pool out → Passes rules sep mode records pool
+  pub unrefused-passes : Unrefused rules sep mode records pool out → CallPasses rules sep mode records pool
   unrefused-passes u = record {
     unshared = λ b l. of-apart rules b (u .not-23 b l);
     known-mode = u .not-24;
@@ -55,7 +55,7 @@ module _ {rules : List Rule} {sep : TokenRecord} {mode : ℕ} {records pool out 
     tokens = all-map _ _ (λ r f. record { faultless = of-fit (f .fit); kind = f .not-26 }) (recordsOf records) (u .tokens);
   }
 
-  pub passes-unrefused : Passes rules sep mode records pool → length (spelled rules sep mode records pool) ≤ maxText
+  pub passes-unrefused : CallPasses rules sep mode records pool → length (spelled rules sep mode records pool) ≤ maxText
       → length (spelled rules sep mode records pool) ≤ length out → Unrefused rules sep mode records pool out
   passes-unrefused p short room = record {
     not-23 = λ b l. apart-of rules b (p .unshared b l);

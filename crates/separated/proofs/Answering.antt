@@ -31,7 +31,7 @@ use Rattle.separated.specs.Refusals.{separatedRefusal}
 use Rattle.separated.specs.Contracts.{checkedOf, Passed}
 use Rattle.separated.specs.Outcome.{writing, separatedRules, separatedOutcome}
 use Rattle.separated.proofs.Sides.{all-map}
-use Rattle.separated.proofs.Unrefused.{Passes, passes}
+use Rattle.separated.proofs.Unrefused.{CallPasses, passes}
 use Rattle.answer.specs.declared.BookAnswer.the-variants as book
 use Rattle.answer.specs.declared.PrintAnswer.the-variants as print
 use Rattle.separated.specs.declared.checks.Checked.the-variants as checked
@@ -137,5 +137,5 @@ passed-spaceable {hs} {ss} {es} {n} {sep} {mode} {records} {pool} p =
       alone = λ rules h. all-map _ _ (λ r t. alone-first rules (r .tag) _ (t .faultless .alone)) (recordsOf records) (fine h .tokens);
     }
   where
-    fine : {rules : List Rule} → Holds hs ss es n rules → Passes rules sep mode records pool
+    fine : {rules : List Rule} → Holds hs ss es n rules → CallPasses rules sep mode records pool
     fine {rules} h = passes rules sep mode records pool (p .unrefused rules h)

@@ -20,7 +20,7 @@ use Rattle.token_list.proofs.Alone.{alone-first}
 use Rattle.used_bytes.specs.Kinds.{separates}
 use Rattle.spacing.specs.Separators.{dropSeparators, meaning, follows, put, separated, spelled}
 use Rattle.separated.proofs.Sides.{all-right, Side, Disjoint, side-unique, token-side, match-side, valid-empty}
-use Rattle.separated.proofs.Unrefused.{Taken, Passes}
+use Rattle.separated.proofs.Unrefused.{Taken, CallPasses}
 
 -- a token that is cut as itself, of separator kind or not
 pub record OfKind (rules : List Rule) (separator : Bool) (t : Token) : Type 0 where
@@ -98,7 +98,7 @@ taken-kinds rules pool [] h = tt
 taken-kinds rules pool (r ∷ rs) (t, h) = (taken-kind t, taken-kinds rules pool rs h)
 
 module _ {rules : List Rule} (v : ValidRules rules) {sep : TokenRecord} {mode : ℕ} {records pool : List ℕ}
-    (p : Passes rules sep mode records pool) where
+    (p : CallPasses rules sep mode records pool) where
   disjoint : Disjoint rules
   disjoint = record { apart = p .unshared }
 
@@ -114,8 +114,8 @@ module _ {rules : List Rule} (v : ValidRules rules) {sep : TokenRecord} {mode : 
 
 -- and is put together of one list only
 pub spelled-injective : {rules : List Rule} → ValidRules rules → {mode : ℕ}
-    → {sep : TokenRecord} {records pool : List ℕ} → Passes rules sep mode records pool
-    → {sep₁ : TokenRecord} {records₁ pool₁ : List ℕ} → Passes rules sep₁ mode records₁ pool₁ → tokenIn pool sep ≡ tokenIn pool₁ sep₁
+    → {sep : TokenRecord} {records pool : List ℕ} → CallPasses rules sep mode records pool
+    → {sep₁ : TokenRecord} {records₁ pool₁ : List ℕ} → CallPasses rules sep₁ mode records₁ pool₁ → tokenIn pool sep ≡ tokenIn pool₁ sep₁
     → (tokensOf records pool ≡ tokensOf records₁ pool₁) ↔ (spelled rules sep mode records pool ≡ spelled rules sep₁ mode records₁ pool₁)
 spelled-injective {rules} v p p₁ same = (
   λ e. rw (same, e),

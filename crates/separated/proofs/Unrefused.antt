@@ -142,7 +142,7 @@ or-none-both none y e = (refl, e)
 or-none-both (some f) y e = nothing e refl
 
 -- a call that is not refused before anything is put together
-pub record Passes (rules : List Rule) (sep : TokenRecord) (mode : ℕ) (records pool : List ℕ) : Type 0 where
+pub record CallPasses (rules : List Rule) (sep : TokenRecord) (mode : ℕ) (records pool : List ℕ) : Type 0 where
   pub unshared : (b : ℕ) → b < 256 → shared rules b ≡ false
   pub known-mode : mode ≤ 2
   pub separator : Taken rules pool true sep
@@ -150,7 +150,7 @@ pub record Passes (rules : List Rule) (sep : TokenRecord) (mode : ℕ) (records 
   pub tokens : All (Taken rules pool false) (recordsOf records)
 
 module _ (rules : List Rule) (sep : TokenRecord) (mode : ℕ) (records pool : List ℕ) where
-  pub passes : separatedRefusal rules sep mode records pool ≡ none → Passes rules sep mode records pool
+  pub passes : separatedRefusal rules sep mode records pool ≡ none → CallPasses rules sep mode records pool
   unfolding separatedRefusal listRefusal
   passes e =
       let a = or-none-both (sharing (sharedByte rules)) _ e in
@@ -165,7 +165,7 @@ module _ (rules : List Rule) (sep : TokenRecord) (mode : ℕ) (records pool : Li
         tokens = all-map _ _ (plain-taken rules pool) (recordsOf records) (faults-none _ (recordsOf records) 0 (d .1));
       }
 
-  pub passes-none : Passes rules sep mode records pool → separatedRefusal rules sep mode records pool ≡ none
+  pub passes-none : CallPasses rules sep mode records pool → separatedRefusal rules sep mode records pool ≡ none
   unfolding separatedRefusal listRefusal sharing refuse
   passes-none p =
       rw (
@@ -194,13 +194,13 @@ module _ (rules : List Rule) (sep : TokenRecord) (mode : ℕ) (records pool : Li
   bytes = spelled rules sep mode records pool
 
   module _ (book out : List ℕ) (reads : readBook book ≡ accepted rules) where
-    pub passes-accepted : Passes rules sep mode records pool → length bytes ≤ maxText → length bytes ≤ length out
+    pub passes-accepted : CallPasses rules sep mode records pool → length bytes ≤ maxText → length bytes ≤ length out
         → separatedOutcome book sep mode records pool out ≡ printAccepted bytes out
     unfolding separatedOutcome separatedRules writing refusedIf unless
     passes-accepted p short room = rw (reads, passes-none rules sep mode records pool p, le-ltb maxText _ short, le-ltb _ _ room)
 
     pub accepted-passes : {n : ℕ} → (separatedOutcome book sep mode records pool out) .answer ≡ answer.Printed n
-        → Passes rules sep mode records pool × (length bytes ≤ maxText) × (length bytes ≤ length out)
+        → CallPasses rules sep mode records pool × (length bytes ≤ maxText) × (length bytes ≤ length out)
     unfolding separatedOutcome separatedRules writing
     accepted-passes {n} e =
         let a = unless-printed (separatedRefusal rules sep mode records pool) out _ n (rw reads at e) in

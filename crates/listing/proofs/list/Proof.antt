@@ -4,20 +4,11 @@ use Rattle.listing.proofs.Bounds.{fit-answer, listed}
 use Rattle.listing.proofs.list.Statement.{statement}
 use Rattle.listing.proofs.list.Tie as tie
 
-lex-requires : tie.Need-lex-requires
-lex-requires c κs = search needs
-
 put-lines-requires : tie.Need-put-lines-requires
 put-lines-requires c κs =
     let l = c .before .before .before .before in
     let p = l .before .before .before .before .before .before .pre in
     fit-answer _ _ _ (l .lex .ensures .0) (l .lex .ensures .1) _ (p .0) (p .1)
-
-same-length : tie.Need-same-length
-same-length c = search needs
-
-same-length-2 : tie.Need-same-length-2
-same-length-2 c = search needs
 
 returns : tie.Need-returns
 returns c =
@@ -27,4 +18,4 @@ returns c =
     (z .0, (l .lex .ensures .1, z .1))
 
 pub list-spec : {M : Type 1} → statement M
-list-spec = tie.close (tie.spec lex-requires put-lines-requires same-length same-length-2 returns)
+list-spec = tie.close (tie.spec (λ c κs. search needs) put-lines-requires (λ c. search needs) (λ c. search needs) returns)

@@ -12,13 +12,10 @@ put-last-two-requires c κs =
     let s = c .before .before .before in
     room-second (s .put-word .ensures) (s .put-word .kept .0) (s .before .before .before .before .pre)
 
-same-length : tie.Need-same-length
-same-length c = search needs
-
 returns : tie.Need-returns
 returns c =
     let s = c .before .before .before .before .before .before in
     puts-then (s .put-word .ensures) (c .before .before .put-last-two .ensures) (room-first _ (s .before .before .before .before .pre))
 
 pub put-line-spec : {M : Type 1} → statement M
-put-line-spec = tie.close (tie.spec put-word-requires put-last-two-requires same-length returns)
+put-line-spec = tie.close (tie.spec put-word-requires put-last-two-requires (λ c. search needs) returns)

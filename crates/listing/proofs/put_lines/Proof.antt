@@ -6,17 +6,11 @@ use Rattle.listing.proofs.Listing.{fit-lexed, puts-lexed, room-refused,
 use Rattle.listing.proofs.put_lines.Statement.{statement}
 use Rattle.listing.proofs.put_lines.Tie as tie
 
-enum-known-answer : tie.Need-enum-known-answer
-enum-known-answer c = search needs
-
 put-records-requires : tie.Need-put-records-requires
 put-records-requires c κs =
     let a = c .before .before in
     let f = fit-lexed (a .answer .given .1) _ _ (a .before .before .before .before .pre) in
     (f .0, room-first _ (f .2))
-
-slice-aggregate-put-line : tie.Need-slice-aggregate-put-line
-slice-aggregate-put-line c = search needs
 
 sub-put-line : tie.Need-sub-put-line
 sub-put-line c =
@@ -31,24 +25,12 @@ put-line-requires c κs =
     let f = fit-lexed (a .answer .given .1) _ _ (a .before .before .before .before .pre) in
     room-second (p .put-records .ensures) (p .put-records .kept .0) (f .2)
 
-enum-known-answer-2 : tie.Need-enum-known-answer-2
-enum-known-answer-2 c = search needs
-
-slice-aggregate-put-line-2 : tie.Need-slice-aggregate-put-line-2
-slice-aggregate-put-line-2 c = search needs
-
-cast-put-line : tie.Need-cast-put-line
-cast-put-line c = search needs
-
 put-line-requires-2 : tie.Need-put-line-requires-2
 unfolding refusedLine
 put-line-requires-2 c κs =
     let a = c .before .before .before .before in
     let g = c .struct-known .given in
     room-refused (a .answer2 .given .1) _ _ (a .before .before .before .before .pre) (g .0 .fits) (g .1 .0 .fits)
-
-same-length : tie.Need-same-length
-same-length c = search needs
 
 returns : tie.Need-returns
 unfolding restLine
@@ -59,9 +41,6 @@ returns c =
     let f = fit-lexed (a .answer .given .1) _ _ (a .before .before .before .before .pre) in
     puts-lexed (a .answer .given .1) _ _ (puts-then (p .put-records .ensures) (l .put-line .ensures) (room-first _ (f .2)))
 
-same-length-2 : tie.Need-same-length-2
-same-length-2 c = search needs
-
 returns-2 : tie.Need-returns-2
 unfolding refusedLine
 returns-2 c =
@@ -69,19 +48,6 @@ returns-2 c =
     puts-refused (l .before .before .before .before .before .answer2 .given .1) _ _ (l .put-line2 .ensures)
 
 pub put-lines-spec : {M : Type 1} → statement M
-put-lines-spec =
-    tie.close
-    (tie.spec
-    enum-known-answer
-    put-records-requires
-    slice-aggregate-put-line
-    sub-put-line
-    put-line-requires
-    enum-known-answer-2
-    slice-aggregate-put-line-2
-    cast-put-line
-    put-line-requires-2
-    same-length
-    returns
-    same-length-2
-    returns-2)
+put-lines-spec = tie.close (tie.spec (λ c. search needs) put-records-requires (λ c. search needs) sub-put-line
+    put-line-requires (λ c. search needs) (λ c. search needs) (λ c. search needs) put-line-requires-2 (λ c. search needs)
+    returns (λ c. search needs) returns-2)

@@ -15,9 +15,6 @@ put-field-requires-2 c κs =
     let f = c .before .before .before in
     room-second (f .put-field .ensures) (f .put-field .kept .0) (f .before .before .before .pre)
 
-same-length : tie.Need-same-length
-same-length c = search needs
-
 returns : tie.Need-returns
 unfolding lastTwo
 returns c =
@@ -25,5 +22,4 @@ returns c =
     puts-then (f .put-field .ensures) (c .before .before .put-field2 .ensures) (room-first _ (f .before .before .before .pre))
 
 pub put-last-two-spec : {M : Type 1} → statement M
-put-last-two-spec =
-    tie.close (tie.spec put-field-requires put-field-requires-2 same-length returns)
+put-last-two-spec = tie.close (tie.spec put-field-requires put-field-requires-2 (λ c. search needs) returns)

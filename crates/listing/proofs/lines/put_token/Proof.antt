@@ -25,9 +25,6 @@ put-last-two-requires c κs =
     room-second (puts-then (f .put-field .ensures) (g .put-field2 .ensures) (room-first _ (room-first _ r)))
     (g .put-field2 .kept .0 ∙ f .put-field .kept .0) r
 
-same-length : tie.Need-same-length
-same-length c = search needs
-
 returns : tie.Need-returns
 unfolding tokenLine
 returns c =
@@ -38,6 +35,4 @@ returns c =
     puts-then (puts-then (f .put-field .ensures) (g .put-field2 .ensures) (room-first _ r)) (l .put-last-two .ensures) r
 
 pub put-token-spec : {M : Type 1} → statement M
-put-token-spec =
-    tie.close
-    (tie.spec put-field-requires put-field-requires-2 put-last-two-requires same-length returns)
+put-token-spec = tie.close (tie.spec put-field-requires put-field-requires-2 put-last-two-requires (λ c. search needs) returns)
