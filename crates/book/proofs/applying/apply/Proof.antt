@@ -3,7 +3,7 @@ use native.Mathlib.Omega.{arith}
 use borrow.Author.Needs.{needs}
 use Rattle.book.specs.Draft.{apply}
 use Rattle.book.specs.Contracts.{standsInside}
-use Rattle.book.proofs.Steps.{inside-room}
+use Rattle.book.proofs.Steps.{outside-room, inside-room}
 use Rattle.book.proofs.applying.apply.Statement.{statement}
 use Rattle.book.proofs.applying.apply.Tie as tie
 
@@ -11,7 +11,7 @@ enum-known-command : tie.Need-enum-known-command
 enum-known-command c = search needs
 
 open-rule-requires : tie.Need-open-rule-requires
-open-rule-requires c κs = search needs
+open-rule-requires c κs = outside-room (c .before .before .before .before .before .before .before .pre .0)
 
 enum-known-command-2 : tie.Need-enum-known-command-2
 enum-known-command-2 c = search needs
