@@ -43,6 +43,9 @@ module _ (hs ss es : List ℕ) (at n : ℕ) (d : Draft) {t s : Bool} (seen : t �
 pub rules-are : {b : Book} {hs ss es : List ℕ} {d : Draft} → Represents b hs ss es d → b .rules ≡ length d.rules
 rules-are h = ap (λ (x : Book). x .rules) (h .same)
 
+pub inside-is : {b : Book} {hs ss es : List ℕ} {d : Draft} → Represents b hs ss es d → b .inside ≡ d.inside
+inside-is h = ap (λ (x : Book). x .inside) (h .same)
+
 -- ---- END
 
 empty-or-not : (rules : List Rule) → isEmpty rules ≡ eqb (length rules) 0
@@ -283,7 +286,7 @@ pub record Inside (b : Book) (hs ss es : List ℕ) : Type 0 where
 pub inside-room : {b : Book} {hs ss es : List ℕ} → Represented b hs ss es → b .inside ≡ true → Inside b hs ss es
 inside-room k e =
     let h = k .holds in
-    let i = ap (λ (x : Book). x .inside) (sym (h .same)) ∙ e in
+    let i = sym (inside-is h) ∙ e in
     let r = open-room h i in
     record {
       headers = omega (arith, h .stored .sized .headers);

@@ -15,8 +15,8 @@ use Rattle.command.specs.declared.Decoded.{Decoded}
 use Rattle.command.specs.Commands.{byteAt, pairAt, decode, commandAt, placed, operandsOf}
 use Rattle.book.specs.Limits.{maxBytes}
 use Rattle.book.specs.Draft.{Draft, between, Verdict, goes, accepts, refuses, apply}
-use Rattle.book.specs.Valid.{Valid, Fine}
-use Rattle.book.specs.Contracts.{standsInside, adds}
+use Rattle.book.specs.Valid.{Valid}
+use Rattle.book.specs.Contracts.{Fine, standsInside, adds}
 use Rattle.book.proofs.Fine.{InRange, Good, fine-start, apply-good}
 use Rattle.reader.specs.Reading.{Reading, accepted, refused, goOn, takeIn, readFrom, readBook}
 use Rattle.command.specs.declared.Decoded.the-variants as decoded
