@@ -109,11 +109,16 @@ closed-rule d f o apart stays fails nonempty =
       few = f .few;
     }
 
-between-fine : (rules : List Rule) → ValidRules rules → Fine (between rules)
-between-fine rules v =
+-- a rule just opened, or none
+bare-fine : {rules : List Rule} {inside : Bool} {tag kind : ℕ} → ValidRules rules → (inside ≡ true → OpenRule rules tag kind)
+    → Fine (record {
+      rules = rules; inside = inside; tag = tag; kind = kind;
+      start = none; error = none; finals = []; transitions = [];
+    })
+bare-fine v o =
     record {
       closed = v;
-      current = λ e. clash e refl;
+      current = o;
       start = tt;
       error = tt;
       finals = tt;
@@ -122,6 +127,9 @@ between-fine rules v =
       idle-finals = λ e. refl;
       idle-transitions = λ e. refl;
     }
+
+between-fine : (rules : List Rule) → ValidRules rules → Fine (between rules)
+between-fine rules v = bare-fine v (λ e. clash e refl)
 
 pub fine-start : Fine (between [])
 fine-start = between-fine [] (record { each = tt; distinct = tt; few = omega arith })
@@ -138,17 +146,7 @@ apply-good d (RULE tag kind) at len f r i =
     let z : tag ≡ 0 → ⊥ = eqb-false tag 0 (p .0) in
     let k : kind ≤ 1 = ltb-false 1 kind (p .1) in
     let l : length d.rules < maxRules = leb-false _ _ few in
-    record {
-      closed = f .closed;
-      current = λ e. record { tag-some = omega arith; tag-below = r; tag-new = new; kind-known = k; room = l };
-      start = tt;
-      error = tt;
-      finals = tt;
-      ranged = tt;
-      few = omega arith;
-      idle-finals = λ e. refl;
-      idle-transitions = λ e. refl;
-    })))
+    bare-fine (f .closed) (λ e. record { tag-some = omega arith; tag-below = r; tag-new = new; kind-known = k; room = l }))))
 apply-good d (Start s) at len f r i =
     check-good (isSet d.start) _ _ _ (λ e. inside-fine f (sym i) r (f .error) (f .finals) (f .ranged) (f .few))
 apply-good d (Error s) at len f r i =

@@ -12,8 +12,8 @@ use borrow.Author.Tests.{eq-eqb, ne-eqb, le-leb, lt-leb, lt-ltb, le-ltb}
 use Rattle.automaton.specs.Choice.{if, any, among}
 use Rattle.automaton.specs.Rule.{Transition, Rule, meets, overlaps, stateCount}
 use Rattle.automaton.proofs.Built.{head-none, head-some, meets-shares}
-use Rattle.automaton.specs.Contracts.{headerWord, edgeWord, headAt, linked, marked, leaving, shares, Chained, Cells, Tables}
-use Rattle.automaton.proofs.Tests.{clash, or-true}
+use Rattle.automaton.specs.Contracts.{headerWord, edgeWord, headAt, linked, marked, leaving, shares, Chained, Cells}
+use Rattle.automaton.proofs.Tests.{or-true}
 use Rattle.command.specs.declared.Command.the-variants.{Rule as RULE, Final, Close, End}
 use Rattle.book.specs.declared.Book.{Book}
 use Rattle.book.specs.declared.Progress.the-variants.{On, Done, Refused}

@@ -41,6 +41,14 @@ pub enum Progress {
     Refused(Refusal),
 }
 
+impl Progress {
+    pub fn refused(number: u8, place: usize) -> Progress
+        ensures { λ r. ⌜ r ≡ Progress.Refused (record { number = number; place = place }) ⌝ }
+    {
+        Progress::Refused(Refusal { number, place })
+    }
+}
+
 impl Book {
     // The limits of a book.
     pub const BYTES: usize = 32768;
@@ -90,7 +98,7 @@ impl Book {
         ensures { λ r. ⌜ ((hs ss es : List ℕ) (len : ℕ) → Takes self (Command.Start s) at len r hs ss es hs ss es) ⌝ }
     {
         if self.started {
-            return refused(Refusal::TWICE_OR_MISSING, at);
+            return Progress::refused(Refusal::TWICE_OR_MISSING, at);
         }
         self.started = true;
         self.start = s;
@@ -102,7 +110,7 @@ impl Book {
         ensures { λ r. ⌜ ((hs ss es : List ℕ) (len : ℕ) → Takes self (Command.Error s) at len r hs ss es hs ss es) ⌝ }
     {
         if self.erring {
-            return refused(Refusal::TWICE_OR_MISSING, at);
+            return Progress::refused(Refusal::TWICE_OR_MISSING, at);
         }
         self.erring = true;
         self.error = s;
@@ -125,19 +133,13 @@ impl Book {
         ensures { λ r. ⌜ ((hs ss es : List ℕ) → Takes self Command.End at len r hs ss es hs ss es) ⌝ }
     {
         if self.rules == 0 {
-            return refused(Refusal::NO_RULE, at);
+            return Progress::refused(Refusal::NO_RULE, at);
         }
         if at + 1 < len {
-            return refused(Refusal::BYTES_AFTER_END, at + 1);
+            return Progress::refused(Refusal::BYTES_AFTER_END, at + 1);
         }
         Progress::Done(self.rules)
     }
-}
-
-pub fn refused(number: u8, place: usize) -> Progress
-    ensures { λ r. ⌜ r ≡ Progress.Refused (record { number = number; place = place }) ⌝ }
-{
-    Progress::Refused(Refusal { number, place })
 }
 
 // The number of the first rule of this tag; `rules` where none has it.

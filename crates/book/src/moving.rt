@@ -31,10 +31,10 @@ pub fn add_transition(
 {
     let count = book.count;
     if Book::TRANSITIONS <= count {
-        return crate::refused(Refusal::TOO_MANY, at);
+        return Progress::refused(Refusal::TOO_MANY, at);
     }
     if high < low {
-        return crate::refused(Refusal::OUT_OF_RANGE, at);
+        return Progress::refused(Refusal::OUT_OF_RANGE, at);
     }
     let rules = book.rules;
     let number = book.edges;

@@ -18,16 +18,16 @@ pub fn open_rule(book: Book, headers: &[u64], tag: u16, kind: u8, at: usize) -> 
 {
     let rules = book.rules;
     if Book::RULES <= rules {
-        return crate::refused(Refusal::TOO_MANY, at);
+        return Progress::refused(Refusal::TOO_MANY, at);
     }
     if tag == 0 {
-        return crate::refused(Refusal::OUT_OF_RANGE, at);
+        return Progress::refused(Refusal::OUT_OF_RANGE, at);
     }
     if 1 < kind {
-        return crate::refused(Refusal::OUT_OF_RANGE, at);
+        return Progress::refused(Refusal::OUT_OF_RANGE, at);
     }
     if is_taken(headers, rules, tag) {
-        return crate::refused(Refusal::TAG_TAKEN, at);
+        return Progress::refused(Refusal::TAG_TAKEN, at);
     }
     let mut next = Book::between(rules, book.edges);
     next.inside = true;
