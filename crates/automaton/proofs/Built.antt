@@ -121,7 +121,7 @@ module _ {ss es : List ℕ} {base n : ℕ} {fs : List ℕ} {ts : List Transition
       → ((h : ℕ) (us : List Transition) → h ≤ n → Chain es h us → Chain es₁ h us) → Built (set ss i v) es₁ base m fs ts
   frame i v m es₁ out l k same =
       let q : (s : ℕ) → s < stateCount → getD (set ss i v) (base + s) 0 ≡ getD ss (base + s) 0 =
-          λ s h. getD-set-other ss i (base + s) v 0 (out s h) in
+      λ s h. getD-set-other ss i (base + s) v 0 (out s h) in
       record {
         cells = record {
           room = simp length-set (b .cells .room);

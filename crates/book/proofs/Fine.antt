@@ -14,7 +14,8 @@ use Rattle.automaton.proofs.Tests.{clash, or-false}
 use Rattle.command.specs.declared.Command.{Command}
 use Rattle.command.specs.declared.Command.the-variants.{Rule as RULE, Start, Error, Final, Step, Span, Close, End}
 use Rattle.book.specs.Limits.{maxRules, maxTransitions}
-use Rattle.book.specs.Draft.{Draft, between, isSet, isUnset, stateOf, ruleOf, Verdict, goes, accepts, refuses, check, tagged, isEmpty, move, apply}
+use Rattle.book.specs.Draft.{Draft, bare, between, withParts, isSet, isUnset, stateOf, ruleOf}
+use Rattle.book.specs.Draft.{Verdict, goes, accepts, refuses, check, tagged, isEmpty, move, apply}
 use Rattle.book.specs.Valid.{ValidRule, Distinct, ValidRules, Valid}
 use Rattle.book.specs.Contracts.{Below, OpenRule, Fine, standsInside}
 
@@ -50,7 +51,8 @@ distinct-snoc : (rs : List Rule) (r : Rule) → Distinct rs → tagged r.tag rs 
 distinct-snoc [] r d e = (tt, tt)
 distinct-snoc (q ∷ rs) r (h, d) e =
     let p = or-false (eqb q.tag r.tag) (tagged r.tag rs) e in
-    (all-snoc (λ (x : Rule). eqb x.tag q.tag ≡ false) rs r h (ne-eqb r.tag q.tag (λ z. eqb-false q.tag r.tag (p .0) (sym z))), distinct-snoc rs r d (p .1))
+    let n = ne-eqb r.tag q.tag (λ z. eqb-false q.tag r.tag (p .0) (sym z)) in
+    (all-snoc (λ (x : Rule). eqb x.tag q.tag ≡ false) rs r h n, distinct-snoc rs r d (p .1))
 
 -- ---- one command
 
@@ -58,10 +60,7 @@ distinct-snoc (q ∷ rs) r (h, d) e =
 inside-fine : {d : Draft} → Fine d → d.inside ≡ true → {start error : Option ℕ} {finals : List ℕ} {transitions : List Transition}
     → Below stateCount start → Below stateCount error → All (λ (s : ℕ). s < stateCount) finals
     → All (Ranged stateCount) transitions → length transitions ≤ maxTransitions
-    → Fine (record {
-      rules = d.rules; inside = d.inside; tag = d.tag; kind = d.kind;
-      start = start; error = error; finals = finals; transitions = transitions;
-    })
+    → Fine (withParts d start error finals transitions)
 inside-fine f i start error finals ranged few =
     record {
       closed = f .closed;
@@ -82,14 +81,15 @@ move-good d at from low high to f i a b c =
     check-good (leb maxTransitions (length d.transitions)) _ _ _ (λ few. check-good (ltb high low) _ _ _ (λ order.
     let h : length d.transitions < maxTransitions = leb-false _ _ few in
     let t : Ranged stateCount (record { from = from; low = low; high = high; to = to }) =
-        record { from-below = a; to-below = c; ordered = ltb-false high low order; byte = b } in
+    record { from-below = a; to-below = c; ordered = ltb-false high low order; byte = b } in
     inside-fine f i (f .start) (f .error) (f .finals) (t, f .ranged) (omega arith)))
 
 pub state-below : (o : Option ℕ) → Below stateCount o → stateOf o < stateCount
 state-below none h = omega arith
 state-below (some s) h = h
 
-pub closed-rule : (d : Draft) → Fine d → OpenRule d.rules d.tag d.kind → overlaps d.transitions ≡ false → any (λ (t : Transition). eqb t.from (stateOf d.error)) d.transitions ≡ false
+pub closed-rule : (d : Draft) → Fine d → OpenRule d.rules d.tag d.kind → overlaps d.transitions ≡ false
+    → any (λ (t : Transition). eqb t.from (stateOf d.error)) d.transitions ≡ false
     → among (stateOf d.error) d.finals ≡ false → among (stateOf d.start) d.finals ≡ false → ValidRule (ruleOf d)
 closed-rule d f o apart stays fails nonempty =
     record {
@@ -111,10 +111,7 @@ closed-rule d f o apart stays fails nonempty =
 
 -- a rule just opened, or none
 bare-fine : {rules : List Rule} {inside : Bool} {tag kind : ℕ} → ValidRules rules → (inside ≡ true → OpenRule rules tag kind)
-    → Fine (record {
-      rules = rules; inside = inside; tag = tag; kind = kind;
-      start = none; error = none; finals = []; transitions = [];
-    })
+    → Fine (bare rules inside tag kind)
 bare-fine v o =
     record {
       closed = v;
@@ -141,7 +138,8 @@ positive (r ∷ rs) e = omega arith
 pub apply-good : (d : Draft) (c : Command) (at len : ℕ) → Fine d → InRange c → standsInside c ≡ d.inside → Good (apply d c at len)
 unfolding apply
 apply-good d (RULE tag kind) at len f r i =
-    check-good (leb maxRules (length d.rules)) _ _ _ (λ few. check-good (eqb tag 0 || ltb 1 kind) _ _ _ (λ range. check-good (tagged tag d.rules) _ _ _ (λ new.
+    check-good (leb maxRules (length d.rules)) _ _ _ (λ few. check-good (eqb tag 0 || ltb 1 kind) _ _ _ (λ range.
+    check-good (tagged tag d.rules) _ _ _ (λ new.
     let p = or-false (eqb tag 0) (ltb 1 kind) range in
     let z : tag ≡ 0 → ⊥ = eqb-false tag 0 (p .0) in
     let k : kind ≤ 1 = ltb-false 1 kind (p .1) in
@@ -156,8 +154,8 @@ apply-good d (Step from byte to) at len f (a, b, c) i = move-good d at from byte
 apply-good d (Span from low high to) at len f (a, b, c) i = move-good d at from low high to f (sym i) a b c
 apply-good d Close at len f r i =
     check-good (isUnset d.start || isUnset d.error) _ _ _ (λ set. check-good (overlaps d.transitions) _ _ _ (λ apart.
-    check-good (any (λ (t : Transition). eqb t.from (stateOf d.error)) d.transitions) _ _ _ (λ stays. check-good (among (stateOf d.error) d.finals) _ _ _ (λ fails.
-    check-good (among (stateOf d.start) d.finals) _ _ _ (λ nonempty.
+    check-good (any (λ (t : Transition). eqb t.from (stateOf d.error)) d.transitions) _ _ _ (λ stays.
+    check-good (among (stateOf d.error) d.finals) _ _ _ (λ fails. check-good (among (stateOf d.start) d.finals) _ _ _ (λ nonempty.
     let o = f .current (sym i) in
     let l = length-append d.rules (ruleOf d ∷ []) in
     between-fine (d.rules ++ (ruleOf d ∷ []))

@@ -172,7 +172,7 @@ module _ {b : Book} {hs ss es : List ℕ} {d : Draft} (h : Represents b hs ss es
           let u : Transition = record { from = from; low = low; high = high; to = to } in
           let fine = rw (few-moves, le-ltb _ _ order) at (move-good d at from low high to (h .fine) i f hi t) in
           let z : shared ≡ any (meets u) d.transitions =
-              seen (leaving from d.transitions) (rw (rules-are h) (cells-now .chains from f)) ∙ meets-shares u d.transitions in
+          seen (leaving from d.transitions) (rw (rules-are h) (cells-now .chains from f)) ∙ meets-shares u d.transitions in
           let st = stored-edge (h .stored) room u more f (omega arith) hi (omega arith) in
           rw (few-moves, le-ltb _ _ order, e₁, e₂, joined, z, h .same) (on _ fine st (rw (add-one (length d.transitions))) m)
 

@@ -1,9 +1,9 @@
 // The command CLOSE.
+use crate::Book;
+use crate::Progress;
 use answer::Refusal;
 use automaton::STATES;
 use command::Command;
-use crate::Book;
-use crate::Progress;
 ghost use mathlib.Core.List.{List};
 ghost use Prim.Native.Nat.{ℕ, _+_, _*_, _≤_, _<_};
 ghost use lib.ListN.{length};
@@ -12,8 +12,10 @@ ghost use Rattle.book.specs.Limits.{maxRules};
 ghost use Rattle.book.specs.Contracts.{Takes};
 
 pub fn close(book: Book, headers: &mut [u64], states: &[u16], at: usize) -> Progress
-    requires { ⌜ (book .rules < length (now headers)) × (book .rules * stateCount + stateCount ≤ length (now states)) × (book .rules < maxRules) ⌝ }
-    ensures { λ r. ⌜ ((es : List ℕ) (len : ℕ) → Takes book Command.Close at len r (now (headers .entry)) (now (states .entry)) es (now (headers .exit)) (now (states .entry)) es) ⌝ }
+    requires { ⌜ (book .rules < length (now headers)) × (book .rules * stateCount + stateCount ≤ length (now states))
+        × (book .rules < maxRules) ⌝ }
+    ensures { λ r. ⌜ ((es : List ℕ) (len : ℕ)
+        → Takes book Command.Close at len r (now (headers .entry)) (now (states .entry)) es (now (headers .exit)) (now (states .entry)) es) ⌝ }
 {
     if !book.started {
         return Progress::refused(Refusal::TWICE_OR_MISSING, at);

@@ -120,7 +120,8 @@ impl Book {
     // FINAL.
     pub fn add_final(self, states: &mut [u16], s: u8) -> Progress
         requires { ⌜ self .rules * stateCount + stateCount ≤ length (now states) ⌝ }
-        ensures { λ r. ⌜ ((hs es : List ℕ) (at len : ℕ) → Takes self (Command.Final s) at len r hs (now (states .entry)) es hs (now (states .exit)) es) ⌝ }
+        ensures { λ r. ⌜ ((hs es : List ℕ) (at len : ℕ)
+            → Takes self (Command.Final s) at len r hs (now (states .entry)) es hs (now (states .exit)) es) ⌝ }
     {
         let rules = self.rules;
         automaton::building::mark_final(states, rules * STATES + (s as usize));

@@ -8,7 +8,7 @@ use Rattle.book.proofs.Steps.{close-error-final, close-start-final, clo
 use Rattle.book.proofs.closing.close.Statement.{statement}
 use Rattle.book.proofs.closing.close.Tie as tie
 
--- places: past the test of a header, past the fifth and the third test, at entry
+-- earlier places: past the fifth test, past the third, at entry
 abbrev fifth : tie.After-header → tie.Else5
 fifth c = c .before .before .before .before .before .before
 

@@ -5,7 +5,7 @@ use Rattle.book.proofs.Steps.{move-too-many, move-disorder, move-added}
 use Rattle.book.proofs.moving.add_transition.Statement.{statement}
 use Rattle.book.proofs.moving.add_transition.Tie as tie
 
--- places: past the tests, and at entry
+-- earlier places: past the tests, at entry
 abbrev passed : tie.After-slice-known5 → tie.Else2
 passed c = c .before .before .before .before .before .before .before .before .before .before .before
 
