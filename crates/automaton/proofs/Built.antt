@@ -20,19 +20,33 @@ chain-set es n e h [] l c = c
 chain-set es n e h (t ∷ ts) l (k, c) =
     let p = k .some in
     let q : getD (set es n e) (h - 1) 0 ≡ getD es (h - 1) 0 = getD-set-other es n (h - 1) e 0 (λ z. omega arith) in (
-      record { some = k .some; room = simp length-set (k .room); back = rw q (k .back); low = rw q (k .low); high = rw q (k .high); to = rw q (k .to) },
+      record {
+        some = k .some;
+        room = simp length-set (k .room);
+        back = rw q (k .back);
+        low = rw q (k .low);
+        high = rw q (k .high);
+        to = rw q (k .to);
+      },
       rw q (chain-set es n e (nextOf (getD es (h - 1) 0)) ts (omega (arith, k .back)) c),
     )
 
 -- a new link in front
-chain-more : (es : List ℕ) (n h : ℕ) (t : Transition) (ts : List Transition) → n < length es → h ≤ n → t.low < 256 → t.high < 256 → t.to < 65536
-    → Chain es h ts → Chain (set es n (edgeWord t.low t.high t.to h)) (n + 1) (t ∷ ts)
+chain-more : (es : List ℕ) (n h : ℕ) (t : Transition) (ts : List Transition) → n < length es → h ≤ n
+    → t.low < 256 → t.high < 256 → t.to < 65536 → Chain es h ts → Chain (set es n (edgeWord t.low t.high t.to h)) (n + 1) (t ∷ ts)
 chain-more es n h t ts r l a b d c =
     let w = edgeWord t.low t.high t.to h in
     let z : n + 1 - 1 ≡ n = omega arith in
     let q : getD (set es n w) (n + 1 - 1) 0 ≡ w = ap (λ (i : ℕ). getD (set es n w) i 0) z ∙ getD-set-same es n w 0 r in
     let x : nextOf w ≡ h = omega arith in (
-      record { some = omega arith; room = simp length-set (omega arith); back = rw q (omega arith); low = rw q (omega arith); high = rw q (omega arith); to = rw q (omega arith) },
+      record {
+        some = omega arith;
+        room = simp length-set (omega arith);
+        back = rw q (omega arith);
+        low = rw q (omega arith);
+        high = rw q (omega arith);
+        to = rw q (omega arith);
+      },
       subst (λ (i : ℕ). Chain (set es n w) i ts) (sym x ∙ ap nextOf (sym q)) (chain-set es n w h ts l c),
     )
 
@@ -85,7 +99,7 @@ module _ {ss es : List ℕ} {base n : ℕ} {fs : List ℕ} {ts : List Transition
                 (rw (leaving-hit t.from t ts refl, h)
                 (chain-more es n (cell / 2) t (leaving t.from ts) r (b .tops t.from f) lo hi to (b .cells .chains t.from f)))
                 (λ s l ne. rw (leaving-miss s t ts ne)
-                (chain-set es n (edgeWord t.low t.high t.to (cell / 2)) (headAt ss (base + s)) (leaving s ts) (b .tops s l) (b .cells .chains s l)));
+                (chain-set es n _ (headAt ss (base + s)) (leaving s ts) (b .tops s l) (b .cells .chains s l)));
             finals = stored₁ (λ s x. eqb (x % 2) 1 ≡ among s fs) (rw m (b .cells .finals t.from f)) (λ s l ne. b .cells .finals s l);
           };
           edges = simp length-set (omega arith);
@@ -188,6 +202,7 @@ meets-shares t [] = refl
 meets-shares t (u ∷ us) = go (eqb u.from t.from) (meets-shares t us)
   where
     go : (c : Bool) → any (shares t.low t.high) (leaving t.from us) ≡ any (meets t) us
-        → any (shares t.low t.high) (if c (u ∷ leaving t.from us) (leaving t.from us)) ≡ (c && (leb t.low u.high && leb u.low t.high)) || any (meets t) us
+        → any (shares t.low t.high) (if c (u ∷ leaving t.from us) (leaving t.from us))
+        ≡ (c && (leb t.low u.high && leb u.low t.high)) || any (meets t) us
     go true ih = rw ih
     go false ih = ih

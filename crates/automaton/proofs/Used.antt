@@ -1,4 +1,5 @@
--- Used bytes: a rule that matches a text uses each of its bytes, and what it uses are bytes. And transitions that meet share a byte. Assumes nothing.
+-- Used bytes: a rule that matches a text uses each of its bytes, and what it uses are bytes.
+-- And transitions that meet share a byte. Assumes nothing.
 use mathlib.Core.Path.{_≡_, refl}
 use mathlib.Core.Bool.{Bool, true, false, not, _&&_, _||_}
 use mathlib.Core.List.{List, [], _∷_}
@@ -33,7 +34,8 @@ unfolding walk
 walk-stays r h [] = refl
 walk-stays r h (b ∷ w) = rw (target-stays r.error b r.transitions (h .stays)) (walk-stays r h w)
 
-walk-uses : {n : ℕ} (r : Rule) → Sound n r → (s : ℕ) (w : List ℕ) → among (walk r s w) r.finals ≡ true → All (λ (b : ℕ). used r b ≡ true) w
+walk-uses : {n : ℕ} (r : Rule) → Sound n r → (s : ℕ) (w : List ℕ) → among (walk r s w) r.finals ≡ true
+    → All (λ (b : ℕ). used r b ≡ true) w
 unfolding walk used
 walk-uses r h s [] e = tt
 walk-uses r h s (b ∷ w) e = (go (eqb (step r s b) r.error) refl, walk-uses r h (step r s b) w e)
@@ -80,10 +82,20 @@ meets-shared t u p q e =
     go : (c : Bool) → leb t.low u.low ≡ c → u.from ≡ t.from → t.low ≤ u.high → u.low ≤ t.high → Shared t u
     go true z f l r =
         let k : t.low ≤ u.low = leb-true _ _ z in
-        record { state = f; byte = u.low; first = rw (le-leb _ _ k, le-leb _ _ r); second = rw (le-leb u.low u.low (omega arith), le-leb _ _ q) }
+        record {
+          state = f;
+          byte = u.low;
+          first = rw (le-leb _ _ k, le-leb _ _ r);
+          second = rw (le-leb u.low u.low (omega arith), le-leb _ _ q);
+        }
     go false z f l r =
         let k : u.low < t.low = leb-false _ _ z in
-        record { state = f; byte = t.low; first = rw (le-leb t.low t.low (omega arith), le-leb _ _ p); second = rw (le-leb u.low t.low (omega arith), le-leb _ _ l) }
+        record {
+          state = f;
+          byte = t.low;
+          first = rw (le-leb t.low t.low (omega arith), le-leb _ _ p);
+          second = rw (le-leb u.low t.low (omega arith), le-leb _ _ l);
+        }
 
 pub shared-meets : (t u : Transition) → Shared t u → meets t u ≡ true
 shared-meets t u s =

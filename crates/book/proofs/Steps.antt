@@ -12,16 +12,20 @@ use borrow.Author.Tests.{eq-eqb, ne-eqb, le-leb, lt-leb, lt-ltb, le-ltb}
 use Rattle.automaton.specs.Choice.{if, any, among}
 use Rattle.automaton.specs.Rule.{Transition, Rule, meets, overlaps, stateCount}
 use Rattle.automaton.proofs.Built.{head-none, head-some, meets-shares}
-use Rattle.automaton.specs.Contracts.{headerWord, edgeWord, headAt, linked, marked, leaving, shares, Chained, Cells}
+use Rattle.automaton.specs.Contracts.{headerWord, edgeWord, headAt, linked, marked, leaving, shares, Chain, Chained, Cells}
 use Rattle.automaton.proofs.Tests.{or-true}
 use Rattle.command.specs.declared.Command.the-variants.{Rule as RULE, Final, Close, End}
 use Rattle.book.specs.declared.Book.{Book}
+use Rattle.book.specs.declared.Progress.{Progress}
 use Rattle.book.specs.declared.Progress.the-variants.{On, Done, Refused}
 use Rattle.book.specs.Limits.{maxRules, maxTransitions}
 use Rattle.book.specs.Draft.{Draft, opened, isSet, isUnset, stateOf, ruleOf, goes, check, tagged, isEmpty, move, apply}
 use Rattle.book.specs.Contracts.{Fine, bookOf, idle, edgeCount, Stored, Represents, Represented, Follows}
 use Rattle.book.proofs.Fine.{Good, apply-good, move-good, state-below, closed-rule}
 use Rattle.book.proofs.Filling.{stored-final, stored-edge, stored-closed}
+
+abbrev pub refusal : ℕ → ℕ → Progress
+refusal number place = Refused (record { number = number; place = place })
 
 -- reading goes on with a draft that is fine and stored
 on : {b : Book} {hs ss es : List ℕ} (d : Draft) {m n : ℕ} → Fine d → Stored m hs ss es d.rules d.finals d.transitions
@@ -31,7 +35,7 @@ on d f st e l = rw e (record { fine = f; stored = st; same = refl }, l)
 -- ---- START and ERROR: a state that is given once. The code's t tells, as s does, whether it was given before.
 
 module _ (hs ss es : List ℕ) (at n : ℕ) (d : Draft) {t s : Bool} (seen : t ≡ s) where
-  pub given-again : t ≡ true → Follows (check s 8 at (goes d)) (Refused (record { number = 8; place = at })) hs ss es n
+  pub given-again : t ≡ true → Follows (check s 8 at (goes d)) (refusal 8 at) hs ss es n
   unfolding check
   given-again e = rw (sym seen ∙ e)
 
@@ -59,11 +63,11 @@ module _ {b : Book} {hs ss es : List ℕ} {d : Draft} (h : Represents b hs ss es
   some-closed : (b .rules ≡ 0 → ⊥) → isEmpty d.rules ≡ false
   some-closed e = empty-or-not d.rules ∙ ne-eqb _ _ (λ z. e (rules-are h ∙ z))
 
-  pub end-empty : b .rules ≡ 0 → Follows (apply d End at len) (Refused (record { number = 13; place = at })) hs ss es n
+  pub end-empty : b .rules ≡ 0 → Follows (apply d End at len) (refusal 13 at) hs ss es n
   unfolding apply check
   end-empty e = rw (none-closed e)
 
-  pub end-early : (b .rules ≡ 0 → ⊥) → at + 1 < len → Follows (apply d End at len) (Refused (record { number = 4; place = at + 1 })) hs ss es n
+  pub end-early : (b .rules ≡ 0 → ⊥) → at + 1 < len → Follows (apply d End at len) (refusal 4 (at + 1)) hs ss es n
   unfolding apply check
   end-early e l = rw (some-closed e, lt-ltb _ _ l)
 
@@ -74,7 +78,7 @@ module _ {b : Book} {hs ss es : List ℕ} {d : Draft} (h : Represents b hs ss es
 -- ---- RULE
 
 module _ {b : Book} {hs ss es : List ℕ} {d : Draft} (h : Represents b hs ss es d) (tag kind at len n : ℕ) where
-  pub rule-too-many : maxRules ≤ b .rules → Follows (apply d (RULE tag kind) at len) (Refused (record { number = 5; place = at })) hs ss es n
+  pub rule-too-many : maxRules ≤ b .rules → Follows (apply d (RULE tag kind) at len) (refusal 5 at) hs ss es n
   unfolding apply check
   rule-too-many l = rw (← rules-are h, le-leb _ _ l)
 
@@ -82,17 +86,17 @@ module _ {b : Book} {hs ss es : List ℕ} {d : Draft} (h : Represents b hs ss es
     few-closed : leb maxRules (length d.rules) ≡ false
     few-closed = lt-leb maxRules (length d.rules) (omega (arith, rules-are h))
 
-    pub rule-tag-zero : tag ≡ 0 → Follows (apply d (RULE tag kind) at len) (Refused (record { number = 6; place = at })) hs ss es n
+    pub rule-tag-zero : tag ≡ 0 → Follows (apply d (RULE tag kind) at len) (refusal 6 at) hs ss es n
     unfolding apply check
     rule-tag-zero e = rw (few-closed, e)
 
     module _ (some : tag ≡ 0 → ⊥) where
-      pub rule-kind : 1 < kind → Follows (apply d (RULE tag kind) at len) (Refused (record { number = 6; place = at })) hs ss es n
+      pub rule-kind : 1 < kind → Follows (apply d (RULE tag kind) at len) (refusal 6 at) hs ss es n
       unfolding apply check
       rule-kind l = rw (few-closed, ne-eqb _ _ some, lt-ltb _ _ l)
 
       module _ (known : kind ≤ 1) {taken : Bool} (seen : taken ≡ tagged tag d.rules) where
-        pub rule-taken : taken ≡ true → Follows (apply d (RULE tag kind) at len) (Refused (record { number = 7; place = at })) hs ss es n
+        pub rule-taken : taken ≡ true → Follows (apply d (RULE tag kind) at len) (refusal 7 at) hs ss es n
         unfolding apply check
         rule-taken e = rw (few-closed, ne-eqb _ _ some, le-ltb _ _ known, sym seen ∙ e)
 
@@ -135,7 +139,7 @@ module _ {b : Book} {hs ss es : List ℕ} {d : Draft} (h : Represents b hs ss es
   count-is = ap (λ (x : Book). x .count) (h .same)
 
   module _ (at from low high to n : ℕ) where
-    pub move-too-many : maxTransitions ≤ b .count → Follows (move d at from low high to) (Refused (record { number = 5; place = at })) hs ss es n
+    pub move-too-many : maxTransitions ≤ b .count → Follows (move d at from low high to) (refusal 5 at) hs ss es n
     unfolding check move
     move-too-many l = rw (← count-is, le-leb _ _ l)
 
@@ -143,12 +147,13 @@ module _ {b : Book} {hs ss es : List ℕ} {d : Draft} (h : Represents b hs ss es
       few-moves : leb maxTransitions (length d.transitions) ≡ false
       few-moves = lt-leb maxTransitions (length d.transitions) (omega (arith, count-is))
 
-      pub move-disorder : high < low → Follows (move d at from low high to) (Refused (record { number = 6; place = at })) hs ss es n
+      pub move-disorder : high < low → Follows (move d at from low high to) (refusal 6 at) hs ss es n
       unfolding check move
       move-disorder l = rw (few-moves, lt-ltb _ _ l)
 
-      pub move-added : {ss₁ es₁ : List ℕ} {shared both : Bool} → low ≤ high → from < 256 → high < 256 → to < 256 → b .edges < edgeCount → b .edges + 1 ≤ n
-          → ((ts : List Transition) → Rattle.automaton.specs.Contracts.Chain es (headAt ss (b .rules * stateCount + from)) ts → shared ≡ any (shares low high) ts)
+      pub move-added : {ss₁ es₁ : List ℕ} {shared both : Bool} → low ≤ high → from < 256 → high < 256 → to < 256
+          → b .edges < edgeCount → b .edges + 1 ≤ n
+          → ((ts : List Transition) → Chain es (headAt ss (b .rules * stateCount + from)) ts → shared ≡ any (shares low high) ts)
           → both ≡ if shared true (b .overlap)
           → ss₁ ≡ set ss (b .rules * stateCount + from) (linked (getD ss (b .rules * stateCount + from) 0) (b .edges))
           → es₁ ≡ set es (b .edges) (edgeWord low high to (getD ss (b .rules * stateCount + from) 0 / 2))
@@ -189,11 +194,11 @@ module _ {b : Book} {hs ss es : List ℕ} {d : Draft} (h : Represents b hs ss es
   error-unset : isUnset d.error ≡ not (b .erring)
   error-unset = unset-or-not d.error (ap (λ (x : Book). x .erring) (h .same))
 
-  pub close-no-start : b .started ≡ false → Follows (apply d Close at len) (Refused (record { number = 8; place = at })) hs ss es n
+  pub close-no-start : b .started ≡ false → Follows (apply d Close at len) (refusal 8 at) hs ss es n
   unfolding apply check
   close-no-start e = rw (start-unset, e)
 
-  pub close-no-error : b .erring ≡ false → Follows (apply d Close at len) (Refused (record { number = 8; place = at })) hs ss es n
+  pub close-no-error : b .erring ≡ false → Follows (apply d Close at len) (refusal 8 at) hs ss es n
   unfolding apply check
   close-no-error e = rw (error-unset, e, or-true)
 
@@ -216,7 +221,7 @@ module _ {b : Book} {hs ss es : List ℕ} {d : Draft} (h : Represents b hs ss es
     overlap-is : b .overlap ≡ overlaps d.transitions
     overlap-is = ap (λ (x : Book). x .overlap) (h .same)
 
-    pub close-overlap : b .overlap ≡ true → Follows (apply d Close at len) (Refused (record { number = 9; place = at })) hs ss es n
+    pub close-overlap : b .overlap ≡ true → Follows (apply d Close at len) (refusal 9 at) hs ss es n
     unfolding apply check
     close-overlap e = rw (both-set, ← overlap-is, e)
 
@@ -230,7 +235,7 @@ module _ {b : Book} {hs ss es : List ℕ} {d : Draft} (h : Represents b hs ss es
       final-mark : (s : ℕ) → s < stateCount → (t : Bool) → eqb (getD ss (b .rules * stateCount + s) 0 % 2) 1 ≡ t → among s d.finals ≡ t
       final-mark s l t e = sym (cells-there .finals s l) ∙ e
 
-      pub close-leaves : (headAt ss (b .rules * stateCount + b .error) ≡ 0 → ⊥) → Follows (apply d Close at len) (Refused (record { number = 10; place = at })) hs ss es n
+      pub close-leaves : (headAt ss (b .rules * stateCount + b .error) ≡ 0 → ⊥) → Follows (apply d Close at len) (refusal 10 at) hs ss es n
       unfolding apply check
       close-leaves e = rw (both-set, no-overlap, error-is, head-some cells-there (b .error) error-small e)
 
@@ -239,7 +244,7 @@ module _ {b : Book} {hs ss es : List ℕ} {d : Draft} (h : Represents b hs ss es
         none-leaves = rw error-is (head-none cells-there (b .error) error-small quiet)
 
         pub close-error-final : getD ss (b .rules * stateCount + b .error) 0 % 2 ≡ 1
-            → Follows (apply d Close at len) (Refused (record { number = 11; place = at })) hs ss es n
+            → Follows (apply d Close at len) (refusal 11 at) hs ss es n
         unfolding apply check
         close-error-final e =
             let z : among (stateOf d.error) d.finals ≡ true = rw error-is (final-mark (b .error) error-small true (eq-eqb _ _ e)) in
@@ -250,7 +255,7 @@ module _ {b : Book} {hs ss es : List ℕ} {d : Draft} (h : Represents b hs ss es
           error-not-final = rw error-is (final-mark (b .error) error-small false (ne-eqb _ _ fails))
 
           pub close-start-final : getD ss (b .rules * stateCount + b .start) 0 % 2 ≡ 1
-              → Follows (apply d Close at len) (Refused (record { number = 12; place = at })) hs ss es n
+              → Follows (apply d Close at len) (refusal 12 at) hs ss es n
           unfolding apply check
           close-start-final e =
               let z : among (stateOf d.start) d.finals ≡ true = rw start-is (final-mark (b .start) start-small true (eq-eqb _ _ e)) in

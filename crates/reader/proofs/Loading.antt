@@ -37,8 +37,8 @@ loaded-refused e q =
       tables = λ rules z. let y : _≡_ {A = ℕ} 0 1 = cc in absurd (omega arith);
     }
 
-loaded-accepted : {bytes hs ss es : List ℕ} {k : ℕ} {rules : List Rule} → readBook bytes ≡ accepted rules → k ≡ length rules → Tables hs ss es rules
-    → Loaded bytes (answers.Accepted k) hs ss es
+loaded-accepted : {bytes hs ss es : List ℕ} {k : ℕ} {rules : List Rule} → readBook bytes ≡ accepted rules
+    → k ≡ length rules → Tables hs ss es rules → Loaded bytes (answers.Accepted k) hs ss es
 loaded-accepted {bytes} {hs} {ss} {es} {k} {rules} e q t =
     record {
       answered = ap answers.Accepted q ∙ ap answer (sym e);
@@ -61,7 +61,8 @@ pub record Going (bytes hs ss es : List ℕ) (at : ℕ) (b : Book) : Type 0 wher
   pub few : 4 * b .edges ≤ at
   pub short : length bytes ≤ maxBytes
 
-pub going-start : {bytes hs ss es : List ℕ} {b : Book} {at : ℕ} → Fresh hs ss es → length bytes ≤ maxBytes → b ≡ idle 0 0 → at ≡ 0 → Going bytes hs ss es at b
+pub going-start : {bytes hs ss es : List ℕ} {b : Book} {at : ℕ} → Fresh hs ss es → length bytes ≤ maxBytes
+    → b ≡ idle 0 0 → at ≡ 0 → Going bytes hs ss es at b
 unfolding readBook overlaps
 going-start {bytes} f l e z =
     rw (e, z)
@@ -81,7 +82,8 @@ unfolding readFrom
 read-stops zero bytes at d l = refl
 read-stops (suc n) bytes at d l = rw (le-ltb _ _ l)
 
-pub going-stops : {bytes hs ss es : List ℕ} {at : ℕ} {b : Book} → Going bytes hs ss es at b → length bytes ≤ at → readBook bytes ≡ refused 2 (length bytes)
+pub going-stops : {bytes hs ss es : List ℕ} {at : ℕ} {b : Book} → Going bytes hs ss es at b → length bytes ≤ at
+    → readBook bytes ≡ refused 2 (length bytes)
 going-stops {bytes} g l = g .same ∙ read-stops (g .steps) bytes _ (g .draft) l
 
 -- one step more is taken, as `takeIn` says of what stands there
@@ -90,8 +92,8 @@ pub record Taking (bytes : List ℕ) (at : ℕ) (d : Draft) (c : Decoded) : Type
   pub enough : length bytes ≤ at + 1 + steps
   pub same : readBook bytes ≡ takeIn c d at (length bytes) (readFrom steps bytes)
 
-read-takes : (n : ℕ) (bytes : List ℕ) (at : ℕ) (d : Draft) (c : Decoded) → length bytes ≤ at + n → at < length bytes → commandAt bytes at d.inside ≡ c
-    → readBook bytes ≡ readFrom n bytes at d → Taking bytes at d c
+read-takes : (n : ℕ) (bytes : List ℕ) (at : ℕ) (d : Draft) (c : Decoded) → length bytes ≤ at + n → at < length bytes
+    → commandAt bytes at d.inside ≡ c → readBook bytes ≡ readFrom n bytes at d → Taking bytes at d c
 unfolding readFrom
 read-takes zero bytes at d c e l q s = absurd (omega arith)
 read-takes (suc n) bytes at d c e l q s = record { steps = n; enough = omega arith; same = s ∙ rw (lt-ltb _ _ l, q) }

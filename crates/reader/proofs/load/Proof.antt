@@ -1,26 +1,27 @@
 use mathlib.Core.Path.{_≡_, sym, _∙_}
-use mathlib.Core.List.{List}
 use Prim.Native.Nat.{ℕ, _-_, _<_}
 use native.Mathlib.Omega.{arith}
 use lib.ListN.{length}
 use borrow.Author.Needs.{needs}
 use denote.Ref.{now}
-use Rattle.reader.proofs.Loading.{Going, Here, loaded-refused, read-too-long, going-start, going-stops, going-takes, commanded, edges-left, taken-in}
+use Rattle.reader.proofs.Loading.{Going, going-start, going-stops, going-takes, loaded-refused, read-too-long}
+use Rattle.reader.proofs.Loading.{Here, commanded, edges-left, taken-in}
 use Rattle.reader.proofs.load.Statement.{statement}
 use Rattle.reader.proofs.load.Tie as tie
 
 abbrev Inv-loop : tie.InvT-loop
-Inv-loop book headers₀ states₀ edges₀ len cursor₀ state₀ headers states edges cursor state = Going book headers states edges (cursor .at) state
+Inv-loop book headers₀ states₀ edges₀ len cursor₀ state₀ headers states edges cursor state =
+    Going book headers states edges (cursor .at) state
 
 abbrev μ-loop : tie.MeasureT-loop
 μ-loop book headers₀ states₀ edges₀ len cursor₀ state₀ headers states edges cursor state = length book - cursor .at
 
--- the loop's place; the book, and what held at entry
+-- the loop's place, and the entry
 abbrev Loop : Type 0
 Loop = tie.At-loop Inv-loop μ-loop
 
-abbrev text : Loop → List ℕ
-text c = now (c .before .before .before .before .before .before .before .before .args .book)
+abbrev entry : Loop → tie.Start Inv-loop μ-loop
+entry c = c .before .before .before .before .before .before .before .before
 
 -- the place where a command was found, and the loop's place before it
 abbrev Told : Type 0
@@ -30,7 +31,7 @@ abbrev turn : Told → Loop
 turn c = c .before .before .before .before .before .before
 
 here : (c : Told)
-    → Here (text (turn c)) (turn c .loop .headers) (turn c .loop .states) (turn c .loop .edges)
+    → Here (now (entry (turn c) .args .book)) (turn c .loop .headers) (turn c .loop .states) (turn c .loop .edges)
     (turn c .loop .cursor .at) (turn c .loop .state) (c .before .command2 .given .0 .0) (c .before .command2 .given .0 .1 .0)
 here c =
     record {
@@ -54,14 +55,14 @@ falls : (n a b : ℕ) → a < n → a < b → n - b < n - a
 falls n a b l m = omega arith
 
 -- the tables keep their lengths
-kept-headers : (c : Loop) → length (c .loop .headers) ≡ length (now (c .before .before .before .before .before .before .before .before .args .headers))
-kept-headers c = c .loop .inv .holds .stored .sized .headers ∙ sym (c .before .before .before .before .before .before .before .before .pre .sized .headers)
+kept-headers : (c : Loop) → length (c .loop .headers) ≡ length (now (entry c .args .headers))
+kept-headers c = c .loop .inv .holds .stored .sized .headers ∙ sym (entry c .pre .sized .headers)
 
-kept-cells : (c : Loop) → length (c .loop .states) ≡ length (now (c .before .before .before .before .before .before .before .before .args .states))
-kept-cells c = c .loop .inv .holds .stored .sized .cells ∙ sym (c .before .before .before .before .before .before .before .before .pre .sized .cells)
+kept-cells : (c : Loop) → length (c .loop .states) ≡ length (now (entry c .args .states))
+kept-cells c = c .loop .inv .holds .stored .sized .cells ∙ sym (entry c .pre .sized .cells)
 
-kept-edges : (c : Loop) → length (c .loop .edges) ≡ length (now (c .before .before .before .before .before .before .before .before .args .edges))
-kept-edges c = c .loop .inv .holds .stored .sized .edges ∙ sym (c .before .before .before .before .before .before .before .before .pre .sized .edges)
+kept-edges : (c : Loop) → length (c .loop .edges) ≡ length (now (entry c .args .edges))
+kept-edges c = c .loop .inv .holds .stored .sized .edges ∙ sym (entry c .pre .sized .edges)
 
 refused-requires : tie.Need-refused-requires Inv-loop μ-loop
 refused-requires c κs = search needs
@@ -76,7 +77,9 @@ new-requires-2 : tie.Need-new-requires-2 Inv-loop μ-loop
 new-requires-2 c κs = search needs
 
 loop-holds : tie.Need-loop-holds Inv-loop μ-loop
-loop-holds c = going-start (c .before .before .before .before .before .before .before .pre) (c .before .before .if1 .left) (c .new2 .ensures) (c .before .new .ensures)
+loop-holds c =
+    going-start (c .before .before .before .before .before .before .before .pre) (c .before .before .if1 .left) (c .new2 .ensures)
+    (c .before .new .ensures)
 
 command-requires : tie.Need-command-requires Inv-loop μ-loop
 command-requires c κs = c .if2 .taken
