@@ -51,8 +51,8 @@ module _ {edges : ℕ} {hs ss es : List ℕ} {rules : List Rule} {fs : List ℕ}
     place = length rules * stateCount + s
 
     -- a final state more
-    pub stored-final : Stored edges hs (set ss (length rules * stateCount + s) (marked (getD ss (length rules * stateCount + s) 0))) es rules
-        (s ∷ fs) ts
+    pub stored-final : Stored edges hs
+        (set ss (length rules * stateCount + s) (marked (getD ss (length rules * stateCount + s) 0))) es rules (s ∷ fs) ts
     stored-final =
         record {
           sized = record { headers = st .sized .headers; cells = simp length-set (st .sized .cells); edges = st .sized .edges };
@@ -94,9 +94,8 @@ module _ {edges : ℕ} {hs ss es : List ℕ} {rules : List Rule} {fs : List ℕ}
           tables = record {
             each = λ k l.
                 let b = st .tables .each k l in
-                retable b
-                (built-frame (built k (omega arith) (b .cells)) at cell edges word (apart open-room t.from f k l) (omega arith) (omega arith)
-                .cells);
+                let c = built k (omega arith) (b .cells) in
+                retable b (built-frame c at cell edges word (apart open-room t.from f k l) (omega arith) (omega arith) .cells);
           };
           room = omega arith;
           tops = λ i l. top-set ss at cell (edges + 1) i

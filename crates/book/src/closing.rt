@@ -15,7 +15,8 @@ pub fn close(book: Book, headers: &mut [u64], states: &[u16], at: usize) -> Prog
     requires { ⌜ (book .rules < length (now headers)) × (book .rules * stateCount + stateCount ≤ length (now states))
         × (book .rules < maxRules) ⌝ }
     ensures { λ r. ⌜ ((es : List ℕ) (len : ℕ)
-        → Takes book Command.Close at len r (now (headers .entry)) (now (states .entry)) es (now (headers .exit)) (now (states .entry)) es) ⌝ }
+        → Takes book Command.Close at len r (now (headers .entry)) (now (states .entry)) es
+        (now (headers .exit)) (now (states .entry)) es) ⌝ }
 {
     if !book.started {
         return Progress::refused(Refusal::TWICE_OR_MISSING, at);

@@ -1,4 +1,6 @@
-// What has been read of a book, and what START, ERROR, FINAL and END make of it.
+// What has been read of a book, and what each command makes of it and of the tables.
+// Here are the limits, START, ERROR, FINAL, END and the search for a tag; `opening` has RULE, `moving` STEP and SPAN, `closing` CLOSE,
+// `applying` any command.
 pub mod applying;
 pub mod closing;
 pub mod moving;
@@ -8,13 +10,11 @@ use answer::Refusal;
 use automaton::STATES;
 use command::Command;
 ghost use mathlib.Core.Path.{_≡_};
-ghost use mathlib.Core.Bool.{true, false};
 ghost use mathlib.Core.List.{List};
 ghost use Prim.Native.Nat.{ℕ, _+_, _*_, _≤_, _<_};
 ghost use lib.ListN.{length};
 ghost use Rattle.automaton.specs.Rule.{Rule, stateCount};
 ghost use Rattle.automaton.specs.Contracts.{Tables};
-ghost use Rattle.automaton.specs.Choice.{if};
 ghost use Rattle.book.specs.Contracts.{idle, Takes, Ranks};
 
 // A book that is being read: how many rules are closed, how many transitions they and the open rule have, and the rest of

@@ -97,15 +97,15 @@ module _ (bytes : List ℕ) (at : ℕ) (inside : Bool) (byte : (i : ℕ) → byt
 
   pub command-found : Found bytes at inside (commandAt bytes at inside)
   unfolding commandAt
-  command-found = go (placed (byteAt bytes at) inside) refl (leb (at + 1 + operandsOf (byteAt bytes at)) (length bytes)) refl
+  command-found =
+      go (byteAt bytes at) (placed (byteAt bytes at) inside) refl (leb (at + 1 + operandsOf (byteAt bytes at)) (length bytes)) refl
     where
-      go : (p : Bool) → placed (byteAt bytes at) inside ≡ p → (l : Bool) → leb (at + 1 + operandsOf (byteAt bytes at)) (length bytes) ≡ l
+      go : (code : ℕ) (p : Bool) → placed code inside ≡ p → (l : Bool) → leb (at + 1 + operandsOf code) (length bytes) ≡ l
           → Found bytes at inside
-          (if p (if l (decoded.Command (decode bytes at (byteAt bytes at)) (record { at = at + 1 + operandsOf (byteAt bytes at) })) decoded.CutOff)
-          decoded.Misplaced)
-      go true e true h = decoded-found (byteAt bytes at) e (leb-true _ _ h)
-      go true e false h = tt
-      go false e l h = tt
+          (if p (if l (decoded.Command (decode bytes at code) (record { at = at + 1 + operandsOf code })) decoded.CutOff) decoded.Misplaced)
+      go code true e true h = decoded-found code e (leb-true _ _ h)
+      go code true e false h = tt
+      go code false e l h = tt
 
 abbrev GoodReading : Reading → Type 0
 GoodReading (accepted rules) = Valid rules

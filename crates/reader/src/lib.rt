@@ -1,4 +1,5 @@
-// The rule book: the reader that checks it and fills the tables of its rules.
+// The reader of rule books: `read` answers the number of rules or the refusal; `load_arrays` fills the tables too, for the crates
+// that use the rules.
 use answer::BookAnswer;
 use answer::Refusal;
 use book::Book;

@@ -102,9 +102,8 @@ same-length-3 c = kept-edges (c .before .before .before .before .before .before)
 returns-2 : tie.Need-returns-2 Inv-loop μ-loop
 returns-2 c =
     let k = c .before .before .before in
-    loaded-refused
-    (going-takes (k .before .before .before .loop .inv) (k .before .if2 .taken) _ (sym (c .before .enum-told .given .1) ∙ k .command .ensures) .same)
-    (c .refused2 .ensures)
+    let e = sym (c .before .enum-told .given .1) ∙ k .command .ensures in
+    loaded-refused (going-takes (k .before .before .before .loop .inv) (k .before .if2 .taken) _ e .same) (c .refused2 .ensures)
 
 enum-told-2 : tie.Need-enum-told-2 Inv-loop μ-loop
 enum-told-2 c = search needs
@@ -124,9 +123,8 @@ same-length-6 c = kept-edges (c .before .before .before .before .before .before)
 returns-3 : tie.Need-returns-3 Inv-loop μ-loop
 returns-3 c =
     let k = c .before .before .before in
-    loaded-refused
-    (going-takes (k .before .before .before .loop .inv) (k .before .if2 .taken) _ (sym (c .before .enum-told2 .given .1) ∙ k .command .ensures) .same)
-    (c .refused3 .ensures)
+    let e = sym (c .before .enum-told2 .given .1) ∙ k .command .ensures in
+    loaded-refused (going-takes (k .before .before .before .loop .inv) (k .before .if2 .taken) _ e .same) (c .refused3 .ensures)
 
 enum-known-command : tie.Need-enum-known-command Inv-loop μ-loop
 enum-known-command c = search needs

@@ -50,8 +50,10 @@ add-transition-requires : tie.Need-add-transition-requires
 add-transition-requires c κs =
     let k = c .before .before .before in
     let r = room (k .before .before) _ (k .command5 .given .1) refl in
-    let l = entry (k .before .before) .pre .1 .1 in
-    ((r .cells, omega (arith, r .edges), r .edges), r .chains (k .command5 .given .0 .0) (omega (arith, c .before .before .known-told5 .given)))
+    let l = entry (k .before .before) .pre .1 .1 in (
+      (r .cells, omega (arith, r .edges), r .edges),
+      r .chains (k .command5 .given .0 .0) (omega (arith, c .before .before .known-told5 .given)),
+    )
 
 enum-known-command-6 : tie.Need-enum-known-command-6
 enum-known-command-6 c = search needs
@@ -60,8 +62,10 @@ add-transition-requires-2 : tie.Need-add-transition-requires-2
 add-transition-requires-2 c κs =
     let k = c .before .before .before in
     let r = room (k .before .before) _ (k .command6 .given .1) refl in
-    let l = entry (k .before .before) .pre .1 .1 in
-    ((r .cells, omega (arith, r .edges), r .edges), r .chains (k .command6 .given .0 .0) (omega (arith, c .before .before .known-told6 .given)))
+    let l = entry (k .before .before) .pre .1 .1 in (
+      (r .cells, omega (arith, r .edges), r .edges),
+      r .chains (k .command6 .given .0 .0) (omega (arith, c .before .before .known-told6 .given)),
+    )
 
 enum-told : tie.Need-enum-told
 enum-told c = search needs
