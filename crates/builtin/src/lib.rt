@@ -69,12 +69,6 @@ fn fill(
     }
 }
 
-fn refused(number: u8, place: usize) -> LexAnswer
-    ensures { λ r. ⌜ r ≡ LexAnswer.Refused (record { number = number; place = place }) ⌝ }
-{
-    LexAnswer::Refused(Refusal { number, place })
-}
-
 // Lexing by the lent tables. Each token has a byte, so that as many records as the text has bytes are surely enough.
 fn lex_lent(
     classes: &[u8; 256],
@@ -88,13 +82,13 @@ fn lex_lent(
     ensures { λ r. ⌜ now (records .exit) ≡ (lexRules builtinRules (now (text .entry)) (now (records .entry))) .records ⌝ }
 {
     if Book::TEXT < text.len() {
-        return refused(Refusal::TEXT_TOO_LONG, 0);
+        return LexAnswer::refused(Refusal::TEXT_TOO_LONG, 0);
     }
     let room = records.len() / 10;
     if room < text.len() {
         let needed = count(classes, next, tags, text).tokens;
         if room < needed {
-            return refused(Refusal::TOO_FEW_RECORDS, needed);
+            return LexAnswer::refused(Refusal::TOO_FEW_RECORDS, needed);
         }
     }
     let cut = fill(classes, next, tags, text, records);

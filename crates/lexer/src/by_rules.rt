@@ -23,19 +23,13 @@ pub fn lex_rules(
         → LexAnswered (lexRules rs (now (text .entry)) (now (records .entry))) r (now (records .exit))) ⌝ }
 {
     if Book::TEXT < text.len() {
-        return LexAnswer::Refused(Refusal {
-            number: Refusal::TEXT_TOO_LONG,
-            place: 0,
-        });
+        return LexAnswer::refused(Refusal::TEXT_TOO_LONG, 0);
     }
     let room = records.len() / 10;
     if room < text.len() {
         let needed = longest_match::count(headers, states, edges, rules, text);
         if room < needed.tokens {
-            return LexAnswer::Refused(Refusal {
-                number: Refusal::TOO_FEW_RECORDS,
-                place: needed.tokens,
-            });
+            return LexAnswer::refused(Refusal::TOO_FEW_RECORDS, needed.tokens);
         }
     }
     let cut = crate::filling::fill(headers, states, edges, rules, text, records);

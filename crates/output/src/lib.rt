@@ -79,14 +79,8 @@ pub fn write(scratch: &[u8], at: usize, total: usize, out: &mut [u8]) -> PrintAn
     ensures { λ r. ⌜ WritesOut (now (scratch .entry)) at total (now (out .entry)) r (now (out .exit)) ⌝ }
 {
     if out.len() < total {
-        return refused(Refusal::OUTPUT_TOO_SHORT, total);
+        return PrintAnswer::refused(Refusal::OUTPUT_TOO_SHORT, total);
     }
     copy(scratch, at, total, out, 0);
     PrintAnswer::Printed(total)
-}
-
-pub fn refused(number: u8, place: usize) -> PrintAnswer
-    ensures { λ r. ⌜ r ≡ PrintAnswer.Refused (record { number = number; place = place }) ⌝ }
-{
-    PrintAnswer::Refused(Refusal { number, place })
 }

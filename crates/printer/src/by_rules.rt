@@ -29,7 +29,7 @@ pub fn print_rules(
         → PrintAnswered (printRules rs (now (records .entry)) (now (pool .entry)) (now (out .entry))) r (now (out .exit))) ⌝ }
 {
     if Book::TOKENS < records.len() / 10 {
-        return output::refused(Refusal::TOO_MANY_TOKENS, 0);
+        return PrintAnswer::refused(Refusal::TOO_MANY_TOKENS, 0);
     }
     match crate::rehearsal::rehearse(headers, states, edges, rules, records, pool, scratch) {
         Rehearsed::Clean(total) => output::write(scratch, 0, total, out),

@@ -24,14 +24,14 @@ use Rattle.record.specs.declared.TokenRecord.{TokenRecord}
 use Rattle.record.specs.Tokens.{recordAt, recordsOf}
 use Rattle.token_list.specs.Faults.{faultOf}
 use Rattle.token_list.specs.Checks.{refuse, firstFault}
-use Rattle.token_list.proofs.Passes.{left, left-start, left-next, left-end}
 use Rattle.used_bytes.specs.Kinds.{separatorKind, separates}
 use Rattle.used_bytes.specs.Bytes.{sharedByte}
 use Rattle.used_bytes.specs.Contracts.{lowestOf}
-use Rattle.separated.specs.declared.checks.Checked.{Checked}
+use Rattle.token_list.specs.declared.Checked.{Checked}
 use Rattle.separated.specs.Refusals.{orElse, separatorFault, plainFault, sharing, listRefusal, separatedRefusal}
-use Rattle.separated.specs.Contracts.{checkedOf, differs}
-use Rattle.separated.specs.declared.checks.Checked.the-variants as checked
+use Rattle.separated.specs.Contracts.{differs}
+use Rattle.token_list.specs.Contracts.{checkedOf}
+use Rattle.token_list.specs.declared.Checked.the-variants as checked
 use Rattle.used_bytes.specs.declared.byteset.Lowest.the-variants as lowest
 
 -- ---- the search for a separator rule
@@ -122,35 +122,6 @@ module _ (rules : List Rule) (pool : List ℕ) (r : TokenRecord) {number : ℕ} 
   pub plain-fault : number ≡ orElse (faultOf rules pool r) (differs false (separates rules (r .tag))) 26 → number ≡ plainFault rules pool r
   unfolding plainFault
   plain-fault e = e
-
--- ---- the pass over the list
-
--- the first k tokens have no fault
-pub record Passing (fault : TokenRecord → ℕ) (records : List ℕ) (k : ℕ) : Type 0 where
-  pub within : k ≤ recordCount records
-  pub first : firstFault fault (recordsOf records) 0 ≡ firstFault fault (left records k) k
-
-pub passing-start : (fault : TokenRecord → ℕ) (records : List ℕ) → Passing fault records 0
-passing-start fault records = record { within = omega arith; first = rw left-start }
-
-module _ {fault : TokenRecord → ℕ} {records : List ℕ} {k : ℕ} (w : Passing fault records k) where
-  module _ (more : k < recordCount records) {r : TokenRecord} (e : r ≡ recordAt records k) {number : ℕ} (f : number ≡ fault r) where
-    fault-here : fault (recordAt records k) ≡ number
-    fault-here = ap fault (sym e) ∙ sym f
-
-    pub passing-refused : (number ≡ 0 → ⊥) → {c : Checked} → c ≡ checked.Refused (record { number = number; place = k })
-        → c ≡ checkedOf (firstFault fault (recordsOf records) 0)
-    unfolding firstFault refuse
-    passing-refused ne a = a ∙ rw (w .first, left-next records k more, fault-here, ne-eqb number 0 ne)
-
-    pub passing-next : number ≡ 0 → Passing fault records (k + 1)
-    unfolding firstFault refuse
-    passing-next z =
-        record { within = omega arith; first = w .first ∙ rw (left-next records k more, fault-here, z, add-one) }
-
-  pub passing-end : recordCount records ≤ k → checked.Passed ≡ checkedOf (firstFault fault (recordsOf records) 0)
-  unfolding firstFault
-  passing-end l = rw (w .first, left-end records k l)
 
 -- ---- the checks of a call
 

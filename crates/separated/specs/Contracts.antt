@@ -1,27 +1,19 @@
 -- What the layers of the code ask and answer between themselves. Nobody needs to believe it: the operations' contracts do not rest on it.
 use mathlib.Core.Bool.{Bool, true, false, not}
-use mathlib.Core.Option.{Option, none, some}
+use mathlib.Core.Option.{none}
 use mathlib.Core.Path.{_≡_}
 use mathlib.Core.List.{List}
 use Prim.Native.Nat.{ℕ}
-use Rattle.answer.specs.declared.Refusal.{Refusal}
 use Rattle.automaton.specs.Choice.{if}
 use Rattle.automaton.specs.Rule.{Rule}
 use Rattle.longest_match.specs.Contracts.{Holds, Held}
 use Rattle.record.specs.declared.TokenRecord.{TokenRecord}
-use Rattle.separated.specs.declared.checks.Checked.{Checked}
 use Rattle.separated.specs.Refusals.{separatedRefusal}
-use Rattle.separated.specs.declared.checks.Checked.the-variants as checked
 
 -- whether a kind is not the wanted one
 abbrev pub differs : Bool → Bool → Bool
 differs true kind = not kind
 differs false kind = kind
-
--- the first refusal, if there is one
-abbrev pub checkedOf : Option Refusal → Checked
-checkedOf none = checked.Passed
-checkedOf (some f) = checked.Refused f
 
 -- ---- What the parts of the code answer, said of the rules that the tables hold.
 

@@ -2,6 +2,7 @@
 use answer::Refusal;
 use book::Book;
 use record::TokenRecord;
+use token_list::Checked;
 use used_bytes::byteset::Lowest;
 ghost use mathlib.Core.Path.{_≡_};
 ghost use mathlib.Core.List.{List};
@@ -12,21 +13,10 @@ ghost use Rattle.longest_match.specs.Contracts.{Holds, Held};
 ghost use Rattle.record.specs.Tokens.{recordsOf};
 ghost use Rattle.token_list.specs.Faults.{faultOf};
 ghost use Rattle.token_list.specs.Checks.{firstFault};
+ghost use Rattle.token_list.specs.Contracts.{checkedOf};
 ghost use Rattle.used_bytes.specs.Kinds.{separates};
 ghost use Rattle.separated.specs.Refusals.{orElse, plainFault, listRefusal, separatedRefusal};
-ghost use Rattle.separated.specs.Contracts.{differs, checkedOf};
-
-// What the checks of a call come to.
-pub enum Checked {
-    Passed,
-    Refused(Refusal),
-}
-
-fn refused(number: u8, place: usize) -> Checked
-    ensures { λ r. ⌜ r ≡ Checked.Refused (record { number = number; place = place }) ⌝ }
-{
-    Checked::Refused(Refusal { number, place })
-}
+ghost use Rattle.separated.specs.Contracts.{differs};
 
 // Whether the tag belongs to a rule of separator kind.
 pub fn is_separator(headers: &[u64], rules: usize, tag: u64) -> bool
@@ -65,7 +55,7 @@ pub fn fault_or_kind(
     if fault != 0 {
         return fault;
     }
-    if is_separator(headers, rules, token.tag) {
+    if is_separator(headers, rules, token.tag as u64) {
         if separator {
             return 0;
         }
@@ -105,7 +95,7 @@ pub fn check_tokens(
             Refusal::SEPARATOR_IN_LIST,
         );
         if number != 0 {
-            return refused(number, k);
+            return Checked::refused(number, k);
         }
         k += 1;
     }
@@ -128,7 +118,7 @@ pub fn check_call(
         → r ≡ checkedOf (separatedRefusal rs separator mode (now (records .entry)) (now (pool .entry)))) ⌝ }
 {
     match used_bytes::shared_byte(headers, states, edges, rules) {
-        Lowest::Byte(b) => refused(Refusal::SHARED_BYTE, b),
+        Lowest::Byte(b) => Checked::refused(Refusal::SHARED_BYTE, b),
         Lowest::Nothing => check_list(
             headers,
             states,
@@ -158,7 +148,7 @@ fn check_list(
         → r ≡ checkedOf (listRefusal rs separator mode (now (records .entry)) (now (pool .entry)))) ⌝ }
 {
     if 2 < mode {
-        return refused(Refusal::UNKNOWN_MODE, 0);
+        return Checked::refused(Refusal::UNKNOWN_MODE, 0);
     }
     let count = records.len() / 10;
     let number = fault_or_kind(
@@ -172,10 +162,10 @@ fn check_list(
         Refusal::NO_SEPARATOR,
     );
     if number != 0 {
-        return refused(number, count);
+        return Checked::refused(number, count);
     }
     if Book::TOKENS < count {
-        return refused(Refusal::TOO_MANY_TOKENS, 0);
+        return Checked::refused(Refusal::TOO_MANY_TOKENS, 0);
     }
     check_tokens(headers, states, edges, rules, records, pool)
 }

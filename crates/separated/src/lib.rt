@@ -6,7 +6,7 @@ use answer::BookAnswer;
 use answer::PrintAnswer;
 use answer::Refusal;
 use book::Book;
-use crate::checks::Checked;
+use token_list::Checked;
 use output::Placed;
 use record::TokenRecord;
 ghost use mathlib.Core.Path.{_≡_};
@@ -161,7 +161,7 @@ fn print_passed(
         scratch,
     ) {
         Placed::At(at) => write_from(scratch, at, out),
-        Placed::Full => output::refused(Refusal::OUTPUT_TOO_LONG, 0),
+        Placed::Full => PrintAnswer::refused(Refusal::OUTPUT_TOO_LONG, 0),
     }
 }
 

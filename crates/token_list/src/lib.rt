@@ -20,10 +20,12 @@ pub enum Checked {
     Refused(Refusal),
 }
 
-pub fn refused(number: u8, place: usize) -> Checked
-    ensures { λ r. ⌜ r ≡ Checked.Refused (record { number = number; place = place }) ⌝ }
-{
-    Checked::Refused(Refusal { number, place })
+impl Checked {
+    pub fn refused(number: u8, place: usize) -> Checked
+        ensures { λ r. ⌜ r ≡ Checked.Refused (record { number = number; place = place }) ⌝ }
+    {
+        Checked::Refused(Refusal { number, place })
+    }
 }
 
 // The first token that is at fault.
@@ -45,7 +47,7 @@ pub fn check_tokens(
         let token = record::read_record(records, k);
         let number = faults::token_fault(headers, states, edges, rules, pool, token);
         if number != 0 {
-            return refused(number, k);
+            return Checked::refused(number, k);
         }
         k += 1;
     }

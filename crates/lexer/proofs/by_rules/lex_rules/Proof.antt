@@ -18,14 +18,20 @@ use Rattle.lexer.proofs.by_rules.lex_rules.Tie as tie
 fits : (c : tie.Joined2) (rs : List Rule) → Holds (now (c .before .before .before .before .before .before .before .args .headers)) (now (c .before .before .before .before .before .before .before .args .states)) (now (c .before .before .before .before .before .before .before .args .edges)) (c .before .before .before .before .before .before .before .args .rules) rs → length ((lex rs (now (c .before .before .before .before .before .before .before .args .text))) .tokens) ≤ recordCount (now (c .before .before .before .before .before .before .before .args .records))
 fits c rs h = ⊎-elim (λ w. omega (arith, w .1 .ensures rs h .tokens-are, w .3 .left)) (λ w. enough rs _ (now (c .before .before .before .before .before .before .before .args .records)) (w .left)) (c .if2 .came)
 
+refused-requires : tie.Need-refused-requires
+refused-requires c κs = search needs
+
 returns : tie.Need-returns
-returns c = λ rs h. answered-long rs _ _ (c .if1 .taken)
+returns c = λ rs h. rw (c .refused .ensures) (answered-long rs _ _ (c .before .if1 .taken))
 
 count-requires : tie.Need-count-requires
 count-requires c κs = search needs
 
+refused-requires-2 : tie.Need-refused-requires-2
+refused-requires-2 c κs = search needs
+
 returns-2 : tie.Need-returns-2
-returns-2 c = λ rs h. answered-few rs _ _ (c .before .before .before .before .if1 .left) (c .before .before .count .ensures rs h) (c .if3 .taken)
+returns-2 c = λ rs h. rw (c .refused2 .ensures) (answered-few rs _ _ (c .before .before .before .before .before .if1 .left) (c .before .before .before .count .ensures rs h) (c .before .if3 .taken))
 
 fill-requires : tie.Need-fill-requires
 fill-requires c κs = room-of (c .before .before .before .before .before .before .before .before .pre) (fits (c .before))
@@ -38,4 +44,13 @@ returns-3 c = λ rs h. answered-lexed rs _ _ (c .before .before .before .before 
 
 pub lex-rules-spec : {M : Type 1} → statement M
 lex-rules-spec =
-    tie.close (tie.spec returns count-requires returns-2 fill-requires same-length returns-3)
+    tie.close
+    (tie.spec
+    refused-requires
+    returns
+    count-requires
+    refused-requires-2
+    returns-2
+    fill-requires
+    same-length
+    returns-3)

@@ -7,7 +7,8 @@ use Rattle.automaton.specs.Rule.{Rule}
 use Rattle.longest_match.specs.Contracts.{Holds}
 use Rattle.record.specs.Records.{recordCount}
 use Rattle.separated.specs.Refusals.{plainFault}
-use Rattle.separated.proofs.Checking.{plain-fault, Passing, passing-start, passing-refused, passing-next, passing-end}
+use Rattle.separated.proofs.Checking.{plain-fault}
+use Rattle.token_list.proofs.Passes.{Passing, passing-start, passing-refused, passing-next, passing-end}
 use Rattle.separated.proofs.checks.check_tokens.Statement.{statement}
 use Rattle.separated.proofs.checks.check_tokens.Tie as tie
 
@@ -30,7 +31,7 @@ refused-requires : tie.Need-refused-requires Inv-loop μ-loop
 refused-requires c κs = search needs
 
 returns : tie.Need-returns Inv-loop μ-loop
-returns c = λ rs h. passing-refused (c .before .before .before .before .before .loop .inv rs h) (c .before .before .before .before .loop-test .taken) (c .before .before .before .read-record .ensures .0) (plain-fault rs _ _ (c .before .before .fault-or-kind .ensures rs h)) (c .before .if1 .taken) (c .refused .ensures)
+returns c = λ rs h. passing-refused (c .before .before .before .before .before .loop .inv rs h) (c .before .before .before .before .loop-test .taken) (c .before .before .before .read-record .ensures) (plain-fault rs _ _ (c .before .before .fault-or-kind .ensures rs h)) (c .before .if1 .taken) (c .refused .ensures)
 
 add-k : tie.Need-add-k Inv-loop μ-loop
 add-k c = omega (arith, c .before .before .before .loop-test .taken, c .before .before .before .before .before .before .before .before .before .before .good)
@@ -39,7 +40,7 @@ loop-less : tie.Need-loop-less Inv-loop μ-loop
 loop-less c = omega (arith, c .before .before .before .loop-test .taken)
 
 loop-again : tie.Need-loop-again Inv-loop μ-loop
-loop-again c = λ rs h. passing-next (c .before .before .before .before .loop .inv rs h) (c .before .before .before .loop-test .taken) (c .before .before .read-record .ensures .0) (plain-fault rs _ _ (c .before .fault-or-kind .ensures rs h)) (c .if1 .left)
+loop-again c = λ rs h. passing-next (c .before .before .before .before .loop .inv rs h) (c .before .before .before .loop-test .taken) (c .before .before .read-record .ensures) (plain-fault rs _ _ (c .before .fault-or-kind .ensures rs h)) (c .if1 .left)
 
 returns-2 : tie.Need-returns-2 Inv-loop μ-loop
 returns-2 c = λ rs h. passing-end (c .before .loop .inv rs h) (c .loop-test .left)

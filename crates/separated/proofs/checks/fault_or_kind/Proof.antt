@@ -14,19 +14,19 @@ returns : tie.Need-returns
 returns c = λ rs h. or-fault (c .before .token-fault .ensures rs h) _ _ (c .if1 .taken)
 
 is-separator-requires : tie.Need-is-separator-requires
-is-separator-requires c κs = held-room (c .before .before .before .before .before .before .pre .holds)
+is-separator-requires c κs = held-room (c .before .before .before .before .before .before .before .pre .holds)
 
 returns-2 : tie.Need-returns-2
-returns-2 c = λ rs h. or-none (c .before .before .before .before .token-fault .ensures rs h) _ _ (c .before .before .before .if1 .left) (differs-same _ _ (c .if3 .taken ∙ sym (c .before .if2 .taken) ∙ c .before .before .is-separator .ensures _ _ rs h))
+returns-2 c = λ rs h. or-none (c .before .before .before .before .before .token-fault .ensures rs h) _ _ (c .before .before .before .before .if1 .left) (differs-same _ _ (c .if3 .taken ∙ sym (c .before .if2 .taken) ∙ c .before .before .is-separator .ensures _ _ rs h))
 
 returns-3 : tie.Need-returns-3
-returns-3 c = λ rs h. or-number (c .before .before .before .before .token-fault .ensures rs h) _ _ (c .before .before .before .if1 .left) (differs-other _ _ (λ q. clash (q ∙ sym (c .before .before .is-separator .ensures _ _ rs h) ∙ c .before .if2 .taken) (c .if3 .left)))
+returns-3 c = λ rs h. or-number (c .before .before .before .before .before .token-fault .ensures rs h) _ _ (c .before .before .before .before .if1 .left) (differs-other _ _ (λ q. clash (q ∙ sym (c .before .before .is-separator .ensures _ _ rs h) ∙ c .before .if2 .taken) (c .if3 .left)))
 
 returns-4 : tie.Need-returns-4
-returns-4 c = λ rs h. or-number (c .before .before .before .before .token-fault .ensures rs h) _ _ (c .before .before .before .if1 .left) (differs-other _ _ (λ q. clash (c .if4 .taken) (q ∙ sym (c .before .before .is-separator .ensures _ _ rs h) ∙ c .before .if2 .left)))
+returns-4 c = λ rs h. or-number (c .before .before .before .before .before .token-fault .ensures rs h) _ _ (c .before .before .before .before .if1 .left) (differs-other _ _ (λ q. clash (c .if4 .taken) (q ∙ sym (c .before .before .is-separator .ensures _ _ rs h) ∙ c .before .if2 .left)))
 
 returns-5 : tie.Need-returns-5
-returns-5 c = λ rs h. or-none (c .before .before .before .before .token-fault .ensures rs h) _ _ (c .before .before .before .if1 .left) (differs-same _ _ (c .if4 .left ∙ sym (c .before .if2 .left) ∙ c .before .before .is-separator .ensures _ _ rs h))
+returns-5 c = λ rs h. or-none (c .before .before .before .before .before .token-fault .ensures rs h) _ _ (c .before .before .before .before .if1 .left) (differs-same _ _ (c .if4 .left ∙ sym (c .before .if2 .left) ∙ c .before .before .is-separator .ensures _ _ rs h))
 
 pub fault-or-kind-spec : {M : Type 1} → statement M
 fault-or-kind-spec =
