@@ -27,14 +27,15 @@ use Rattle.printer.specs.Outcome.{refusedIf, unless}
 use Rattle.printer.specs.Contracts.{PrintAnswered}
 use Rattle.spacing.specs.Separators.{spelled}
 use Rattle.spacing.specs.Contracts.{Spaceable}
+use Rattle.token_list.specs.Contracts.{checkedOf}
 use Rattle.separated.specs.Refusals.{separatedRefusal}
-use Rattle.separated.specs.Contracts.{checkedOf, Passed}
+use Rattle.separated.specs.Contracts.{Passed}
 use Rattle.separated.specs.Outcome.{writing, separatedRules, separatedOutcome}
 use Rattle.separated.proofs.Sides.{all-map}
 use Rattle.separated.proofs.Unrefused.{CallPasses, passes}
 use Rattle.answer.specs.declared.BookAnswer.the-variants as book
 use Rattle.answer.specs.declared.PrintAnswer.the-variants as print
-use Rattle.separated.specs.declared.checks.Checked.the-variants as checked
+use Rattle.token_list.specs.declared.Checked.the-variants as checked
 use Rattle.output.specs.declared.Placed.the-variants as placed
 
 -- ---- what is written

@@ -21,7 +21,7 @@ use Rattle.record.specs.declared.TokenRecord.{TokenRecord}
 use Rattle.record.specs.Tokens.{recordsOf}
 use Rattle.token_list.specs.Faults.{faultOf}
 use Rattle.token_list.specs.Checks.{refuse, firstFault}
-use Rattle.token_list.proofs.Faulting.{Faultless, faultless, fault-none}
+use Rattle.token_list.proofs.Faulting.{Fine, fine, fault-none}
 use Rattle.printer.specs.Outcome.{PrintOutcome, printAccepted, refusedIf, unless}
 use Rattle.used_bytes.specs.Kinds.{separates}
 use Rattle.used_bytes.specs.Bytes.{lowestFrom, shared, sharedByte}
@@ -81,7 +81,7 @@ module _ (fault : ℕ) (test : Bool) (number : ℕ) where
 
 -- a token in none of the cases of 17, 18 and 19, of separator kind or not
 pub record Taken (rules : List Rule) (pool : List ℕ) (separator : Bool) (r : TokenRecord) : Type 0 where
-  pub faultless : Faultless rules pool r
+  pub faultless : Fine rules pool r
   pub kind : separates rules (r .tag) ≡ separator
 
 not-not : (b : Bool) → not b ≡ false → b ≡ true
@@ -89,14 +89,14 @@ not-not true e = refl
 not-not false e = clash refl e
 
 module _ (rules : List Rule) (pool : List ℕ) (r : TokenRecord) where
-  of-faultless : Faultless rules pool r → faultOf rules pool r ≡ 0
+  of-faultless : Fine rules pool r → faultOf rules pool r ≡ 0
   of-faultless f = fault-none rules pool r (f .in-pool) (f .known) (f .alone)
 
   separator-taken : separatorFault rules pool r ≡ 0 → Taken rules pool true r
   unfolding separatorFault
   separator-taken e =
       let p = none-or-else (faultOf rules pool r) (not (separates rules (r .tag))) 25 (omega arith) e in
-      record { faultless = faultless rules pool r (p .0); kind = not-not _ (p .1) }
+      record { faultless = fine rules pool r (p .0); kind = not-not _ (p .1) }
 
   taken-separator : Taken rules pool true r → separatorFault rules pool r ≡ 0
   unfolding separatorFault
@@ -106,7 +106,7 @@ module _ (rules : List Rule) (pool : List ℕ) (r : TokenRecord) where
   unfolding plainFault
   plain-taken e =
       let p = none-or-else (faultOf rules pool r) (separates rules (r .tag)) 26 (omega arith) e in
-      record { faultless = faultless rules pool r (p .0); kind = p .1 }
+      record { faultless = fine rules pool r (p .0); kind = p .1 }
 
   taken-plain : Taken rules pool false r → plainFault rules pool r ≡ 0
   unfolding plainFault

@@ -13,6 +13,9 @@ token-fault-requires c κs = search needs
 returns : tie.Need-returns
 returns c = λ rs h. or-fault (c .before .token-fault .ensures rs h) _ _ (c .if1 .taken)
 
+cast-is-separator : tie.Need-cast-is-separator
+cast-is-separator c = search needs
+
 is-separator-requires : tie.Need-is-separator-requires
 is-separator-requires c κs = held-room (c .before .before .before .before .before .before .before .pre .holds)
 
@@ -34,6 +37,7 @@ fault-or-kind-spec =
     (tie.spec
     token-fault-requires
     returns
+    cast-is-separator
     is-separator-requires
     returns-2
     returns-3
