@@ -1,9 +1,10 @@
 -- The commands of a book, as they stand in its bytes.
 use mathlib.Core.Bool.{Bool, false, not, _&&_, _||_}
 use mathlib.Core.List.{List}
-use Prim.Native.Nat.{ℕ, _+_, _*_}
+use Prim.Native.Nat.{ℕ, _+_}
 use lib.Dec.{leb, eqb}
 use lib.ListN.{length, getD}
+use Rattle.big_endian.specs.Numbers.{twoAt}
 use Rattle.automaton.specs.Choice.{if}
 use Rattle.command.specs.declared.Command.{Command}
 use Rattle.command.specs.declared.Decoded.{Decoded}
@@ -12,10 +13,6 @@ use Rattle.command.specs.declared.Decoded.the-variants as decoded
 
 abbrev pub byteAt : List ℕ → ℕ → ℕ
 byteAt bytes i = getD bytes i 0
-
--- a two-byte number, high byte first
-abbrev pub pairAt : List ℕ → ℕ → ℕ
-pairAt bytes i = byteAt bytes i * 256 + byteAt bytes (i + 1)
 
 -- RULE (1) and END (8) stand only outside a rule, 2 to 7 only inside one; nothing else is a command
 unfoldable pub placed : ℕ → Bool → Bool
@@ -29,7 +26,7 @@ operandsOf code =
 -- the command that stands at `at`, with its operands behind it
 unfoldable pub decode : List ℕ → ℕ → ℕ → Command
 decode bytes at code =
-    if (eqb code 1) (command.Rule (pairAt bytes (at + 1)) (byteAt bytes (at + 3)))
+    if (eqb code 1) (command.Rule (twoAt bytes (at + 1)) (byteAt bytes (at + 3)))
     (if (eqb code 2) (command.Start (byteAt bytes (at + 1)))
     (if (eqb code 3) (command.Error (byteAt bytes (at + 1)))
     (if (eqb code 4) (command.Final (byteAt bytes (at + 1)))

@@ -95,7 +95,7 @@ fn command_of(book: &[u8], at: usize, code: u8) -> Command
 {
     match code {
         1 => Command::Rule {
-            tag: pair(book, at + 1),
+            tag: big_endian::read_two(book, at + 1),
             kind: book[at + 3],
         },
         2 => Command::Start(book[at + 1]),
@@ -115,12 +115,4 @@ fn command_of(book: &[u8], at: usize, code: u8) -> Command
         7 => Command::Close,
         _ => Command::End,
     }
-}
-
-// The two-byte number at `at`, high byte first.
-fn pair(book: &[u8], at: usize) -> u16
-    requires { ⌜ at + 1 < length (now book) ⌝ }
-    ensures { λ r. ⌜ r ≡ Rattle.command.specs.Commands.pairAt (now (book .entry)) at ⌝ }
-{
-    (book[at] as u16) * 256 + (book[at + 1] as u16)
 }

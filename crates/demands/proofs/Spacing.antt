@@ -11,7 +11,7 @@ use Rattle.book.specs.Limits.{maxText}
 use Rattle.reader.specs.Reading.{accepted, readBook}
 use Rattle.record.specs.declared.TokenRecord.{TokenRecord}
 use Rattle.record.specs.Tokens.{recordsOf}
-use Rattle.token_list.proofs.Faulting.{Faultless}
+use Rattle.token_list.proofs.Faulting.{Fine}
 use Rattle.used_bytes.specs.Kinds.{plainKind, separatorKind}
 use Rattle.used_bytes.specs.Bytes.{usedByKind, shared}
 use Rattle.spacing.specs.Separators.{spelled}
@@ -40,7 +40,7 @@ module _ {rules : List Rule} {pool : List ℕ} {r : TokenRecord} where
   fit-of : {s : Bool} → Taken rules pool s r → Fit rules pool r
   fit-of t = record { not-17 = t .faultless .in-pool; not-18 = t .faultless .known; not-19 = t .faultless .alone }
 
-  of-fit : Fit rules pool r → Faultless rules pool r
+  of-fit : Fit rules pool r → Fine rules pool r
   of-fit f = record { in-pool = f .not-17; known = f .not-18; alone = f .not-19 }
 
 -- ---- the call

@@ -9,6 +9,7 @@ use lib.Dec.{ltb}
 use lib.ListN.{length, getD, drop, length-append, List·getD-append}
 use lib.Seq.{getD-take, getD-drop}
 use borrow.Author.Tests.{ltb-false}
+use Rattle.big_endian.proofs.Numbers.{four-value}
 use Rattle.answer.specs.declared.LexAnswer.{LexAnswer}
 use Rattle.automaton.specs.Choice.{if}
 use Rattle.automaton.specs.Rule.{Rule}
@@ -17,7 +18,7 @@ use Rattle.reader.specs.Reading.{Reading, accepted, refused, readBook}
 use Rattle.longest_match.specs.Lexer.{Token, lex}
 use Rattle.longest_match.proofs.Lexing.{lex-lengths}
 use Rattle.record.specs.Records.{recordOf, recordsAt, recordCount}
-use Rattle.record.proofs.Records.{length-records, tokenAt, placeAt, records-at, laid-within, four-value}
+use Rattle.record.proofs.Records.{length-records, tokenAt, placeAt, records-at, laid-within}
 use Rattle.record.specs.Tokens.{twoAt, fourAt, recordAt}
 use Rattle.lexer.specs.Outcome.{LexOutcome, lexRefused, lexAccepted, lexRules, lexReading, lexOutcome}
 use Rattle.listing.specs.Decimal.{decimal, field, blank, lineEnd, lastTwo}

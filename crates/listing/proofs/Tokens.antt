@@ -8,6 +8,7 @@ use native.Mathlib.Nat.{add-zero, zero-add}
 use lib.ListN.{length, getD, take, drop, length-append}
 use lib.Seq.{take-suc, take-length, length-take-le}
 use borrow.Author.Tests.{le-ltb}
+use Rattle.big_endian.proofs.Numbers.{two-value}
 use Rattle.automaton.specs.Choice.{All}
 use Rattle.automaton.specs.Rule.{Rule}
 use Rattle.command.specs.Commands.{byteAt}
@@ -19,7 +20,7 @@ use Rattle.longest_match.specs.Lexer.{Token, Found, Lexed, choose, proceed, lex
 use Rattle.longest_match.proofs.Choosing.{choose-some}
 use Rattle.longest_match.proofs.Lexing.{lex-lengths}
 use Rattle.record.specs.Records.{recordsAt, recordCount}
-use Rattle.record.proofs.Records.{tokenAt, placeAt, laid-within, two-value}
+use Rattle.record.proofs.Records.{tokenAt, placeAt, laid-within}
 use Rattle.record.specs.Tokens.{twoAt, recordAt}
 use Rattle.lexer.specs.Outcome.{lexRules, lexOutcome}
 use Rattle.listing.specs.Lines.{tokenLine, tokenLines, recordLine, restLine, recordLines, listing}

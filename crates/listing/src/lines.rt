@@ -28,5 +28,5 @@ pub fn put_record(out: &mut [u8], at: usize, records: &[u8], k: usize) -> usize
     ensures { λ r. ⌜ Puts (now (out .entry)) at (recordLine (now (records .entry)) k) r (now (out .exit)) ⌝ }
 {
     let r = record::read_record(records, k);
-    put_token(out, at, k, r.tag as usize, r.place, r.len)
+    put_token(out, at, k, r.tag as usize, r.place as usize, r.len as usize)
 }

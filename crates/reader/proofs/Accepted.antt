@@ -12,7 +12,8 @@ use Rattle.automaton.specs.Rule.{Rule}
 use Rattle.automaton.proofs.Tests.{clash}
 use Rattle.command.specs.declared.Command.{Command}
 use Rattle.command.specs.declared.Decoded.{Decoded}
-use Rattle.command.specs.Commands.{byteAt, pairAt, decode, commandAt, placed, operandsOf}
+use Rattle.big_endian.specs.Numbers.{twoAt}
+use Rattle.command.specs.Commands.{byteAt, decode, commandAt, placed, operandsOf}
 use Rattle.book.specs.Limits.{maxBytes}
 use Rattle.book.specs.Draft.{Draft, between, Verdict, goes, accepts, refuses, apply}
 use Rattle.book.specs.Valid.{Valid}
@@ -69,7 +70,7 @@ closed-place true e = clash e refl
 closed-place false e = refl
 
 module _ (bytes : List ℕ) (at : ℕ) (inside : Bool) (byte : (i : ℕ) → byteAt bytes i < 256) where
-  pair-below : (i : ℕ) → pairAt bytes i < 65536
+  pair-below : (i : ℕ) → twoAt bytes i < 65536
   pair-below i = omega (arith, byte i, byte (i + 1))
 
   -- where a command of this code may stand and its operands are there, it is found

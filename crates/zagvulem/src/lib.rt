@@ -73,9 +73,9 @@ pub extern "C" fn zgv_print_separated(
         (now (records .entry)) (now (pool .entry)) (now (out .entry))) .out ⌝ }
 {
     let token = TokenRecord {
-        tag: separator_tag as u64,
-        place: separator_place as usize,
-        len: separator_length as usize,
+        tag: separator_tag,
+        place: separator_place,
+        len: separator_length,
     };
     crate::words::printed(separated::print_separated(book, token, mode, records, pool, out))
 }

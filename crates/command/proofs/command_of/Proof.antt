@@ -6,12 +6,12 @@ use Rattle.command.specs.Commands.{operandsOf, decode}
 use Rattle.command.proofs.command_of.Statement.{statement}
 use Rattle.command.proofs.command_of.Tie as tie
 
-add-pair : tie.Need-add-pair
-add-pair c = search needs
+add-read-two : tie.Need-add-read-two
+add-read-two c = search needs
 
-pair-requires : tie.Need-pair-requires
+read-two-requires : tie.Need-read-two-requires
 unfolding operandsOf
-pair-requires c κs = let h = ap operandsOf (c .match .keys1) in omega (arith, c .before .before .pre)
+read-two-requires c κs = let h = ap operandsOf (c .match .keys1) in omega (arith, c .before .before .pre)
 
 add-t7 : tie.Need-add-t7
 add-t7 c = search needs
@@ -92,7 +92,7 @@ shared-slice-read-t39 c = let h = ap operandsOf (c .before .before .before .befo
 
 returns : tie.Need-returns
 unfolding decode
-returns c = rw (c .before .before .match .keys1, c .before .pair .ensures)
+returns c = rw (c .before .before .match .keys1, c .before .read-two .ensures)
 
 returns-2 : tie.Need-returns-2
 unfolding decode
@@ -126,8 +126,8 @@ pub command-of-spec : {M : Type 1} → statement M
 command-of-spec =
     tie.close
     (tie.spec
-    add-pair
-    pair-requires
+    add-read-two
+    read-two-requires
     add-t7
     shared-slice-read-t9
     add-t10
