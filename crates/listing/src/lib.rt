@@ -17,9 +17,7 @@ pub const RECORD_BYTES: usize = 60000;
 
 pub const OUTPUT_BYTES: usize = 144024;
 
-// Each `put` writes from `at` on and answers the place behind what it wrote.
-
-// A word and the two numbers behind it.
+// A word and the two numbers behind it, from `at` on. Each `put` answers the place behind what it wrote.
 fn put_line(out: &mut [u8], at: usize, word: &[u8], a: usize, b: usize) -> usize
     requires { ⌜ Room at (wordLine (now word) a b) (now out) ⌝ }
     ensures { λ r. ⌜ Puts (now (out .entry)) at (wordLine (now (word .entry)) a b) r (now (out .exit)) ⌝ }
