@@ -19,7 +19,8 @@ use Rattle.longest_match.specs.Lexer.{Token, lex}
 use Rattle.longest_match.proofs.Lexing.{lex-lengths}
 use Rattle.record.specs.Records.{recordOf, recordsAt, recordCount}
 use Rattle.record.proofs.Records.{length-records, tokenAt, placeAt, records-at, laid-within}
-use Rattle.record.specs.Tokens.{twoAt, fourAt, recordAt}
+use Rattle.record.specs.Tokens.{recordAt}
+use Rattle.big_endian.specs.Numbers.{twoAt, fourAt}
 use Rattle.lexer.specs.Outcome.{LexOutcome, lexRefused, lexAccepted, lexRules, lexReading, lexOutcome}
 use Rattle.listing.specs.Decimal.{decimal, field, blank, lineEnd, lastTwo}
 use Rattle.listing.specs.Contracts.{Puts, outputBytes, LinesFit}

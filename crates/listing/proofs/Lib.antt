@@ -1,8 +1,7 @@
--- Writing numbers, records, words and all lines (Putting, Recording, Words, Listing), the room that they take (Bounds), and what they say
+-- Writing texts and numbers, a record and all lines (Putting, Recording, Listing), the room that they take (Bounds), and what they say
 -- of a cut's tokens (Tokens).
 pub mod Putting
 pub mod Recording
-pub mod Words
 pub mod Listing
 pub mod Bounds
 pub mod Tokens

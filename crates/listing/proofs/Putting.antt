@@ -8,7 +8,7 @@ use native.Mathlib.Nat.{pow-suc}
 use native.Mathlib.Numerals.{add-one}
 use lib.Dec.{ltb}
 use lib.ListN.{length, take, drop, set, length-append, take-append-drop}
-use lib.Seq.{length-take-le, take-at, drop-at, drop-drop, set-split, append-snoc}
+use lib.Seq.{paste, take-length, length-take-le, take-at, drop-at, drop-drop, set-split, append-snoc}
 use borrow.Author.Tests.{lt-ltb, le-ltb, ltb-true, ltb-false}
 use Rattle.automaton.specs.Choice.{if}
 use Rattle.listing.specs.Decimal.{decimalFor, decimal}
@@ -23,6 +23,10 @@ puts-nothing entry at =
 pub puts-byte : (entry : List ℕ) (at byte : ℕ) → Room at (byte ∷ []) entry → Puts entry at (byte ∷ []) (at + 1) (set entry at byte)
 puts-byte entry at byte l =
     record { behind = refl; written = rw (set-split entry at byte (omega (arith, l .room)), append-snoc, add-one) }
+
+pub puts-copied : (entry : List ℕ) (at : ℕ) (text : List ℕ) {exit : List ℕ} → exit ≡ paste entry at text (length text)
+    → Puts entry at text (at + length text) exit
+puts-copied entry at text e = record { behind = refl; written = e ∙ rw (take-length text) }
 
 module _ {entry middle exit xs ys : List ℕ} {at m end : ℕ}
     (p : Puts entry at xs m middle) (q : Puts middle m ys end exit) (r : Room at xs entry) where

@@ -21,7 +21,8 @@ use Rattle.longest_match.proofs.Choosing.{choose-some}
 use Rattle.longest_match.proofs.Lexing.{lex-lengths}
 use Rattle.record.specs.Records.{recordsAt, recordCount}
 use Rattle.record.proofs.Records.{tokenAt, placeAt, laid-within}
-use Rattle.record.specs.Tokens.{twoAt, recordAt}
+use Rattle.record.specs.Tokens.{recordAt}
+use Rattle.big_endian.specs.Numbers.{twoAt}
 use Rattle.lexer.specs.Outcome.{lexRules, lexOutcome}
 use Rattle.listing.specs.Lines.{tokenLine, tokenLines, recordLine, restLine, recordLines, listing}
 use Rattle.listing.proofs.Bounds.{byte-at, place-is, length-is}

@@ -17,27 +17,14 @@ pub const RECORD_BYTES: usize = 60000;
 
 pub const OUTPUT_BYTES: usize = 144024;
 
-// Each `put` writes from `at` on and answers the place behind what it wrote.
-
-fn put_word(out: &mut [u8], at: usize, word: &[u8]) -> usize
-    requires { ⌜ Room at (now word) (now out) ⌝ }
-    ensures { λ r. ⌜ Puts (now (out .entry)) at (now (word .entry)) r (now (out .exit)) ⌝ }
-{
-    let mut i = 0;
-    while i < word.len() {
-        out[at + i] = word[i];
-        i += 1;
-    }
-    at + i
-}
-
-// A word and the two numbers behind it.
+// A word and the two numbers behind it, from `at` on. Each `put` answers the place behind what it wrote.
 fn put_line(out: &mut [u8], at: usize, word: &[u8], a: usize, b: usize) -> usize
     requires { ⌜ Room at (wordLine (now word) a b) (now out) ⌝ }
     ensures { λ r. ⌜ Puts (now (out .entry)) at (wordLine (now (word .entry)) a b) r (now (out .exit)) ⌝ }
 {
-    let next = put_word(out, at, word);
-    crate::digits::put_last_two(out, next, a, b)
+    let len = word.len();
+    output::copy(word, 0, len, out, at);
+    crate::digits::put_last_two(out, at + len, a, b)
 }
 
 // The lines of the first `n` records, from the start of `out`.

@@ -23,7 +23,7 @@ use Rattle.separated.proofs.Sides.{all-right, Side, Disjoint, side-uniq
 use Rattle.separated.proofs.Unrefused.{Taken, CallPasses}
 
 -- a token that is cut as itself, of separator kind or not
-pub record OfKind (rules : List Rule) (separator : Bool) (t : Token) : Type 0 where
+record OfKind (rules : List Rule) (separator : Bool) (t : Token) : Type 0 where
   pub alone : Alone rules t
   pub kind : separates rules t.tag ≡ separator
 
@@ -57,7 +57,7 @@ module _ {rules : List Rule} (v : ValidRules rules) (d : Disjoint rules) where
     )
     put-printable t u us false c p q h = (p .alone, (or-false (eqb (meaning mode) 1) _ c) .1, h)
 
-    pub separated-printable : (ts : List Token) → All (OfKind rules false) ts → Printable rules (separated rules sep mode ts)
+    separated-printable : (ts : List Token) → All (OfKind rules false) ts → Printable rules (separated rules sep mode ts)
     unfolding separated follows extends
     separated-printable [] h = tt
     separated-printable (t ∷ []) h = (h .0 .alone, refl, tt)
@@ -77,11 +77,11 @@ module _ {rules : List Rule} (v : ValidRules rules) (d : Disjoint rules) where
     drop-separated (t ∷ ts) (p, h) = drop-put (follows rules mode t (separated rules sep mode ts)) t _ ts (p .kind) (drop-separated ts h)
 
     -- what is printed is cut into the tokens and their separators, and no rest
-    pub separated-lexes : (ts : List Token) → All (OfKind rules false) ts
+    separated-lexes : (ts : List Token) → All (OfKind rules false) ts
         → lex rules (join (separated rules sep mode ts)) ≡ record { tokens = separated rules sep mode ts; rest = [] }
     separated-lexes ts h = printed-lexes rules (separated rules sep mode ts) (valid-empty v) (separated-printable ts h)
 
-    pub separated-back : (ts : List Token) → All (OfKind rules false) ts
+    separated-back : (ts : List Token) → All (OfKind rules false) ts
         → dropSeparators rules ((lex rules (join (separated rules sep mode ts))) .tokens) ≡ ts
     separated-back ts h = rw (separated-lexes ts h) (drop-separated ts h)
 

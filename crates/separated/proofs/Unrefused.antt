@@ -33,7 +33,7 @@ use Rattle.answer.specs.declared.PrintAnswer.the-variants as answer
 
 -- ---- the lowest byte
 
-pub lowest-none : (f : ℕ → Bool) (b n : ℕ) → lowestFrom f b n ≡ none → (i : ℕ) → b ≤ i → i < b + n → f i ≡ false
+lowest-none : (f : ℕ → Bool) (b n : ℕ) → lowestFrom f b n ≡ none → (i : ℕ) → b ≤ i → i < b + n → f i ≡ false
 unfolding lowestFrom
 lowest-none f b zero e i l m = absurd (omega arith)
 lowest-none f b (suc n) e i l m = go (f b) refl (lowest-none f (suc b) n) (eqb i b) refl e
@@ -44,17 +44,17 @@ lowest-none f b (suc n) e i l m = go (f b) refl (lowest-none f (suc b) n) (eqb i
     go false q ih true p z = rw (eqb-true i b p) q
     go false q ih false p z = let ne = eqb-false i b p in ih z i (omega arith) (omega arith)
 
-pub none-lowest : (f : ℕ → Bool) (b n : ℕ) → ((i : ℕ) → b ≤ i → i < b + n → f i ≡ false) → lowestFrom f b n ≡ none
+none-lowest : (f : ℕ → Bool) (b n : ℕ) → ((i : ℕ) → b ≤ i → i < b + n → f i ≡ false) → lowestFrom f b n ≡ none
 unfolding lowestFrom
 none-lowest f b zero h = refl
 none-lowest f b (suc n) h = rw (h b (omega arith) (omega arith)) (none-lowest f (suc b) n (λ i l m. h i (omega arith) (omega arith)))
 
 -- no byte is used by both kinds
-pub unshared : (rules : List Rule) → sharedByte rules ≡ none → (b : ℕ) → b < 256 → shared rules b ≡ false
+unshared : (rules : List Rule) → sharedByte rules ≡ none → (b : ℕ) → b < 256 → shared rules b ≡ false
 unfolding sharedByte
 unshared rules e b l = lowest-none (shared rules) 0 256 e b (omega arith) (omega arith)
 
-pub shared-none : (rules : List Rule) → ((b : ℕ) → b < 256 → shared rules b ≡ false) → sharedByte rules ≡ none
+shared-none : (rules : List Rule) → ((b : ℕ) → b < 256 → shared rules b ≡ false) → sharedByte rules ≡ none
 unfolding sharedByte
 shared-none rules h = none-lowest (shared rules) 0 256 (λ i l m. h i (omega arith))
 
@@ -66,11 +66,11 @@ sharing-none (some b) e = nothing e refl
 -- ---- the faults of tokens
 
 module _ (fault : ℕ) (test : Bool) (number : ℕ) where
-  pub or-else-none : fault ≡ 0 → test ≡ false → orElse fault test number ≡ 0
+  or-else-none : fault ≡ 0 → test ≡ false → orElse fault test number ≡ 0
   unfolding orElse
   or-else-none e f = rw (eq-eqb fault 0 e, f)
 
-  pub none-or-else : 0 < number → orElse fault test number ≡ 0 → (fault ≡ 0) × (test ≡ false)
+  none-or-else : 0 < number → orElse fault test number ≡ 0 → (fault ≡ 0) × (test ≡ false)
   unfolding orElse
   none-or-else pos e = go (eqb fault 0) refl test refl e
     where
@@ -113,7 +113,7 @@ module _ (rules : List Rule) (pool : List ℕ) (r : TokenRecord) where
   taken-plain t = or-else-none _ _ 26 (of-faultless (t .faultless)) (t .kind)
 
 -- the list has no fault
-pub faults-none : (fault : TokenRecord → ℕ) (rs : List TokenRecord) (k : ℕ) → firstFault fault rs k ≡ none
+faults-none : (fault : TokenRecord → ℕ) (rs : List TokenRecord) (k : ℕ) → firstFault fault rs k ≡ none
     → All (λ (r : TokenRecord). fault r ≡ 0) rs
 unfolding firstFault refuse
 faults-none fault [] k e = tt
@@ -124,7 +124,7 @@ faults-none fault (r ∷ rs) k e = go (eqb (fault r) 0) refl (faults-none fault 
     go true q ih z = (eqb-true (fault r) 0 q, ih z)
     go false q ih z = nothing z refl
 
-pub none-faults : (fault : TokenRecord → ℕ) (rs : List TokenRecord) (k : ℕ) → All (λ (r : TokenRecord). fault r ≡ 0) rs
+none-faults : (fault : TokenRecord → ℕ) (rs : List TokenRecord) (k : ℕ) → All (λ (r : TokenRecord). fault r ≡ 0) rs
     → firstFault fault rs k ≡ none
 unfolding firstFault refuse
 none-faults fault [] k h = refl
@@ -165,7 +165,7 @@ module _ (rules : List Rule) (sep : TokenRecord) (mode : ℕ) (records pool : Li
         tokens = all-map _ _ (plain-taken rules pool) (recordsOf records) (faults-none _ (recordsOf records) 0 (d .1));
       }
 
-  pub passes-none : CallPasses rules sep mode records pool → separatedRefusal rules sep mode records pool ≡ none
+  passes-none : CallPasses rules sep mode records pool → separatedRefusal rules sep mode records pool ≡ none
   unfolding separatedRefusal listRefusal sharing refuse
   passes-none p =
       rw (

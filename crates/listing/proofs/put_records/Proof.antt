@@ -21,12 +21,6 @@ put-record-requires c κs =
     let t = c .before .loop-test .taken in
     (omega (arith, t, p .0), going-room (l .loop .inv) (p .1) t)
 
-add-k : tie.Need-add-k Inv-loop μ-loop
-add-k c = omega arith
-
-loop-less : tie.Need-loop-less Inv-loop μ-loop
-loop-less c = omega arith
-
 loop-again : tie.Need-loop-again Inv-loop μ-loop
 loop-again c =
     let r = c .before .before in
@@ -41,15 +35,5 @@ returns : tie.Need-returns Inv-loop μ-loop
 returns c = going-end (c .before .loop .inv) (c .before .before .before .before .pre .1) (c .loop-test .left)
 
 pub put-records-spec : {M : Type 1} → statement M
-put-records-spec =
-    tie.close
-    (tie.spec
-    Inv-loop
-    μ-loop
-    loop-holds
-    put-record-requires
-    add-k
-    loop-less
-    loop-again
-    same-length
-    returns)
+put-records-spec = tie.close (tie.spec Inv-loop μ-loop loop-holds put-record-requires (λ c. omega arith) (λ c. omega arith)
+    loop-again same-length returns)
