@@ -1,7 +1,7 @@
 -- The fault of one token, by the number of its rule and what is chosen of its bytes. Assumes nothing.
 use mathlib.Core.Path.{_≡_, refl, sym, ap, _∙_, subst}
 use mathlib.Core.Bool.{Bool, true, false, not}
-use mathlib.Core.Option.{none, some}
+use mathlib.Core.Option.{Option, none, some}
 use mathlib.Core.List.{List, [], _∷_, _++_, append-nil}
 use mathlib.Core.Logic.{_⊎_, inl, inr}
 use Prim.Native.Nat.{ℕ, zero, suc, _+_, _<_, _≤_}
@@ -26,6 +26,8 @@ use Rattle.longest_match.proofs.Choosing.{choose-at}
 use Rattle.record.specs.declared.TokenRecord.{TokenRecord}
 use Rattle.record.specs.Tokens.{bytesIn}
 use Rattle.token_list.specs.Faults.{aloneIn, faultOf}
+use Rattle.token_list.specs.Contracts.{faultFor}
+use Rattle.token_list.specs.declared.faults.Fault.the-variants as fault
 use Rattle.token_list.proofs.Alone.{alone-first}
 
 -- ---- by the number of the tag's rule
@@ -129,21 +131,21 @@ module _ {rules : List Rule} {tag k : ℕ} (r : Ranks rules tag k) where
 -- ---- the fault of a token
 
 module _ (rules : List Rule) (pool : List ℕ) (r : TokenRecord) where
-  pub fault-17 : length pool < r .place + r .len → faultOf rules pool r ≡ 17
+  pub fault-17 : length pool < r .place + r .len → faultOf rules pool r ≡ some 17
   unfolding faultOf
   fault-17 l = rw (lt-ltb _ _ l)
 
   module _ (in-pool : r .place + r .len ≤ length pool) where
-    pub fault-18 : tagged (r .tag) rules ≡ false → faultOf rules pool r ≡ 18
+    pub fault-18 : tagged (r .tag) rules ≡ false → faultOf rules pool r ≡ some 18
     unfolding faultOf
     fault-18 e = rw (le-ltb _ _ in-pool, e)
 
     module _ (known : tagged (r .tag) rules ≡ true) where
-      pub fault-19 : aloneIn rules (r .tag) (bytesIn pool r) ≡ false → faultOf rules pool r ≡ 19
+      pub fault-19 : aloneIn rules (r .tag) (bytesIn pool r) ≡ false → faultOf rules pool r ≡ some 19
       unfolding faultOf
       fault-19 e = rw (le-ltb _ _ in-pool, known, e)
 
-      pub fault-none : aloneIn rules (r .tag) (bytesIn pool r) ≡ true → faultOf rules pool r ≡ 0
+      pub fault-none : aloneIn rules (r .tag) (bytesIn pool r) ≡ true → faultOf rules pool r ≡ none
       unfolding faultOf
       fault-none e = rw (le-ltb _ _ in-pool, known, e)
 
@@ -153,19 +155,23 @@ pub record Fine (rules : List Rule) (pool : List ℕ) (r : TokenRecord) : Type 0
   pub known : tagged (r .tag) rules ≡ true
   pub alone : aloneIn rules (r .tag) (bytesIn pool r) ≡ true
 
-pub fine : (rules : List Rule) (pool : List ℕ) (r : TokenRecord) → faultOf rules pool r ≡ 0 → Fine rules pool r
+pub fine : (rules : List Rule) (pool : List ℕ) (r : TokenRecord) → faultOf rules pool r ≡ none → Fine rules pool r
 unfolding faultOf
 fine rules pool r e = go (ltb (length pool) (r .place + r .len)) refl (tagged (r .tag) rules) refl (aloneIn rules (r .tag) (bytesIn pool r)) refl e
   where
     go : (a : Bool) → ltb (length pool) (r .place + r .len) ≡ a → (b : Bool) → tagged (r .tag) rules ≡ b
         → (d : Bool) → aloneIn rules (r .tag) (bytesIn pool r) ≡ d
-        → _≡_ {A = ℕ} (if a 17 (if (not b) 18 (if (not d) 19 0))) 0 → Fine rules pool r
-    go true p b q d s z = absurd (omega arith)
-    go false p false q d s z = absurd (omega arith)
-    go false p true q false s z = absurd (omega arith)
+        → if {A = Option ℕ} a (some 17) (if (not b) (some 18) (if (not d) (some 19) none)) ≡ none → Fine rules pool r
+    go true p b q d s z = nothing z refl
+    go false p false q d s z = nothing z refl
+    go false p true q false s z = nothing z refl
     go false p true q true s z = record { in-pool = ltb-false _ _ p; known = q; alone = s }
 
 -- ---- the check of a token
+
+pub checked-outside : (rules : List Rule) (pool : List ℕ) (r : TokenRecord) → length pool < r .place + r .len
+    → fault.By 17 ≡ faultFor (faultOf rules pool r)
+checked-outside rules pool r l = ap faultFor (sym (fault-17 rules pool r l))
 
 pub held-room : {hs ss es : List ℕ} {n : ℕ} {rules : List Rule} → Holds hs ss es n rules → n ≤ length hs
 held-room {n = zero} h = omega arith
@@ -176,27 +182,27 @@ bytes-length pool r l = length-take-le (r .len) (drop (r .place) pool) (simp len
 
 module _ {hs ss es : List ℕ} {n : ℕ} {rules : List Rule} (h : Holds hs ss es n rules) (pool : List ℕ) (r : TokenRecord)
     (in-pool : r .place + r .len ≤ length pool) {k : ℕ} (ranks : Ranks rules (r .tag) k) where
-  pub checked-unknown : k ≡ n → 18 ≡ faultOf rules pool r
-  checked-unknown e = sym (fault-18 rules pool r in-pool (ranks-none ranks (e ∙ sym (h .count))))
+  pub checked-unknown : k ≡ n → fault.By 18 ≡ faultFor (faultOf rules pool r)
+  checked-unknown e = ap faultFor (sym (fault-18 rules pool r in-pool (ranks-none ranks (e ∙ sym (h .count)))))
 
   module _ (known : k ≡ n → ⊥) {rule len : ℕ} (c : Chooses rules (bytesIn pool r) rule len) where
     counted : k ≡ length rules → ⊥
     counted e = known (e ∙ h .count)
 
-    not-alone : aloneIn rules (r .tag) (bytesIn pool r) ≡ false → 19 ≡ faultOf rules pool r
-    not-alone e = sym (fault-19 rules pool r in-pool (ranks-some ranks counted) e)
+    not-alone : aloneIn rules (r .tag) (bytesIn pool r) ≡ false → fault.By 19 ≡ faultFor (faultOf rules pool r)
+    not-alone e = ap faultFor (sym (fault-19 rules pool r in-pool (ranks-some ranks counted) e))
 
-    pub checked-idle : len ≡ 0 → 19 ≡ faultOf rules pool r
+    pub checked-idle : len ≡ 0 → fault.By 19 ≡ faultFor (faultOf rules pool r)
     checked-idle e = not-alone (alone-idle ranks counted (held-empty h) c e)
 
-    pub checked-part : (len ≡ r .len → ⊥) → 19 ≡ faultOf rules pool r
+    pub checked-part : (len ≡ r .len → ⊥) → fault.By 19 ≡ faultFor (faultOf rules pool r)
     checked-part ne = not-alone (alone-part ranks counted (held-empty h) c (λ e. ne (e ∙ bytes-length pool r in-pool)))
 
     module _ (some-byte : len ≡ 0 → ⊥) (all : len ≡ r .len) where
-      pub checked-other : (rule ≡ k → ⊥) → 19 ≡ faultOf rules pool r
+      pub checked-other : (rule ≡ k → ⊥) → fault.By 19 ≡ faultFor (faultOf rules pool r)
       checked-other ne = not-alone (alone-other ranks counted (held-empty h) c some-byte (all ∙ sym (bytes-length pool r in-pool)) ne)
 
-      pub checked-same : rule ≡ k → 0 ≡ faultOf rules pool r
+      pub checked-same : rule ≡ k → fault.Nothing ≡ faultFor (faultOf rules pool r)
       checked-same e =
-          sym (fault-none rules pool r in-pool (ranks-some ranks counted)
-          (alone-same ranks counted (held-empty h) c some-byte (all ∙ sym (bytes-length pool r in-pool)) e))
+          ap faultFor (sym (fault-none rules pool r in-pool (ranks-some ranks counted)
+          (alone-same ranks counted (held-empty h) c some-byte (all ∙ sym (bytes-length pool r in-pool)) e)))

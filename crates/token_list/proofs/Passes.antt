@@ -1,7 +1,7 @@
 -- The passes over a list of tokens: what holds at the head of each loop, and how a turn keeps it. Assumes nothing.
 use mathlib.Core.Path.{_≡_, refl, sym, ap, _∙_, subst}
 use mathlib.Core.Bool.{Bool, true, false, not}
-use mathlib.Core.Option.{none}
+use mathlib.Core.Option.{Option, none, some}
 use mathlib.Core.List.{List, [], _∷_, _++_, append-assoc, append-nil}
 use Prim.Native.Nat.{ℕ, zero, suc, _+_, _-_, _*_, _<_, _≤_}
 use native.Mathlib.Omega.{arith}
@@ -20,8 +20,9 @@ use Rattle.record.specs.declared.TokenRecord.{TokenRecord}
 use Rattle.record.specs.Tokens.{recordAt, recordsFrom, recordsOf, bytesIn, tokensIn, tokensOf}
 use Rattle.record.specs.Contracts.{InPool}
 use Rattle.token_list.specs.Faults.{faultOf}
-use Rattle.token_list.specs.Checks.{refuse, firstFault}
-use Rattle.token_list.specs.Contracts.{checkedOf, Fitting, Joined}
+use Rattle.token_list.specs.Checks.{refuseBy, firstFault}
+use Rattle.token_list.specs.Contracts.{checkedOf, faultFor, Fitting, Joined}
+use Rattle.token_list.specs.declared.faults.Fault.the-variants as faults
 use Rattle.token_list.proofs.Faulting.{fine, bytes-length}
 use Rattle.token_list.specs.declared.Checked.{Checked}
 use Rattle.token_list.specs.declared.Checked.the-variants as checked
@@ -55,42 +56,51 @@ record-at P records h k l = (subst (All P) (left-next records k l) (from k (omeg
 
 -- ---- the first fault
 
+pub by-number : {number : ℕ} (o : Option ℕ) → faults.By number ≡ faultFor o → o ≡ some number
+by-number none e = let z : _≡_ {A = ℕ} 0 1 = cc in absurd (omega arith)
+by-number {number} (some n) e = let z : n ≡ number = cc in ap some z
+
+pub by-none : (o : Option ℕ) → faults.Nothing ≡ faultFor o → o ≡ none
+by-none none e = refl
+by-none (some n) e = let z : _≡_ {A = ℕ} 0 1 = cc in absurd (omega arith)
+
 -- the first k tokens have no fault
-pub record Passing (fault : TokenRecord → ℕ) (records : List ℕ) (k : ℕ) : Type 0 where
+pub record Passing (fault : TokenRecord → Option ℕ) (records : List ℕ) (k : ℕ) : Type 0 where
   pub within : k ≤ recordCount records
   pub first : firstFault fault (recordsOf records) 0 ≡ firstFault fault (left records k) k
 
-pub passing-start : (fault : TokenRecord → ℕ) (records : List ℕ) → Passing fault records 0
+pub passing-start : (fault : TokenRecord → Option ℕ) (records : List ℕ) → Passing fault records 0
 passing-start fault records = record { within = omega arith; first = rw left-start }
 
-module _ {fault : TokenRecord → ℕ} {records : List ℕ} {k : ℕ} (w : Passing fault records k) where
-  module _ (more : k < recordCount records) {r : TokenRecord} (e : r ≡ recordAt records k) {number : ℕ} (f : number ≡ fault r) where
-    fault-here : fault (recordAt records k) ≡ number
-    fault-here = ap fault (sym e) ∙ sym f
+module _ {fault : TokenRecord → Option ℕ} {records : List ℕ} {k : ℕ} (w : Passing fault records k) where
+  module _ (more : k < recordCount records) {r : TokenRecord} (e : r ≡ recordAt records k) where
+    fault-here : firstFault fault (recordsOf records) 0 ≡ refuseBy (fault r) k (firstFault fault (left records (k + 1)) (k + 1))
+    unfolding firstFault
+    fault-here = w .first ∙ rw (left-next records k more, ← e, add-one)
 
-    pub passing-refused : (number ≡ 0 → ⊥) → {c : Checked} → c ≡ checked.Refused (record { number = number; place = k })
-        → c ≡ checkedOf (firstFault fault (recordsOf records) 0)
-    unfolding firstFault refuse
-    passing-refused ne a = a ∙ rw (w .first, left-next records k more, fault-here, ne-eqb number 0 ne)
+    pub passing-refused : {number : ℕ} → faults.By number ≡ faultFor (fault r)
+        → {c : Checked} → c ≡ checked.Refused (record { number = number; place = k }) → c ≡ checkedOf (firstFault fault (recordsOf records) 0)
+    unfolding refuseBy
+    passing-refused {number} f a = a ∙ rw (fault-here, by-number (fault r) f)
 
-    pub passing-next : number ≡ 0 → Passing fault records (k + 1)
-    unfolding firstFault refuse
-    passing-next z =
-        record { within = omega arith; first = w .first ∙ rw (left-next records k more, fault-here, z, add-one) }
+    pub passing-next : faults.Nothing ≡ faultFor (fault r) → Passing fault records (k + 1)
+    unfolding refuseBy
+    passing-next f = record { within = omega arith; first = fault-here ∙ rw (by-none (fault r) f) }
 
   pub passing-end : recordCount records ≤ k → checked.Passed ≡ checkedOf (firstFault fault (recordsOf records) 0)
   unfolding firstFault
   passing-end l = rw (w .first, left-end records k l)
 
 -- no fault in a list: none at its front and none behind
-pub faultless-front : (fault : TokenRecord → ℕ) (r : TokenRecord) (rs : List TokenRecord) (k : ℕ) → firstFault fault (r ∷ rs) k ≡ none
-    → (fault r ≡ 0) × (firstFault fault rs (suc k) ≡ none)
-unfolding firstFault refuse
-faultless-front fault r rs k e = go (eqb (fault r) 0) refl e
+pub faultless-front : (fault : TokenRecord → Option ℕ) (r : TokenRecord) (rs : List TokenRecord) (k : ℕ) → firstFault fault (r ∷ rs) k ≡ none
+    → (fault r ≡ none) × (firstFault fault rs (suc k) ≡ none)
+unfolding firstFault refuseBy
+faultless-front fault r rs k e = go (fault r) refl e
   where
-    go : (t : Bool) → eqb (fault r) 0 ≡ t → refuse (not t) (fault r) k (firstFault fault rs (suc k)) ≡ none → (fault r ≡ 0) × (firstFault fault rs (suc k) ≡ none)
-    go true q z = (eqb-true (fault r) 0 q, z)
-    go false q z = nothing z refl
+    go : (o : Option ℕ) → fault r ≡ o → refuseBy o k (firstFault fault rs (suc k)) ≡ none
+        → (fault r ≡ none) × (firstFault fault rs (suc k) ≡ none)
+    go (some n) q z = nothing z refl
+    go none q z = (q, z)
 
 -- tokens without fault lie in the pool
 pub faultless-pool : (rules : List Rule) (pool : List ℕ) (rs : List TokenRecord) (k : ℕ) → firstFault (faultOf rules pool) rs k ≡ none → All (InPool pool) rs

@@ -25,7 +25,7 @@ use Rattle.record.specs.Contracts.{InPool}
 use Rattle.token_list.specs.Faults.{aloneIn, faultOf}
 use Rattle.token_list.proofs.Alone.{alone-first}
 use Rattle.token_list.proofs.Faulting.{Fine, fine, bytes-length, fault-none, front-other, front-same}
-use Rattle.token_list.specs.Checks.{refuse, firstFault, firstExtended}
+use Rattle.token_list.specs.Checks.{refuse, refuseBy, firstFault, firstExtended}
 use Rattle.token_list.proofs.Extended.{matched-long, read-no-more, read-on}
 use Rattle.token_list.proofs.Passes.{left, left-start, left-next, left-end, record-at, faultless-front}
 use Rattle.token_list.specs.Contracts.{Spanned, Spans, Spread, Faultless, ReadsBack}
@@ -155,11 +155,11 @@ module _ {rules : List Rule} {records pool text : List ℕ} {at k : ℕ} (w : Re
         alone : aloneIn rules (r .tag) (bytesIn pool r) ≡ true
         alone = front-same ranks known (bytesIn pool r) (join (tokensIn pool (left records (k + 1)))) chosen-here some-byte (all ∙ sym long) same
 
-        no-fault : faultOf rules pool r ≡ 0
+        no-fault : faultOf rules pool r ≡ none
         no-fault = fault-none rules pool r in-pool (ranks-some ranks known) alone
 
         pub retracing-next : Retracing rules records pool text (at + r .len) (k + 1)
-        unfolding firstFault firstExtended tokensIn refuse
+        unfolding firstFault firstExtended tokensIn refuse refuseBy
         retracing-next =
             record {
               within = retracing-within;

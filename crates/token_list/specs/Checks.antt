@@ -1,9 +1,8 @@
 -- The first token of a list that a printer refuses.
-use mathlib.Core.Bool.{Bool, true, false, not}
+use mathlib.Core.Bool.{Bool, true, false}
 use mathlib.Core.Option.{Option, none, some}
 use mathlib.Core.List.{List, [], _∷_}
 use Prim.Native.Nat.{ℕ, suc}
-use lib.Dec.{eqb}
 use Rattle.answer.specs.declared.Refusal.{Refusal}
 use Rattle.automaton.specs.Rule.{Rule}
 use Rattle.longest_match.specs.Lexer.{Token, join, extends}
@@ -14,10 +13,15 @@ unfoldable pub refuse : Bool → ℕ → ℕ → Option Refusal → Option Refus
 refuse true number place next = some (record { number = number; place = place })
 refuse false number place next = next
 
+-- refused by the number, if there is one
+unfoldable pub refuseBy : Option ℕ → ℕ → Option Refusal → Option Refusal
+refuseBy (some number) place next = some (record { number = number; place = place })
+refuseBy none place next = next
+
 -- by the number that `fault` gives
-unfoldable pub firstFault : (TokenRecord → ℕ) → List TokenRecord → ℕ → Option Refusal
+unfoldable pub firstFault : (TokenRecord → Option ℕ) → List TokenRecord → ℕ → Option Refusal
 firstFault fault [] k = none
-firstFault fault (r ∷ rs) k = refuse (not (eqb (fault r) 0)) (fault r) k (firstFault fault rs (suc k))
+firstFault fault (r ∷ rs) k = refuseBy (fault r) k (firstFault fault rs (suc k))
 
 -- 21: "some rule matches a token's bytes plus a non-empty beginning of what follows (first such token)"
 unfoldable pub firstExtended : List Rule → List Token → ℕ → Option Refusal

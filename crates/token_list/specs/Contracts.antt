@@ -16,6 +16,8 @@ use Rattle.token_list.specs.Faults.{faultOf}
 use Rattle.token_list.specs.Checks.{firstFault, firstExtended}
 use Rattle.token_list.specs.declared.Checked.{Checked}
 use Rattle.token_list.specs.declared.Checked.the-variants as checked
+use Rattle.token_list.specs.declared.faults.Fault.{Fault}
+use Rattle.token_list.specs.declared.faults.Fault.the-variants as fault
 use Rattle.token_list.specs.declared.readback.Extent.{Extent}
 use Rattle.token_list.specs.declared.readback.Extent.the-variants as extent
 
@@ -23,6 +25,11 @@ use Rattle.token_list.specs.declared.readback.Extent.the-variants as ext
 abbrev pub checkedOf : Option Refusal → Checked
 checkedOf none = checked.Passed
 checkedOf (some f) = checked.Refused f
+
+-- the number that refuses a token, if one does
+abbrev pub faultFor : Option ℕ → Fault
+faultFor none = fault.Nothing
+faultFor (some number) = fault.By number
 
 -- ---- joining
 

@@ -1,5 +1,6 @@
 -- What a printer asks of one token.
 use mathlib.Core.Bool.{Bool, false, not}
+use mathlib.Core.Option.{Option, none, some}
 use mathlib.Core.List.{List, [], _∷_}
 use Prim.Native.Nat.{ℕ, _+_}
 use lib.Dec.{ltb, eqb}
@@ -16,10 +17,10 @@ unfoldable pub aloneIn : List Rule → ℕ → List ℕ → Bool
 aloneIn [] tag w = false
 aloneIn (r ∷ rs) tag w = if (eqb r.tag tag) (matches r w) (if (matches r w) false (aloneIn rs tag w))
 
--- The number that refuses a token, 0 for none: "17 place plus length passes the pool, 18 tag not in the book, 19 not cut as itself alone".
-unfoldable pub faultOf : List Rule → List ℕ → TokenRecord → ℕ
+-- The number that refuses a token, if one does: "17 place plus length passes the pool, 18 tag not in the book, 19 not cut as itself alone".
+unfoldable pub faultOf : List Rule → List ℕ → TokenRecord → Option ℕ
 faultOf rules pool r =
-    if (ltb (length pool) (r .place + r .len)) 17
-    (if (not (tagged (r .tag) rules)) 18
-    (if (not (aloneIn rules (r .tag) (bytesIn pool r))) 19
-    0))
+    if (ltb (length pool) (r .place + r .len)) (some 17)
+    (if (not (tagged (r .tag) rules)) (some 18)
+    (if (not (aloneIn rules (r .tag) (bytesIn pool r))) (some 19)
+    none))

@@ -4,6 +4,7 @@ pub mod faults;
 pub mod readback;
 
 use answer::Refusal;
+use crate::faults::Fault;
 ghost use mathlib.Core.Path.{_≡_};
 ghost use mathlib.Core.List.{List};
 ghost use Rattle.automaton.specs.Rule.{Rule};
@@ -45,11 +46,10 @@ pub fn check_tokens(
     let mut k = 0;
     while k < count {
         let token = record::read_record(records, k);
-        let number = faults::token_fault(headers, states, edges, rules, pool, token);
-        if number != 0 {
-            return Checked::refused(number, k);
+        match faults::token_fault(headers, states, edges, rules, pool, token) {
+            Fault::By(number) => return Checked::refused(number, k),
+            Fault::Nothing => k += 1,
         }
-        k += 1;
     }
     Checked::Passed
 }

@@ -1,4 +1,5 @@
 -- `check_tokens`: the invariant is `Passing`, no fault among the first tokens. Assumes nothing.
+use mathlib.Core.Path.{sym, _∙_}
 use mathlib.Core.List.{List}
 use Prim.Native.Nat.{_-_}
 use native.Mathlib.Omega.{arith}
@@ -12,7 +13,8 @@ use Rattle.token_list.proofs.check_tokens.Statement.{statement}
 use Rattle.token_list.proofs.check_tokens.Tie as tie
 
 abbrev Inv-loop : tie.InvT-loop
-Inv-loop headers states edges rules records pool count k₀ k = (rs : List Rule) → Holds headers states edges rules rs → Passing (faultOf rs pool) records k
+Inv-loop headers states edges rules records pool count k₀ k =
+    (rs : List Rule) → Holds headers states edges rules rs → Passing (faultOf rs pool) records k
 
 abbrev μ-loop : tie.MeasureT-loop
 μ-loop headers states edges rules records pool count k₀ k = recordCount records - k
@@ -26,20 +28,30 @@ read-record-requires c κs = omega (arith, c .loop-test .taken)
 token-fault-requires : tie.Need-token-fault-requires Inv-loop μ-loop
 token-fault-requires c κs = c .before .before .before .before .before .before .before .before .pre
 
+enum-known-number : tie.Need-enum-known-number Inv-loop μ-loop
+enum-known-number c = search needs
+
 refused-requires : tie.Need-refused-requires Inv-loop μ-loop
 refused-requires c κs = search needs
 
 returns : tie.Need-returns Inv-loop μ-loop
-returns c = λ rs h. passing-refused (c .before .before .before .before .before .loop .inv rs h) (c .before .before .before .before .loop-test .taken) (c .before .before .before .read-record .ensures) (c .before .before .token-fault .ensures rs h) (c .before .if1 .taken) (c .refused .ensures)
+returns c = λ rs h.
+    passing-refused (c .before .before .before .before .before .before .before .loop .inv rs h) (c .before .before .before .before .before .before .loop-test .taken) (c .before .before .before .before .before .read-record .ensures)
+    (sym (c .before .before .number .given .1) ∙ c .before .before .before .before .token-fault .ensures rs h) (c .refused .ensures)
+
+enum-told : tie.Need-enum-told Inv-loop μ-loop
+enum-told c = search needs
 
 add-k : tie.Need-add-k Inv-loop μ-loop
-add-k c = omega (arith, c .before .before .before .loop-test .taken, c .before .before .before .before .before .before .before .before .before .before .good)
+add-k c = omega (arith, c .before .before .before .before .loop-test .taken, c .before .before .before .before .before .before .before .before .before .before .before .good)
 
 loop-less : tie.Need-loop-less Inv-loop μ-loop
-loop-less c = omega (arith, c .before .before .before .loop-test .taken)
+loop-less c = omega (arith, c .before .before .before .before .loop-test .taken)
 
 loop-again : tie.Need-loop-again Inv-loop μ-loop
-loop-again c = λ rs h. passing-next (c .before .before .before .before .loop .inv rs h) (c .before .before .before .loop-test .taken) (c .before .before .read-record .ensures) (c .before .token-fault .ensures rs h) (c .if1 .left)
+loop-again c = λ rs h.
+    passing-next (c .before .before .before .before .before .loop .inv rs h) (c .before .before .before .before .loop-test .taken) (c .before .before .before .read-record .ensures)
+    (sym (c .enum-told .given .1) ∙ c .before .before .token-fault .ensures rs h)
 
 returns-2 : tie.Need-returns-2 Inv-loop μ-loop
 returns-2 c = λ rs h. passing-end (c .before .loop .inv rs h) (c .loop-test .left)
@@ -53,8 +65,10 @@ check-tokens-spec =
     loop-holds
     read-record-requires
     token-fault-requires
+    enum-known-number
     refused-requires
     returns
+    enum-told
     add-k
     loop-less
     loop-again

@@ -1,4 +1,5 @@
 -- `check_tokens`: the invariant is `Passing`, no fault among the first tokens. Assumes nothing.
+use mathlib.Core.Path.{sym, _∙_}
 use mathlib.Core.List.{List}
 use Prim.Native.Nat.{_-_}
 use native.Mathlib.Omega.{arith}
@@ -6,14 +7,15 @@ use borrow.Author.Needs.{needs}
 use Rattle.automaton.specs.Rule.{Rule}
 use Rattle.longest_match.specs.Contracts.{Holds}
 use Rattle.record.specs.Records.{recordCount}
+use Rattle.token_list.proofs.Passes.{Passing, passing-start, passing-refused, passing-next, passing-end}
 use Rattle.separated.specs.Refusals.{plainFault}
 use Rattle.separated.proofs.Checking.{plain-fault}
-use Rattle.token_list.proofs.Passes.{Passing, passing-start, passing-refused, passing-next, passing-end}
 use Rattle.separated.proofs.checks.check_tokens.Statement.{statement}
 use Rattle.separated.proofs.checks.check_tokens.Tie as tie
 
 abbrev Inv-loop : tie.InvT-loop
-Inv-loop headers states edges rules records pool count k₀ k = (rs : List Rule) → Holds headers states edges rules rs → Passing (plainFault rs pool) records k
+Inv-loop headers states edges rules records pool count k₀ k =
+    (rs : List Rule) → Holds headers states edges rules rs → Passing (plainFault rs pool) records k
 
 abbrev μ-loop : tie.MeasureT-loop
 μ-loop headers states edges rules records pool count k₀ k = recordCount records - k
@@ -25,25 +27,35 @@ read-record-requires : tie.Need-read-record-requires Inv-loop μ-loop
 read-record-requires c κs = omega (arith, c .loop-test .taken)
 
 fault-or-kind-requires : tie.Need-fault-or-kind-requires Inv-loop μ-loop
-fault-or-kind-requires c κs = c .before .before .before .before .before .before .before .before .pre
+fault-or-kind-requires c κs = c .pre
+
+enum-known-number : tie.Need-enum-known-number Inv-loop μ-loop
+enum-known-number c = search needs
 
 refused-requires : tie.Need-refused-requires Inv-loop μ-loop
 refused-requires c κs = search needs
 
 returns : tie.Need-returns Inv-loop μ-loop
-returns c = λ rs h. passing-refused (c .before .before .before .before .before .loop .inv rs h) (c .before .before .before .before .loop-test .taken) (c .before .before .before .read-record .ensures) (plain-fault rs _ _ (c .before .before .fault-or-kind .ensures rs h)) (c .before .if1 .taken) (c .refused .ensures)
+returns c = λ rs h.
+    passing-refused (c .loop .inv rs h) (c .loop-test .taken) (c .read-record .ensures)
+    (plain-fault rs _ _ (sym (c .number .given .1) ∙ c .fault-or-kind .ensures rs h)) (c .refused .ensures)
+
+enum-told : tie.Need-enum-told Inv-loop μ-loop
+enum-told c = search needs
 
 add-k : tie.Need-add-k Inv-loop μ-loop
-add-k c = omega (arith, c .before .before .before .loop-test .taken, c .before .before .before .before .before .before .before .before .before .before .good)
+add-k c = omega (arith, c .loop-test .taken, c .good)
 
 loop-less : tie.Need-loop-less Inv-loop μ-loop
-loop-less c = omega (arith, c .before .before .before .loop-test .taken)
+loop-less c = omega (arith, c .loop-test .taken)
 
 loop-again : tie.Need-loop-again Inv-loop μ-loop
-loop-again c = λ rs h. passing-next (c .before .before .before .before .loop .inv rs h) (c .before .before .before .loop-test .taken) (c .before .before .read-record .ensures) (plain-fault rs _ _ (c .before .fault-or-kind .ensures rs h)) (c .if1 .left)
+loop-again c = λ rs h.
+    passing-next (c .loop .inv rs h) (c .loop-test .taken) (c .read-record .ensures)
+    (plain-fault rs _ _ (sym (c .enum-told .given .1) ∙ c .fault-or-kind .ensures rs h))
 
 returns-2 : tie.Need-returns-2 Inv-loop μ-loop
-returns-2 c = λ rs h. passing-end (c .before .loop .inv rs h) (c .loop-test .left)
+returns-2 c = λ rs h. passing-end (c .loop .inv rs h) (c .loop-test .left)
 
 pub check-tokens-spec : {M : Type 1} → statement M
 check-tokens-spec =
@@ -54,8 +66,10 @@ check-tokens-spec =
     loop-holds
     read-record-requires
     fault-or-kind-requires
+    enum-known-number
     refused-requires
     returns
+    enum-told
     add-k
     loop-less
     loop-again

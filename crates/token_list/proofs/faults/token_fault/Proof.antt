@@ -3,7 +3,7 @@ use mathlib.Core.Path.{sym}
 use native.Mathlib.Omega.{arith}
 use borrow.Author.Needs.{needs}
 use Rattle.longest_match.proofs.Parts.{part-bytes}
-use Rattle.token_list.proofs.Faulting.{held-room, fault-17, checked-unknown, checked-idle, checked-part, checked-other, checked-same}
+use Rattle.token_list.proofs.Faulting.{held-room, checked-outside, checked-unknown, checked-idle, checked-part, checked-other, checked-same}
 use Rattle.token_list.proofs.faults.token_fault.Statement.{statement}
 use Rattle.token_list.proofs.faults.token_fault.Tie as tie
 
@@ -17,7 +17,7 @@ add-if1 : tie.Need-add-if1
 add-if1 c = search needs
 
 returns : tie.Need-returns
-returns c = λ rs h. sym (fault-17 rs _ _ (omega arith))
+returns c = λ rs h. checked-outside rs _ _ (omega arith)
 
 cast-find-tag : tie.Need-cast-find-tag
 cast-find-tag c = search needs
