@@ -32,6 +32,39 @@ on : {b : Book} {hs ss es : List ℕ} (d : Draft) {m n : ℕ} → Fine d → Sto
     → b ≡ bookOf d m → m ≤ n → Follows (goes d) (On b) hs ss es n
 on d f st e l = rw e (record { fine = f; stored = st; same = refl }, l)
 
+-- ---- what a `Book` tells of its draft
+
+module _ {b : Book} {hs ss es : List ℕ} {d : Draft} (h : Represents b hs ss es d) where
+  pub rules-are : b .rules ≡ length d.rules
+  rules-are = ap (λ (x : Book). x .rules) (h .same)
+
+  pub inside-is : b .inside ≡ d.inside
+  inside-is = ap (λ (x : Book). x .inside) (h .same)
+
+  pub started-is : b .started ≡ isSet d.start
+  started-is = ap (λ (x : Book). x .started) (h .same)
+
+  pub erring-is : b .erring ≡ isSet d.error
+  erring-is = ap (λ (x : Book). x .erring) (h .same)
+
+  start-is : stateOf d.start ≡ b .start
+  start-is = ap (λ (x : Book). x .start) (sym (h .same))
+
+  error-is : stateOf d.error ≡ b .error
+  error-is = ap (λ (x : Book). x .error) (sym (h .same))
+
+  count-is : b .count ≡ length d.transitions
+  count-is = ap (λ (x : Book). x .count) (h .same)
+
+  overlap-is : b .overlap ≡ overlaps d.transitions
+  overlap-is = ap (λ (x : Book). x .overlap) (h .same)
+
+  start-small : b .start < stateCount
+  start-small = rw start-is at (state-below d.start (h .fine .start))
+
+  error-small : b .error < stateCount
+  error-small = rw error-is at (state-below d.error (h .fine .error))
+
 -- ---- START and ERROR: a state that is given once. The code's t tells, as s does, whether it was given before.
 
 module _ (hs ss es : List ℕ) (at n : ℕ) (d : Draft) {t s : Bool} (seen : t ≡ s) where
@@ -43,12 +76,6 @@ module _ (hs ss es : List ℕ) (at n : ℕ) (d : Draft) {t s : Bool} (seen : t �
       → b ≡ bookOf d m → m ≤ n → Follows (check s 8 at (goes d)) (On b) hs ss es n
   unfolding check
   given e g st q l = rw (sym seen ∙ e) (on d (rw (sym seen ∙ e) at g) st q l)
-
-pub rules-are : {b : Book} {hs ss es : List ℕ} {d : Draft} → Represents b hs ss es d → b .rules ≡ length d.rules
-rules-are h = ap (λ (x : Book). x .rules) (h .same)
-
-pub inside-is : {b : Book} {hs ss es : List ℕ} {d : Draft} → Represents b hs ss es d → b .inside ≡ d.inside
-inside-is h = ap (λ (x : Book). x .inside) (h .same)
 
 -- ---- END
 
@@ -135,17 +162,14 @@ module _ {b : Book} {hs ss es : List ℕ} {d : Draft} (h : Represents b hs ss es
   pub chain-now : (s : ℕ) → s < stateCount → Chained es (headAt ss (b .rules * stateCount + s))
   chain-now s l = rw (rules-are h) (record { transitions = leaving s d.transitions; chain = cells-now .chains s l })
 
-  count-is : b .count ≡ length d.transitions
-  count-is = ap (λ (x : Book). x .count) (h .same)
-
   module _ (at from low high to n : ℕ) where
     pub move-too-many : maxTransitions ≤ b .count → Follows (move d at from low high to) (refusal 5 at) hs ss es n
     unfolding check move
-    move-too-many l = rw (← count-is, le-leb _ _ l)
+    move-too-many l = rw (← count-is h, le-leb _ _ l)
 
     module _ (few : b .count < maxTransitions) where
       few-moves : leb maxTransitions (length d.transitions) ≡ false
-      few-moves = lt-leb maxTransitions (length d.transitions) (omega (arith, count-is))
+      few-moves = lt-leb maxTransitions (length d.transitions) (omega (arith, count-is h))
 
       pub move-disorder : high < low → Follows (move d at from low high to) (refusal 6 at) hs ss es n
       unfolding check move
@@ -189,10 +213,10 @@ unset-or-not (some s) e = rw e
 
 module _ {b : Book} {hs ss es : List ℕ} {d : Draft} (h : Represents b hs ss es d) (at len n : ℕ) where
   start-unset : isUnset d.start ≡ not (b .started)
-  start-unset = unset-or-not d.start (ap (λ (x : Book). x .started) (h .same))
+  start-unset = unset-or-not d.start (started-is h)
 
   error-unset : isUnset d.error ≡ not (b .erring)
-  error-unset = unset-or-not d.error (ap (λ (x : Book). x .erring) (h .same))
+  error-unset = unset-or-not d.error (erring-is h)
 
   pub close-no-start : b .started ≡ false → Follows (apply d Close at len) (refusal 8 at) hs ss es n
   unfolding apply check
@@ -206,28 +230,13 @@ module _ {b : Book} {hs ss es : List ℕ} {d : Draft} (h : Represents b hs ss es
     both-set : isUnset d.start || isUnset d.error ≡ false
     both-set = rw (start-unset, error-unset, started, erring)
 
-    start-is : stateOf d.start ≡ b .start
-    start-is = ap (λ (x : Book). x .start) (sym (h .same))
-
-    error-is : stateOf d.error ≡ b .error
-    error-is = ap (λ (x : Book). x .error) (sym (h .same))
-
-    start-small : b .start < stateCount
-    start-small = rw start-is at (state-below d.start (h .fine .start))
-
-    error-small : b .error < stateCount
-    error-small = rw error-is at (state-below d.error (h .fine .error))
-
-    overlap-is : b .overlap ≡ overlaps d.transitions
-    overlap-is = ap (λ (x : Book). x .overlap) (h .same)
-
     pub close-overlap : b .overlap ≡ true → Follows (apply d Close at len) (refusal 9 at) hs ss es n
     unfolding apply check
-    close-overlap e = rw (both-set, ← overlap-is, e)
+    close-overlap e = rw (both-set, ← overlap-is h, e)
 
     module _ (i : d.inside ≡ true) (apart : b .overlap ≡ false) where
       no-overlap : overlaps d.transitions ≡ false
-      no-overlap = sym overlap-is ∙ apart
+      no-overlap = sym (overlap-is h) ∙ apart
 
       cells-there : Cells ss es (b .rules * stateCount) d.finals d.transitions
       cells-there = rw (rules-are h) (h .stored .current (h .fine .current i .room))
@@ -237,28 +246,29 @@ module _ {b : Book} {hs ss es : List ℕ} {d : Draft} (h : Represents b hs ss es
 
       pub close-leaves : (headAt ss (b .rules * stateCount + b .error) ≡ 0 → ⊥) → Follows (apply d Close at len) (refusal 10 at) hs ss es n
       unfolding apply check
-      close-leaves e = rw (both-set, no-overlap, error-is, head-some cells-there (b .error) error-small e)
+      close-leaves e = rw (both-set, no-overlap, error-is h, head-some cells-there (b .error) (error-small h) e)
 
       module _ (quiet : headAt ss (b .rules * stateCount + b .error) ≡ 0) where
         none-leaves : any (λ (t : Transition). eqb t.from (stateOf d.error)) d.transitions ≡ false
-        none-leaves = rw error-is (head-none cells-there (b .error) error-small quiet)
+        none-leaves = rw (error-is h) (head-none cells-there (b .error) (error-small h) quiet)
 
         pub close-error-final : getD ss (b .rules * stateCount + b .error) 0 % 2 ≡ 1
             → Follows (apply d Close at len) (refusal 11 at) hs ss es n
         unfolding apply check
         close-error-final e =
-            let z : among (stateOf d.error) d.finals ≡ true = rw error-is (final-mark (b .error) error-small true (eq-eqb _ _ e)) in
+            let z : among (stateOf d.error) d.finals ≡ true = rw (error-is h) (final-mark (b .error) (error-small h) true (eq-eqb _ _ e)) in
             rw (both-set, no-overlap, none-leaves, z)
 
         module _ (fails : getD ss (b .rules * stateCount + b .error) 0 % 2 ≡ 1 → ⊥) where
           error-not-final : among (stateOf d.error) d.finals ≡ false
-          error-not-final = rw error-is (final-mark (b .error) error-small false (ne-eqb _ _ fails))
+          error-not-final = rw (error-is h) (final-mark (b .error) (error-small h) false (ne-eqb _ _ fails))
 
           pub close-start-final : getD ss (b .rules * stateCount + b .start) 0 % 2 ≡ 1
               → Follows (apply d Close at len) (refusal 12 at) hs ss es n
           unfolding apply check
           close-start-final e =
-              let z : among (stateOf d.start) d.finals ≡ true = rw start-is (final-mark (b .start) start-small true (eq-eqb _ _ e)) in
+              let z : among (stateOf d.start) d.finals ≡ true =
+              rw (start-is h) (final-mark (b .start) (start-small h) true (eq-eqb _ _ e)) in
               rw (both-set, no-overlap, none-leaves, error-not-final, z)
 
           pub close-closed : {hs₁ : List ℕ} → (getD ss (b .rules * stateCount + b .start) 0 % 2 ≡ 1 → ⊥) → b .edges ≤ n
@@ -266,7 +276,8 @@ module _ {b : Book} {hs ss es : List ℕ} {d : Draft} (h : Represents b hs ss es
               → Follows (apply d Close at len) (On (idle (b .rules + 1) (b .edges))) hs₁ ss es n
           unfolding apply check overlaps
           close-closed e m q =
-              let z : among (stateOf d.start) d.finals ≡ false = rw start-is (final-mark (b .start) start-small false (ne-eqb _ _ e)) in
+              let z : among (stateOf d.start) d.finals ≡ false =
+              rw (start-is h) (final-mark (b .start) (start-small h) false (ne-eqb _ _ e)) in
               let g = apply-good d Close at len (h .fine) tt (sym i) in
               let f = rw (both-set, no-overlap, none-leaves, error-not-final, z) at g in
               let o = h .fine .current i in
