@@ -24,7 +24,7 @@ use Rattle.record.specs.declared.TokenRecord.{TokenRecord}
 use Rattle.record.specs.Tokens.{recordsOf, bytesIn, tokensIn, tokensOf}
 use Rattle.record.specs.Contracts.{InPool}
 use Rattle.token_list.specs.Faults.{aloneIn, faultOf}
-use Rattle.token_list.specs.Checks.{refuse, firstFault, firstExtended}
+use Rattle.token_list.specs.Checks.{refuse, refuseBy, firstFault, firstExtended}
 use Rattle.token_list.proofs.Alone.{alone-first, first-alone}
 use Rattle.token_list.proofs.Faulting.{fault-none, fine}
 use Rattle.token_list.proofs.Passes.{faultless-front}
@@ -154,7 +154,7 @@ alone-tagged (r ∷ rs) tag w e = go (eqb r.tag tag) (matches r w) (alone-tagged
 
 pub printable-faultless : (rules : List Rule) (pool : List ℕ) (rs : List TokenRecord) (k : ℕ) → Distinct rules → All (InPool pool) rs → Printable rules (tokensIn pool rs)
     → firstFault (faultOf rules pool) rs k ≡ none
-unfolding firstFault refuse tokensIn
+unfolding firstFault refuseBy tokensIn
 printable-faultless rules pool [] k d i p = refl
 printable-faultless rules pool (r ∷ rs) k d (i, is) (a, x, p) =
     let l = first-alone rules (r .tag) (bytesIn pool r) d a in

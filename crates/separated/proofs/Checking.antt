@@ -10,7 +10,7 @@ use lib.Dec.{eqb}
 use lib.ListN.{length, getD}
 use borrow.Author.Count.{below-more}
 use borrow.Author.Tests.{lt-ltb, le-ltb, eq-eqb, ne-eqb}
-use Rattle.automaton.specs.Choice.{any}
+use Rattle.automaton.specs.Choice.{if, any}
 use Rattle.automaton.specs.Rule.{Rule}
 use Rattle.automaton.specs.Contracts.{tagOf, kindOf, ruleAt}
 use Rattle.automaton.proofs.Tests.{clash, or-true, and-false-right}
@@ -23,14 +23,17 @@ use Rattle.record.specs.Records.{recordCount}
 use Rattle.record.specs.declared.TokenRecord.{TokenRecord}
 use Rattle.record.specs.Tokens.{recordAt, recordsOf}
 use Rattle.token_list.specs.Faults.{faultOf}
-use Rattle.token_list.specs.Checks.{refuse, firstFault}
+use Rattle.token_list.specs.Checks.{refuse, refuseBy, firstFault}
 use Rattle.used_bytes.specs.Kinds.{separatorKind, separates}
 use Rattle.used_bytes.specs.Bytes.{sharedByte}
 use Rattle.used_bytes.specs.Contracts.{lowestOf}
 use Rattle.token_list.specs.declared.Checked.{Checked}
 use Rattle.separated.specs.Refusals.{orElse, separatorFault, plainFault, sharing, listRefusal, separatedRefusal}
 use Rattle.separated.specs.Contracts.{differs}
-use Rattle.token_list.specs.Contracts.{checkedOf}
+use Rattle.token_list.specs.Contracts.{checkedOf, faultFor}
+use Rattle.token_list.proofs.Passes.{by-number, by-none}
+use Rattle.token_list.specs.declared.faults.Fault.{Fault}
+use Rattle.token_list.specs.declared.faults.Fault.the-variants as fault
 use Rattle.token_list.specs.declared.Checked.the-variants as checked
 use Rattle.used_bytes.specs.declared.byteset.Lowest.the-variants as lowest
 
@@ -85,41 +88,38 @@ module _ {hs : List ℕ} {rules tag k : ℕ} (w : Plainly hs rules tag k) where
 
 -- ---- the fault of a token, or its kind
 
-pub differs-same : (wanted kind : Bool) → wanted ≡ kind → differs wanted kind ≡ false
-differs-same true true e = refl
-differs-same true false e = clash refl e
-differs-same false true e = clash e refl
-differs-same false false e = refl
+pub kind-same : (wanted kind : Bool) (number : ℕ) → wanted ≡ kind
+    → fault.Nothing ≡ faultFor (if (differs wanted kind) (some number) none)
+kind-same true true number e = refl
+kind-same true false number e = clash refl e
+kind-same false true number e = clash e refl
+kind-same false false number e = refl
 
-pub differs-other : (wanted kind : Bool) → (wanted ≡ kind → ⊥) → differs wanted kind ≡ true
-differs-other true true ne = absurd (ne refl)
-differs-other true false ne = refl
-differs-other false true ne = refl
-differs-other false false ne = absurd (ne refl)
+pub kind-other : (wanted kind : Bool) (number : ℕ) → (wanted ≡ kind → ⊥)
+    → fault.By number ≡ faultFor (if (differs wanted kind) (some number) none)
+kind-other true true number ne = absurd (ne refl)
+kind-other true false number ne = refl
+kind-other false true number ne = refl
+kind-other false false number ne = absurd (ne refl)
 
-module _ {fault first : ℕ} (e : fault ≡ first) (test : Bool) (number : ℕ) where
-  pub or-fault : (fault ≡ 0 → ⊥) → fault ≡ orElse first test number
-  unfolding orElse
-  or-fault ne = e ∙ rw (← e, ne-eqb fault 0 ne)
+pub or-fault : {number : ℕ} (first : Option ℕ) (test : Bool) (other : ℕ) → fault.By number ≡ faultFor first
+    → fault.By number ≡ faultFor (orElse first test other)
+unfolding orElse
+or-fault first test other e = rw (by-number first e)
 
-  module _ (z : fault ≡ 0) where
-    none-here : eqb first 0 ≡ true
-    none-here = eq-eqb first 0 (sym e ∙ z)
+pub or-kind : {r : Fault} (first : Option ℕ) (test : Bool) (other : ℕ) → fault.Nothing ≡ faultFor first
+    → r ≡ faultFor (if test (some other) none) → r ≡ faultFor (orElse first test other)
+unfolding orElse
+or-kind first test other e f = f ∙ rw (by-none first e)
 
-    pub or-number : test ≡ true → number ≡ orElse first test number
-    unfolding orElse
-    or-number q = rw (none-here, q)
-
-    pub or-none : test ≡ false → 0 ≡ orElse first test number
-    unfolding orElse
-    or-none q = rw (none-here, q)
-
-module _ (rules : List Rule) (pool : List ℕ) (r : TokenRecord) {number : ℕ} where
-  pub separator-fault : number ≡ orElse (faultOf rules pool r) (differs true (separates rules (r .tag))) 25 → number ≡ separatorFault rules pool r
+module _ (rules : List Rule) (pool : List ℕ) (r : TokenRecord) {f : Fault} where
+  pub separator-fault : f ≡ faultFor (orElse (faultOf rules pool r) (differs true (separates rules (r .tag))) 25)
+      → f ≡ faultFor (separatorFault rules pool r)
   unfolding separatorFault
   separator-fault e = e
 
-  pub plain-fault : number ≡ orElse (faultOf rules pool r) (differs false (separates rules (r .tag))) 26 → number ≡ plainFault rules pool r
+  pub plain-fault : f ≡ faultFor (orElse (faultOf rules pool r) (differs false (separates rules (r .tag))) 26)
+      → f ≡ faultFor (plainFault rules pool r)
   unfolding plainFault
   plain-fault e = e
 
@@ -130,22 +130,22 @@ module _ (rules : List Rule) (sep : TokenRecord) (mode : ℕ) (records pool : Li
   unfolding listRefusal refuse
   list-mode l a = a ∙ rw (lt-ltb 2 mode l)
 
-  module _ (known : mode ≤ 2) {number : ℕ} (e : number ≡ separatorFault rules pool sep) where
-    pub list-separator : (number ≡ 0 → ⊥) → {c : Checked} → c ≡ checked.Refused (record { number = number; place = recordCount records })
+  module _ (known : mode ≤ 2) where
+    pub list-separator : {number : ℕ} → fault.By number ≡ faultFor (separatorFault rules pool sep) → {c : Checked} → c ≡ checked.Refused (record { number = number; place = recordCount records })
         → c ≡ checkedOf (listRefusal rules sep mode records pool)
-    unfolding listRefusal refuse
-    list-separator ne a = a ∙ rw (le-ltb 2 mode known, ← e, ne-eqb number 0 ne)
+    unfolding listRefusal refuse refuseBy
+    list-separator e a = a ∙ rw (le-ltb 2 mode known, by-number (separatorFault rules pool sep) e)
 
-    module _ (z : number ≡ 0) where
+    module _ (e : fault.Nothing ≡ faultFor (separatorFault rules pool sep)) where
       pub list-many : maxTokens < recordCount records → {c : Checked} → c ≡ checked.Refused (record { number = 16; place = 0 })
           → c ≡ checkedOf (listRefusal rules sep mode records pool)
-      unfolding listRefusal refuse
-      list-many l a = a ∙ rw (le-ltb 2 mode known, ← e, z, lt-ltb maxTokens (recordCount records) l)
+      unfolding listRefusal refuse refuseBy
+      list-many l a = a ∙ rw (le-ltb 2 mode known, by-none (separatorFault rules pool sep) e, lt-ltb maxTokens (recordCount records) l)
 
       pub list-tokens : recordCount records ≤ maxTokens → {c : Checked} → c ≡ checkedOf (firstFault (plainFault rules pool) (recordsOf records) 0)
           → c ≡ checkedOf (listRefusal rules sep mode records pool)
-      unfolding listRefusal refuse
-      list-tokens l a = a ∙ rw (le-ltb 2 mode known, ← e, z, le-ltb maxTokens (recordCount records) l)
+      unfolding listRefusal refuse refuseBy
+      list-tokens l a = a ∙ rw (le-ltb 2 mode known, by-none (separatorFault rules pool sep) e, le-ltb maxTokens (recordCount records) l)
 
   pub call-shared : {b : ℕ} → lowest.Byte b ≡ lowestOf (sharedByte rules) → {c : Checked} → c ≡ checked.Refused (record { number = 23; place = b })
       → c ≡ checkedOf (separatedRefusal rules sep mode records pool)

@@ -20,7 +20,8 @@ use Rattle.record.specs.Records.{recordCount}
 use Rattle.record.specs.declared.TokenRecord.{TokenRecord}
 use Rattle.record.specs.Tokens.{recordsOf}
 use Rattle.token_list.specs.Faults.{faultOf}
-use Rattle.token_list.specs.Checks.{refuse, firstFault}
+use Rattle.token_list.specs.Checks.{refuse, refuseBy, firstFault}
+use Rattle.token_list.proofs.Passes.{faultless-front}
 use Rattle.token_list.proofs.Faulting.{Fine, fine, fault-none}
 use Rattle.printer.specs.Outcome.{PrintOutcome, printAccepted, refusedIf, unless}
 use Rattle.used_bytes.specs.Kinds.{separates}
@@ -65,19 +66,19 @@ sharing-none (some b) e = nothing e refl
 
 -- ---- the faults of tokens
 
-module _ (fault : ℕ) (test : Bool) (number : ℕ) where
-  or-else-none : fault ≡ 0 → test ≡ false → orElse fault test number ≡ 0
+module _ (test : Bool) (number : ℕ) where
+  or-else-none : (fault : Option ℕ) → fault ≡ none → test ≡ false → orElse fault test number ≡ none
   unfolding orElse
-  or-else-none e f = rw (eq-eqb fault 0 e, f)
+  or-else-none fault e f = rw (e, f)
 
-  none-or-else : 0 < number → orElse fault test number ≡ 0 → (fault ≡ 0) × (test ≡ false)
+  none-or-else : (fault : Option ℕ) → orElse fault test number ≡ none → (fault ≡ none) × (test ≡ false)
   unfolding orElse
-  none-or-else pos e = go (eqb fault 0) refl test refl e
+  none-or-else (some n) e = nothing e refl
+  none-or-else none e = (refl, go test e)
     where
-      go : (a : Bool) → eqb fault 0 ≡ a → (b : Bool) → test ≡ b → if a (if b number 0) fault ≡ 0 → (fault ≡ 0) × (test ≡ false)
-      go true p true q z = absurd (omega arith)
-      go true p false q z = (eqb-true fault 0 p, q)
-      go false p b q z = absurd (eqb-false fault 0 p z)
+      go : (b : Bool) → if b (some number) none ≡ none → b ≡ false
+      go true z = nothing z refl
+      go false z = refl
 
 -- a token in none of the cases of 17, 18 and 19, of separator kind or not
 pub record Taken (rules : List Rule) (pool : List ℕ) (separator : Bool) (r : TokenRecord) : Type 0 where
@@ -89,46 +90,40 @@ not-not true e = refl
 not-not false e = clash refl e
 
 module _ (rules : List Rule) (pool : List ℕ) (r : TokenRecord) where
-  of-faultless : Fine rules pool r → faultOf rules pool r ≡ 0
+  of-faultless : Fine rules pool r → faultOf rules pool r ≡ none
   of-faultless f = fault-none rules pool r (f .in-pool) (f .known) (f .alone)
 
-  separator-taken : separatorFault rules pool r ≡ 0 → Taken rules pool true r
+  separator-taken : separatorFault rules pool r ≡ none → Taken rules pool true r
   unfolding separatorFault
   separator-taken e =
-      let p = none-or-else (faultOf rules pool r) (not (separates rules (r .tag))) 25 (omega arith) e in
+      let p = none-or-else (not (separates rules (r .tag))) 25 (faultOf rules pool r) e in
       record { faultless = fine rules pool r (p .0); kind = not-not _ (p .1) }
 
-  taken-separator : Taken rules pool true r → separatorFault rules pool r ≡ 0
+  taken-separator : Taken rules pool true r → separatorFault rules pool r ≡ none
   unfolding separatorFault
-  taken-separator t = or-else-none _ _ 25 (of-faultless (t .faultless)) (ap not (t .kind))
+  taken-separator t = or-else-none _ 25 _ (of-faultless (t .faultless)) (ap not (t .kind))
 
-  plain-taken : plainFault rules pool r ≡ 0 → Taken rules pool false r
+  plain-taken : plainFault rules pool r ≡ none → Taken rules pool false r
   unfolding plainFault
   plain-taken e =
-      let p = none-or-else (faultOf rules pool r) (separates rules (r .tag)) 26 (omega arith) e in
+      let p = none-or-else (separates rules (r .tag)) 26 (faultOf rules pool r) e in
       record { faultless = fine rules pool r (p .0); kind = p .1 }
 
-  taken-plain : Taken rules pool false r → plainFault rules pool r ≡ 0
+  taken-plain : Taken rules pool false r → plainFault rules pool r ≡ none
   unfolding plainFault
-  taken-plain t = or-else-none _ _ 26 (of-faultless (t .faultless)) (t .kind)
+  taken-plain t = or-else-none _ 26 _ (of-faultless (t .faultless)) (t .kind)
 
 -- the list has no fault
-faults-none : (fault : TokenRecord → ℕ) (rs : List TokenRecord) (k : ℕ) → firstFault fault rs k ≡ none
-    → All (λ (r : TokenRecord). fault r ≡ 0) rs
-unfolding firstFault refuse
+faults-none : (fault : TokenRecord → Option ℕ) (rs : List TokenRecord) (k : ℕ) → firstFault fault rs k ≡ none
+    → All (λ (r : TokenRecord). fault r ≡ none) rs
 faults-none fault [] k e = tt
-faults-none fault (r ∷ rs) k e = go (eqb (fault r) 0) refl (faults-none fault rs (suc k)) e
-  where
-    go : (t : Bool) → eqb (fault r) 0 ≡ t → (firstFault fault rs (suc k) ≡ none → All (λ (q : TokenRecord). fault q ≡ 0) rs)
-        → refuse (not t) (fault r) k (firstFault fault rs (suc k)) ≡ none → (fault r ≡ 0) × All (λ (q : TokenRecord). fault q ≡ 0) rs
-    go true q ih z = (eqb-true (fault r) 0 q, ih z)
-    go false q ih z = nothing z refl
+faults-none fault (r ∷ rs) k e = let f = faultless-front fault r rs k e in (f .0, faults-none fault rs (suc k) (f .1))
 
-none-faults : (fault : TokenRecord → ℕ) (rs : List TokenRecord) (k : ℕ) → All (λ (r : TokenRecord). fault r ≡ 0) rs
+none-faults : (fault : TokenRecord → Option ℕ) (rs : List TokenRecord) (k : ℕ) → All (λ (r : TokenRecord). fault r ≡ none) rs
     → firstFault fault rs k ≡ none
-unfolding firstFault refuse
+unfolding firstFault refuseBy
 none-faults fault [] k h = refl
-none-faults fault (r ∷ rs) k (e, h) = rw (eq-eqb (fault r) 0 e, none-faults fault rs (suc k) h)
+none-faults fault (r ∷ rs) k (e, h) = rw (e, none-faults fault rs (suc k) h)
 
 -- ---- the checks of an accepted call
 
@@ -136,6 +131,11 @@ refuse-none : (t : Bool) (number place : ℕ) (next : Option Refusal) → refuse
 unfolding refuse
 refuse-none true number place next e = nothing e refl
 refuse-none false number place next e = (refl, e)
+
+refuse-by-none : (o : Option ℕ) (place : ℕ) (next : Option Refusal) → refuseBy o place next ≡ none → (o ≡ none) × (next ≡ none)
+unfolding refuseBy
+refuse-by-none (some n) place next e = nothing e refl
+refuse-by-none none place next e = (refl, e)
 
 or-none-both : (x y : Option Refusal) → or x y ≡ none → (x ≡ none) × (y ≡ none)
 or-none-both none y e = (refl, e)
@@ -155,18 +155,18 @@ module _ (rules : List Rule) (sep : TokenRecord) (mode : ℕ) (records pool : Li
   passes e =
       let a = or-none-both (sharing (sharedByte rules)) _ e in
       let b = refuse-none (ltb 2 mode) 24 0 _ (a .1) in
-      let c = refuse-none (not (eqb (separatorFault rules pool sep) 0)) (separatorFault rules pool sep) (recordCount records) _ (b .1) in
+      let c = refuse-by-none (separatorFault rules pool sep) (recordCount records) _ (b .1) in
       let d = refuse-none (ltb maxTokens (recordCount records)) 16 0 _ (c .1) in
       record {
         unshared = unshared rules (sharing-none _ (a .0));
         known-mode = ltb-false 2 mode (b .0);
-        separator = separator-taken rules pool sep (eqb-true _ 0 (not-not _ (c .0)));
+        separator = separator-taken rules pool sep (c .0);
         few = ltb-false _ _ (d .0);
         tokens = all-map _ _ (plain-taken rules pool) (recordsOf records) (faults-none _ (recordsOf records) 0 (d .1));
       }
 
   passes-none : CallPasses rules sep mode records pool → separatedRefusal rules sep mode records pool ≡ none
-  unfolding separatedRefusal listRefusal sharing refuse
+  unfolding separatedRefusal listRefusal sharing refuse refuseBy
   passes-none p =
       rw (
         shared-none rules (p .unshared),

@@ -3,7 +3,7 @@ use mathlib.Core.Bool.{Bool, not}
 use mathlib.Core.Option.{Option, none, some}
 use mathlib.Core.List.{List}
 use Prim.Native.Nat.{ℕ}
-use lib.Dec.{ltb, eqb}
+use lib.Dec.{ltb}
 use lib.ListN.{length}
 use Rattle.answer.specs.declared.Refusal.{Refusal}
 use Rattle.automaton.specs.Choice.{if}
@@ -14,22 +14,23 @@ use Rattle.record.specs.Records.{recordCount}
 use Rattle.record.specs.declared.TokenRecord.{TokenRecord}
 use Rattle.record.specs.Tokens.{recordsOf}
 use Rattle.token_list.specs.Faults.{faultOf}
-use Rattle.token_list.specs.Checks.{refuse, firstFault}
+use Rattle.token_list.specs.Checks.{refuse, refuseBy, firstFault}
 use Rattle.used_bytes.specs.Bytes.{sharedByte}
 use Rattle.used_bytes.specs.Kinds.{separates}
 
 -- ---- the checks of one token
 
--- the first number, or the second where the first is 0 and the test holds
-unfoldable pub orElse : ℕ → Bool → ℕ → ℕ
-orElse fault test number = if (eqb fault 0) (if test number 0) fault
+-- the fault, or else this number where the test holds
+unfoldable pub orElse : Option ℕ → Bool → ℕ → Option ℕ
+orElse (some fault) test number = some fault
+orElse none test number = if test (some number) none
 
 -- "for the separator token 17, 18, 19, then 25 not of separator kind"
-unfoldable pub separatorFault : List Rule → List ℕ → TokenRecord → ℕ
+unfoldable pub separatorFault : List Rule → List ℕ → TokenRecord → Option ℕ
 separatorFault rules pool r = orElse (faultOf rules pool r) (not (separates rules (r .tag))) 25
 
 -- "per token 17, 18, 19, then 26 of separator kind"
-unfoldable pub plainFault : List Rule → List ℕ → TokenRecord → ℕ
+unfoldable pub plainFault : List Rule → List ℕ → TokenRecord → Option ℕ
 plainFault rules pool r = orElse (faultOf rules pool r) (separates rules (r .tag)) 26
 
 -- ---- the whole call
@@ -39,11 +40,11 @@ unfoldable pub sharing : Option ℕ → Option Refusal
 sharing none = none
 sharing (some b) = some (record { number = 23; place = b })
 
--- what is refused before anything is put together, also of the empty list: 24, the separator's faults at the list's length, 16, the first token at fault
+-- also of the empty list: 24, the separator's faults at the list's length, 16, the first token at fault
 unfoldable pub listRefusal : List Rule → TokenRecord → ℕ → List ℕ → List ℕ → Option Refusal
 listRefusal rules sep mode records pool =
     refuse (ltb 2 mode) 24 0
-    (refuse (not (eqb (separatorFault rules pool sep) 0)) (separatorFault rules pool sep) (recordCount records)
+    (refuseBy (separatorFault rules pool sep) (recordCount records)
     (refuse (ltb maxTokens (recordCount records)) 16 0
     (firstFault (plainFault rules pool) (recordsOf records) 0)))
 

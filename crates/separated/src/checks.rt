@@ -3,17 +3,20 @@ use answer::Refusal;
 use book::Book;
 use record::TokenRecord;
 use token_list::Checked;
+use token_list::faults::Fault;
 use used_bytes::byteset::Lowest;
 ghost use mathlib.Core.Path.{_≡_};
+ghost use mathlib.Core.Option.{none, some};
 ghost use mathlib.Core.List.{List};
 ghost use Prim.Native.Nat.{ℕ, _≤_};
 ghost use lib.ListN.{length};
+ghost use Rattle.automaton.specs.Choice.{if};
 ghost use Rattle.automaton.specs.Rule.{Rule};
 ghost use Rattle.longest_match.specs.Contracts.{Holds, Held};
 ghost use Rattle.record.specs.Tokens.{recordsOf};
 ghost use Rattle.token_list.specs.Faults.{faultOf};
 ghost use Rattle.token_list.specs.Checks.{firstFault};
-ghost use Rattle.token_list.specs.Contracts.{checkedOf};
+ghost use Rattle.token_list.specs.Contracts.{checkedOf, faultFor};
 ghost use Rattle.used_bytes.specs.Kinds.{separates};
 ghost use Rattle.separated.specs.Refusals.{orElse, plainFault, listRefusal, separatedRefusal};
 ghost use Rattle.separated.specs.Contracts.{differs};
@@ -36,7 +39,25 @@ pub fn is_separator(headers: &[u64], rules: usize, tag: u64) -> bool
     false
 }
 
-// The number that refuses a token, 0 for none: its fault, or else `number` where its kind is not the wanted one.
+// `number` where the kind of the tag's rule is not the wanted one.
+fn kind_fault(headers: &[u64], rules: usize, tag: u16, separator: bool, number: u8) -> Fault
+    requires { ⌜ rules ≤ length (now headers) ⌝ }
+    ensures { λ r. ⌜ ((ss es : List ℕ) (rs : List Rule) → Holds (now (headers .entry)) ss es rules rs
+        → r ≡ faultFor (if (differs separator (separates rs tag)) (some number) none)) ⌝ }
+{
+    if is_separator(headers, rules, tag as u64) {
+        if separator {
+            return Fault::Nothing;
+        }
+        return Fault::By(number);
+    }
+    if separator {
+        return Fault::By(number);
+    }
+    Fault::Nothing
+}
+
+// The fault of a token, or else `number` where its kind is not the wanted one.
 pub fn fault_or_kind(
     headers: &[u64],
     states: &[u16],
@@ -46,25 +67,15 @@ pub fn fault_or_kind(
     token: TokenRecord,
     separator: bool,
     number: u8,
-) -> u8
+) -> Fault
     requires { ⌜ Held (now headers) (now states) (now edges) rules ⌝ }
     ensures { λ r. ⌜ ((rs : List Rule) → Holds (now (headers .entry)) (now (states .entry)) (now (edges .entry)) rules rs
-        → r ≡ orElse (faultOf rs (now (pool .entry)) token) (differs separator (separates rs (token .tag))) number) ⌝ }
+        → r ≡ faultFor (orElse (faultOf rs (now (pool .entry)) token) (differs separator (separates rs (token .tag))) number)) ⌝ }
 {
-    let fault = token_list::faults::token_fault(headers, states, edges, rules, pool, token);
-    if fault != 0 {
-        return fault;
+    match token_list::faults::token_fault(headers, states, edges, rules, pool, token) {
+        Fault::By(first) => Fault::By(first),
+        Fault::Nothing => kind_fault(headers, rules, token.tag, separator, number),
     }
-    if is_separator(headers, rules, token.tag as u64) {
-        if separator {
-            return 0;
-        }
-        return number;
-    }
-    if separator {
-        return number;
-    }
-    0
 }
 
 // The first token of the list that is at fault.
@@ -84,7 +95,7 @@ pub fn check_tokens(
     let mut k = 0;
     while k < count {
         let token = record::read_record(records, k);
-        let number = fault_or_kind(
+        match fault_or_kind(
             headers,
             states,
             edges,
@@ -93,11 +104,10 @@ pub fn check_tokens(
             token,
             false,
             Refusal::SEPARATOR_IN_LIST,
-        );
-        if number != 0 {
-            return Checked::refused(number, k);
+        ) {
+            Fault::By(number) => return Checked::refused(number, k),
+            Fault::Nothing => k += 1,
         }
-        k += 1;
     }
     Checked::Passed
 }
@@ -151,7 +161,7 @@ fn check_list(
         return Checked::refused(Refusal::UNKNOWN_MODE, 0);
     }
     let count = records.len() / 10;
-    let number = fault_or_kind(
+    match fault_or_kind(
         headers,
         states,
         edges,
@@ -160,12 +170,13 @@ fn check_list(
         separator,
         true,
         Refusal::NO_SEPARATOR,
-    );
-    if number != 0 {
-        return Checked::refused(number, count);
+    ) {
+        Fault::By(number) => Checked::refused(number, count),
+        Fault::Nothing => {
+            if Book::TOKENS < count {
+                return Checked::refused(Refusal::TOO_MANY_TOKENS, 0);
+            }
+            check_tokens(headers, states, edges, rules, records, pool)
+        }
     }
-    if Book::TOKENS < count {
-        return Checked::refused(Refusal::TOO_MANY_TOKENS, 0);
-    }
-    check_tokens(headers, states, edges, rules, records, pool)
 }

@@ -1,6 +1,7 @@
 -- `check_list` answers `listRefusal`, test by test. Assumes nothing.
-use borrow.Author.Needs.{needs}
+use mathlib.Core.Path.{sym, _∙_}
 use Rattle.separated.proofs.Checking.{separator-fault, list-mode, list-separator, list-many, list-tokens}
+use borrow.Author.Needs.{needs}
 use Rattle.separated.proofs.checks.check_list.Statement.{statement}
 use Rattle.separated.proofs.checks.check_list.Tie as tie
 
@@ -13,23 +14,32 @@ returns c = λ rs h. list-mode rs _ _ _ _ (c .before .if1 .taken) (c .refused .e
 fault-or-kind-requires : tie.Need-fault-or-kind-requires
 fault-or-kind-requires c κs = search needs
 
+enum-known-number : tie.Need-enum-known-number
+enum-known-number c = search needs
+
 refused-requires-2 : tie.Need-refused-requires-2
 refused-requires-2 c κs = search needs
 
-returns-2 : tie.Need-returns-2
-returns-2 c = λ rs h. list-separator rs _ _ _ _ (c .before .before .before .if1 .left) (separator-fault rs _ _ (c .before .before .fault-or-kind .ensures rs h)) (c .before .if2 .taken) (c .refused2 .ensures)
+enum-told : tie.Need-enum-told
+enum-told c = search needs
 
 refused-requires-3 : tie.Need-refused-requires-3
 refused-requires-3 c κs = search needs
 
-returns-3 : tie.Need-returns-3
-returns-3 c = λ rs h. list-many rs _ _ _ _ (c .before .before .before .before .if1 .left) (separator-fault rs _ _ (c .before .before .before .fault-or-kind .ensures rs h)) (c .before .before .if2 .left) (c .before .if3 .taken) (c .refused3 .ensures)
+returns-2 : tie.Need-returns-2
+returns-2 c = λ rs h.
+    list-many rs _ _ _ _ (c .before .before .before .before .before .if1 .left) (separator-fault rs _ _ (sym (c .before .before .enum-told .given .1) ∙ c .before .before .before .before .fault-or-kind .ensures rs h)) (c .before .if2 .taken) (c .refused3 .ensures)
 
 check-tokens-requires : tie.Need-check-tokens-requires
 check-tokens-requires c κs = search needs
 
+returns-3 : tie.Need-returns-3
+returns-3 c = λ rs h.
+    list-separator rs _ _ _ _ (c .before .before .before .before .before .if1 .left) (separator-fault rs _ _ (sym (c .before .before .number .given .1) ∙ c .before .before .before .before .fault-or-kind .ensures rs h)) (c .refused2 .ensures)
+
 returns-4 : tie.Need-returns-4
-returns-4 c = λ rs h. list-tokens rs _ _ _ _ (c .before .before .before .before .if1 .left) (separator-fault rs _ _ (c .before .before .before .fault-or-kind .ensures rs h)) (c .before .before .if2 .left) (c .before .if3 .left) (c .check-tokens .ensures rs h)
+returns-4 c = λ rs h.
+    list-tokens rs _ _ _ _ (c .before .before .before .before .before .if1 .left) (separator-fault rs _ _ (sym (c .before .before .enum-told .given .1) ∙ c .before .before .before .before .fault-or-kind .ensures rs h)) (c .before .if2 .left) (c .check-tokens .ensures rs h)
 
 pub check-list-spec : {M : Type 1} → statement M
 check-list-spec =
@@ -38,9 +48,11 @@ check-list-spec =
     refused-requires
     returns
     fault-or-kind-requires
+    enum-known-number
     refused-requires-2
-    returns-2
+    enum-told
     refused-requires-3
-    returns-3
+    returns-2
     check-tokens-requires
+    returns-3
     returns-4)

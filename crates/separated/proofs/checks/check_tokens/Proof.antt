@@ -27,7 +27,7 @@ read-record-requires : tie.Need-read-record-requires Inv-loop μ-loop
 read-record-requires c κs = omega (arith, c .loop-test .taken)
 
 fault-or-kind-requires : tie.Need-fault-or-kind-requires Inv-loop μ-loop
-fault-or-kind-requires c κs = c .pre
+fault-or-kind-requires c κs = c .before .before .before .before .before .before .before .before .pre
 
 enum-known-number : tie.Need-enum-known-number Inv-loop μ-loop
 enum-known-number c = search needs
@@ -37,25 +37,25 @@ refused-requires c κs = search needs
 
 returns : tie.Need-returns Inv-loop μ-loop
 returns c = λ rs h.
-    passing-refused (c .loop .inv rs h) (c .loop-test .taken) (c .read-record .ensures)
-    (plain-fault rs _ _ (sym (c .number .given .1) ∙ c .fault-or-kind .ensures rs h)) (c .refused .ensures)
+    passing-refused (c .before .before .before .before .before .before .before .loop .inv rs h) (c .before .before .before .before .before .before .loop-test .taken) (c .before .before .before .before .before .read-record .ensures)
+    (plain-fault rs _ _ (sym (c .before .before .number .given .1) ∙ c .before .before .before .before .fault-or-kind .ensures rs h)) (c .refused .ensures)
 
 enum-told : tie.Need-enum-told Inv-loop μ-loop
 enum-told c = search needs
 
 add-k : tie.Need-add-k Inv-loop μ-loop
-add-k c = omega (arith, c .loop-test .taken, c .good)
+add-k c = omega (arith, c .before .before .before .before .loop-test .taken, c .before .before .before .before .before .before .before .before .before .before .before .good)
 
 loop-less : tie.Need-loop-less Inv-loop μ-loop
-loop-less c = omega (arith, c .loop-test .taken)
+loop-less c = omega (arith, c .before .before .before .before .loop-test .taken)
 
 loop-again : tie.Need-loop-again Inv-loop μ-loop
 loop-again c = λ rs h.
-    passing-next (c .loop .inv rs h) (c .loop-test .taken) (c .read-record .ensures)
-    (plain-fault rs _ _ (sym (c .enum-told .given .1) ∙ c .fault-or-kind .ensures rs h))
+    passing-next (c .before .before .before .before .before .loop .inv rs h) (c .before .before .before .before .loop-test .taken) (c .before .before .before .read-record .ensures)
+    (plain-fault rs _ _ (sym (c .enum-told .given .1) ∙ c .before .before .fault-or-kind .ensures rs h))
 
 returns-2 : tie.Need-returns-2 Inv-loop μ-loop
-returns-2 c = λ rs h. passing-end (c .loop .inv rs h) (c .loop-test .left)
+returns-2 c = λ rs h. passing-end (c .before .loop .inv rs h) (c .loop-test .left)
 
 pub check-tokens-spec : {M : Type 1} → statement M
 check-tokens-spec =
