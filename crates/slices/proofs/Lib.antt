@@ -4,5 +4,5 @@ pub mod Arrays
 pub mod Locals
 pub mod Opening
 pub mod Starting
-pub mod Turning
+pub mod Storing
 pub mod Staging

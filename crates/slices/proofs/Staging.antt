@@ -24,7 +24,7 @@ use Rattle.longest_match.proofs.Held.{held-empty}
 use Rattle.record.specs.Records.{recordCount}
 use Rattle.record.specs.declared.TokenRecord.{TokenRecord}
 use Rattle.record.specs.Tokens.{recordAt, recordsOf, tokensOf}
-use Rattle.record.specs.Contracts.{Small}
+use Rattle.record.specs.Contracts.{Fits}
 use Rattle.lexer.proofs.Outcomes.{loaded-rules}
 use Rattle.token_list.specs.Faults.{faultOf}
 use Rattle.token_list.specs.Checks.{firstFault, firstExtended}
@@ -112,7 +112,7 @@ module _ (book hs ss es records pool : List ℕ) (rules : List Rule) (n : ℕ) (
       → PrintAnswered (printChecked rules (tokensOf records pool) out) a exit → PrintAnswered (printOutcome book records pool out) a exit
   counted-outcome out exit a f h = outcome out exit a (answered-checked rules records pool out few f h)
 
-  module _ (t : TokenRecord) (small : Small t) (scratch : List ℕ) (sized : length scratch ≡ maxText) (left : ℕ) (r : Stage) where
+  module _ (t : TokenRecord) (small : Fits t) (scratch : List ℕ) (sized : length scratch ≡ maxText) (left : ℕ) (r : Stage) where
     -- the first pass
     module _ (k at : ℕ) (more : k < recordCount records) (bound : 3 * recordCount records ≤ left + k) (w : Measuring rules records pool at k) (e : t ≡ recordAt records k) where
       check-refused : (faultOf rules pool t ≡ 0 → ⊥) → r ≡ refusedStage (faultOf rules pool t) k → Going book hs ss es records pool scratch (left - 1) r
@@ -121,11 +121,11 @@ module _ (book hs ss es records pool : List ℕ) (rules : List Rule) (n : ℕ) (
       check-passed : faultOf rules pool t ≡ 0 → (b : Bool) → ltb (k + 1) (recordCount records) ≡ b
           → r ≡ if b (going 0 (k + 1) (at + t .len) 0 n) (passOver 0 (at + t .len) 0 n) → Going book hs ss es records pool scratch (left - 1) r
       check-passed z true l q =
-          stands rules n accepts holds few (checking (k + 1) (at + t .len) q (ltb-true _ _ l) (omega arith) (measuring-next w more e refl z (small .len-below)))
+          stands rules n accepts holds few (checking (k + 1) (at + t .len) q (ltb-true _ _ l) (omega arith) (measuring-next w more e refl z (small .len)))
       check-passed z false l q = go (ltb maxText (at + t .len)) refl q
         where
           m : (firstFault (faultOf rules pool) (recordsOf records) 0 ≡ none) × (at + t .len ≡ length (join (tokensOf records pool)))
-          m = measured-bytes rules records pool (measuring-end (measuring-next w more e refl z (small .len-below)) (ltb-false _ _ l))
+          m = measured-bytes rules records pool (measuring-end (measuring-next w more e refl z (small .len)) (ltb-false _ _ l))
 
           go : (b : Bool) → ltb maxText (at + t .len) ≡ b → r ≡ if b (refusedStage 20 0) (going 1 0 0 (at + t .len) n) → Going book hs ss es records pool scratch (left - 1) r
           go true y q₁ = refuses 20 0 q₁ (λ out. counted-outcome out out _ (m .0) (answered-long rules (tokensOf records pool) out (m .1) (ltb-true _ _ y) refl))
@@ -230,7 +230,7 @@ module _ {book hs ss es records pool : List ℕ} where
     going-index (stands rules n a h few (reading k at total e l b c y w)) m = let i = ap (λ (z : Stage). z .index) e in (omega arith, omega arith)
     going-index (stands rules n a h few (over k total e c x f all)) m = halts m e refl
 
-    module _ {t : TokenRecord} (sized : length scratch ≡ maxText) (small : Small t) where
+    module _ {t : TokenRecord} (sized : length scratch ≡ maxText) (small : Fits t) where
       pub going-steps : Going book hs ss es records pool scratch left s → s .more ≡ true → t ≡ recordAt records (s .index) → Steps hs ss es scratch pool s t
       going-steps (refuses number place e f) m t-is = halts m e refl
       going-steps (stands rules n a h few (checking k at e l b w)) m t-is =

@@ -1,5 +1,6 @@
 -- `lex_tokens` meets its contract: a walk of its MIR, by hand, with a loop. The tables are lent as `&mut` to `begin` and as `&` for the whole loop; the borrow of the tokens is opened once, before `begin`, and closed once, after the loop.
--- The loop's variable is the turn, the list so far and the turns that are left at most, with what is known of them: `Turning.antt`'s `Going`, of the records that the list says.
+-- The loop's variable is what is pending, the list so far and the turns that are left at most, with what is known of them:
+-- `Storing.antt`'s `Going`, of the records that the list says.
 -- Assumes nothing.
 use mathlib.Core.Path.{_≡_, refl, sym, _∙_, ap, subst}
 use mathlib.Core.Bool.{Bool, true, false, not}
@@ -50,14 +51,15 @@ use Rattle.answer.specs.declared.LexAnswer.{LexAnswer}
 use Rattle.automaton.specs.Rule.{Rule}
 use Rattle.book.proofs.Filling.{fresh-zeros}
 use Rattle.longest_match.specs.Contracts.{Holds}
-use Rattle.record.specs.Encoding.{encoded, noToken}
-use Rattle.record.specs.declared.Token.{Token}
+use Rattle.record.specs.Contracts.{noRecord}
+use Rattle.record.specs.Encoding.{encoded}
+use Rattle.record.specs.declared.TokenRecord.{TokenRecord}
 use Rattle.record.proofs.Encoding.{length-encoded, count-encoded, encoded-set}
 use Rattle.lexer.specs.Contracts.{LexAnswered}
 use Rattle.lexer.specs.Outcome.{lexOutcome}
-use Rattle.slices.specs.Contracts.{answerOf, Turns, Ready, Begun}
-use Rattle.slices.specs.declared.lexing.Turn.{Turn}
-use Rattle.slices.proofs.Turning.{Going, going-start, going-stop, going-room, going-ready, going-left, going-next}
+use Rattle.slices.specs.Contracts.{answerOf, PendingAt, Ready, Begun}
+use Rattle.slices.specs.declared.lexing.Pending.{Pending}
+use Rattle.slices.proofs.Storing.{Going, going-start, going-stop, going-room, going-ready, going-left, going-next}
 use Rattle.slices.proofs.Tests.{behind, tests}
 use Rattle.slices.proofs.Locals.{frees-tail}
 use Rattle.slices.proofs.Arrays.{Words, words, ref-at, fills, lends-lying, takes-back, shares-lying, gives-up}
@@ -69,10 +71,10 @@ use denote.Struct.Laws as LL
 use denote.Enum.Laws as EL
 use Rattle.answer.proofs.LexAnswer as L
 use Rattle.answer.proofs.LexAnswer.Laws as L′
-use Rattle.slices.proofs.lexing.Turn as S
-use Rattle.slices.proofs.lexing.Turn.Laws as S′
-use Rattle.record.proofs.Token as T
-use Rattle.record.proofs.Token.Laws as T′
+use Rattle.slices.proofs.lexing.Pending as S
+use Rattle.slices.proofs.lexing.Pending.Laws as S′
+use Rattle.record.proofs.TokenRecord as T
+use Rattle.record.proofs.TokenRecord.Laws as T′
 use Rattle.slices.proofs.lexing.begin as begin
 use Rattle.slices.proofs.lexing.begin.Symbol as begin-def
 use Rattle.slices.proofs.lexing.begin.Met as begin-thm
@@ -128,7 +130,7 @@ module _ {M : Type 1} (𝓤 : URA M) (H : Heap 𝓤) (A : Atoms 𝓤) (mem : Mem
   abbrev Answer : Contract 𝓤
   Answer = tripleOf 𝓤 H A answer.signature (answer.spec 𝓤 H A mem run)
 
-module _ {M : Type 1} (𝓤 : URA M) (H : Heap 𝓤) (A : Atoms 𝓤) (W : Given 𝓤 H A) (mem : Memory → SProp 𝓤) (run : Routine → Fun 𝓤) (κ₀ κ₁ κ₂ : Lft) (q₀ q₁ q₂ : Share) (book text : RefT (List ℕ)) (b o : ℕ) (γ : GName) (ys : List Token)
+module _ {M : Type 1} (𝓤 : URA M) (H : Heap 𝓤) (A : Atoms 𝓤) (W : Given 𝓤 H A) (mem : Memory → SProp 𝓤) (run : Routine → Fun 𝓤) (κ₀ κ₁ κ₂ : Lft) (q₀ q₁ q₂ : Share) (book text : RefT (List ℕ)) (b o : ℕ) (γ : GName) (ys : List TokenRecord)
     (b-room : Room u8 (length (book .now))) (t-room : Room u8 (length (text .now))) (room : Room T.the-row (length ys)) where
   abbrev bk : List ℕ
   bk = book .now
@@ -140,9 +142,9 @@ module _ {M : Type 1} (𝓤 : URA M) (H : Heap 𝓤) (A : Atoms 𝓤) (W : Given
   cap = length ys
 
   abbrev Arg : Type 0
-  Arg = RefT (List ℕ) × (RefT (List ℕ) × (RefT (List Token) × Unit {0}))
+  Arg = RefT (List ℕ) × (RefT (List ℕ) × (RefT (List TokenRecord) × Unit {0}))
 
-  abbrev at-list : List Token → RefT (List Token)
+  abbrev at-list : List TokenRecord → RefT (List TokenRecord)
   at-list l = record { ptr = (b, o); name = γ; now = l }
 
   abbrev x : Arg
@@ -172,10 +174,10 @@ module _ {M : Type 1} (𝓤 : URA M) (H : Heap 𝓤) (A : Atoms 𝓤) (W : Given
   abbrev Post : Val → SProp 𝓤
   Post = walkOf 𝓤 H A lex-tokens.ended stayed (lex-tokens.clauses 𝓤 H A mem run) .post ((κs, (q₀, (q₁, (q₂, tt))), tt, x, at), tt)
 
-  abbrev Ended : LexAnswer → Val → List Token → List (Item 𝓤)
+  abbrev Ended : LexAnswer → Val → List TokenRecord → List (Item 𝓤)
   Ended r u zs = ‵ (L.the-row .own r (u ∷ [])) ∷ ‵ (fobs γ (codedHoleys T.the-row .code (heres T.the-row zs))) ∷ ‵ (fbor κ₂ (Held T.the-row (length zs) b o γ)) ∷ ‵ (flft κ₂ q₂) ∷ ‵ OwnBook ∷ ‵ (flft κ₀ q₀) ∷ ‵ OwnText ∷ ‵ (flft κ₁ q₁) ∷ []
 
-  exits : (r : LexAnswer) (u : Val) (zs : List Token) → length zs ≡ cap → LexAnswered (lexOutcome bk tx (encoded ys)) r (encoded zs) → ent 𝓤 (⋆ 𝓤 H A (Ended r u zs)) (Post u)
+  exits : (r : LexAnswer) (u : Val) (zs : List TokenRecord) → length zs ≡ cap → LexAnswered (lexOutcome bk tx (encoded ys)) r (encoded zs) → ent 𝓤 (⋆ 𝓤 H A (Ended r u zs)) (Post u)
   exits r u zs e p =
       qed W (Ended r u zs) ∵
       suffices ! _ (ends-at 𝓤 H A lex-tokens.ended stayed (lex-tokens.clauses 𝓤 H A mem run) W ((κs, (q₀, (q₁, (q₂, tt))), tt, x, at), tt) u r (tt, (tt, (zs, tt))) (tt, (tt, (e, tt)))) $
@@ -184,25 +186,25 @@ module _ {M : Type 1} (𝓤 : URA M) (H : Heap 𝓤) (A : Atoms 𝓤) (W : Given
       move ! (1 ∷ 2 ∷ []) $ fjoin ! $ pureI ! (at-slice T.the-row (at-list zs) (s ∷ [])) (tt, (tt, tt)) (ap (λ (m : ℕ). sliceVal (b, o) m ∷ []) (sym e), subst (Room T.the-row) (sym e) room) $ fjoin ! $
       nothing ! $ move ! (1 ∷ 0 ∷ []) $ fjoin ! $ move ! (3 ∷ 0 ∷ []) $ fjoin ! $ move ! (2 ∷ 0 ∷ []) $ fjoin ! $ done !
 
-  -- ---- the machine value of a turn, and of its token, has its type
-  abbrev IsTurn : Turn → Type 0
-  IsTurn t = Is S.the-row t (S′.lowered t ∷ [])
+  -- ---- the machine values of what is pending, and of its token, have their types
+  abbrev IsPending : Pending → Type 0
+  IsPending t = Is S.the-row t (S′.lowered t ∷ [])
 
-  typed : (t : Turn) → IsTurn t → Yes (hasTy S′.mir (S′.lowered t)) × WT (S′.lowered t)
+  typed : (t : Pending) → IsPending t → Yes (hasTy S′.mir (S′.lowered t)) × WT (S′.lowered t)
   typed t is = LL.lawful S.the-type S′.the-laws 𝓤 H A W .typed t _ is .0
 
-  is-token : (t : Turn) → IsTurn t → Is T.the-row (t .token) (T′.lowered (t .token) ∷ [])
+  is-token : (t : Pending) → IsPending t → Is T.the-row (t .token) (T′.lowered (t .token) ∷ [])
   is-token t is = let wt = typed t is .1 .1 .1 .0 in LL.owes T.the-type T′.the-laws (t .token) ((refl, wt .0 .fits), ((refl, wt .1 .0 .fits), ((refl, wt .1 .1 .0 .fits), tt)))
 
   -- ---- `answer`
-  abbrev to-answer : Turn → Answer 𝓤 H A mem run .Ghost
+  abbrev to-answer : Pending → Answer 𝓤 H A mem run .Ghost
   to-answer t = ((tt, tt, tt, (t, tt), (S′.lowered t ∷ [], tt)), tt)
 
-  goes-answer : (t : Turn) → IsTurn t → ent 𝓤 (sem 𝓤 H A ftrue) (Answer 𝓤 H A mem run .pre (to-answer t))
+  goes-answer : (t : Pending) → IsPending t → ent 𝓤 (sem 𝓤 H A ftrue) (Answer 𝓤 H A mem run .pre (to-answer t))
   goes-answer t is =
       qed W (‵ ftrue ∷ []) ∵ nothing ! $ nothing ! $ owned ! S.the-row (Is S.the-row) ((LL.makes S.the-type S′.the-plain) 𝓤 H A) t _ is $ fjoin ! $ move ! (1 ∷ 0 ∷ []) $ join ! $ frame ! $ done !
 
-  answer-said : (t : Turn) (r : LexAnswer) → ent 𝓤 (ensured 𝓤 H A answer.ended (answer.clauses 𝓤 H A mem run) tt (t, tt) tt r) (fact 𝓤 (r ≡ answerOf t))
+  answer-said : (t : Pending) (r : LexAnswer) → ent 𝓤 (ensured 𝓤 H A answer.ended (answer.clauses 𝓤 H A mem run) tt (t, tt) tt r) (fact 𝓤 (r ≡ answerOf t))
   answer-said t r = exE 𝓤 _ (λ ws. snd∗ 𝓤 (sem 𝓤 H A (lasts answer.ended tt (t, tt) ws)) (fact 𝓤 (r ≡ answerOf t)))
 
   module _ (l₄ l₅ l₆ : ℕ) where
@@ -260,32 +262,32 @@ module _ {M : Type 1} (𝓤 : URA M) (H : Heap 𝓤) (A : Atoms 𝓤) (W : Given
           move ! (2 ∷ 0 ∷ []) $ join ! $ move ! (3 ∷ 0 ∷ []) $ join ! $ move ! (4 ∷ 0 ∷ []) $ join ! $
           move ! (2 ∷ 1 ∷ []) $ join ! $ move ! (2 ∷ 0 ∷ []) $ join ! $ move ! (2 ∷ 0 ∷ []) $ join ! $ done !
 
-      abbrev passed : Turn → RefT (List ℕ) × (RefT (List ℕ) × (RefT (List ℕ) × (RefT (List ℕ) × (Turn × Unit {0}))))
+      abbrev passed : Pending → RefT (List ℕ) × (RefT (List ℕ) × (RefT (List ℕ) × (RefT (List ℕ) × (Pending × Unit {0}))))
       passed t = (ref-at w64 32 l₄ γ₁ hs, (ref-at w16 8192 l₅ γ₂ ss, (ref-at w64 8192 l₆ γ₃ es, (text, (t, tt)))))
 
       abbrev passed-for : Lft × (Lft × (Lft × (Lft × Unit {0})))
       passed-for = (ν₁ ∷ [], (ν₂ ∷ [], (ν₃ ∷ [], (κ₁, tt))))
 
-      abbrev to-next : Turn → Next 𝓤 H A mem run .Ghost
+      abbrev to-next : Pending → Next 𝓤 H A mem run .Ghost
       to-next t = ((passed-for, (fullShare, (fullShare, (fullShare, (q₁, tt)))), tt, passed t, (vptr l₄ 0 ∷ [], (vptr l₅ 0 ∷ [], (vptr l₆ 0 ∷ [], (v ∷ [], (S′.lowered t ∷ [], tt)))))), tt)
 
-      goes-next : (t : Turn) → IsTurn t → Ready hs ss es tx t → ent 𝓤 (⋆ 𝓤 H A (Toks ∷ Tabs ∷ [])) (Next 𝓤 H A mem run .pre (to-next t))
+      goes-next : (t : Pending) → IsPending t → Ready hs ss es tx t → ent 𝓤 (⋆ 𝓤 H A (Toks ∷ Tabs ∷ [])) (Next 𝓤 H A mem run .pre (to-next t))
       goes-next t is ready =
           qed W (Toks ∷ Tabs ∷ []) ∵ says ! ready $ frame ! $ split ! $ move ! (1 ∷ []) $ split ! $ move ! (1 ∷ []) $ split ! $
           -- [edges; text; states; headers]
           nothing ! $ owned ! S.the-row (Is S.the-row) ((LL.makes S.the-type S′.the-plain) 𝓤 H A) t _ is $ fjoin ! $ move ! (2 ∷ 0 ∷ []) $ fjoin ! $ move ! (1 ∷ 0 ∷ []) $ fjoin ! $ move ! (1 ∷ 0 ∷ []) $ fjoin ! $ move ! (1 ∷ 0 ∷ []) $ fjoin ! $ done !
 
-      abbrev Said : Turn → Turn → Type 0
-      Said t r = (rs : List Rule) → Holds hs ss es (t .rules) rs → Turns rs tx (t .rules) (t .index + 1) (t .next) r
+      abbrev Said : Pending → Pending → Type 0
+      Said t r = (rs : List Rule) → Holds hs ss es (t .rules) rs → PendingAt rs tx (t .rules) (t .index + 1) (t .next) r
 
-      next-said : (t r : Turn) → ent 𝓤 (ensured 𝓤 H A next.ended (next.clauses 𝓤 H A mem run) passed-for (passed t) tt r) (fact 𝓤 (Said t r))
+      next-said : (t r : Pending) → ent 𝓤 (ensured 𝓤 H A next.ended (next.clauses 𝓤 H A mem run) passed-for (passed t) tt r) (fact 𝓤 (Said t r))
       next-said t r = exE 𝓤 _ (λ ws. snd∗ 𝓤 (sem 𝓤 H A (lasts next.ended passed-for (passed t) ws)) (fact 𝓤 (Said t r)))
 
-      abbrev Facts : Turn → List Token → ℕ → Type 0
-      Facts t zs left = (length zs ≡ cap) × (Going bk tx (encoded ys) hs ss es (encoded zs) left t × IsTurn t)
+      abbrev Facts : Pending → List TokenRecord → ℕ → Type 0
+      Facts t zs left = (length zs ≡ cap) × (Going bk tx (encoded ys) hs ss es (encoded zs) left t × IsPending t)
 
       abbrev Var : Type 0
-      Var = (t : Turn) × ((zs : List Token) × ((left : ℕ) × Facts t zs left))
+      Var = (t : Pending) × ((zs : List TokenRecord) × ((left : ℕ) × Facts t zs left))
 
       abbrev Nearer : Var → Var → Type 0
       Nearer i′ i = i′ .1 .1 .0 < i .1 .1 .0
@@ -296,7 +298,7 @@ module _ {M : Type 1} (𝓤 : URA M) (H : Heap 𝓤) (A : Atoms 𝓤) (W : Given
       within : (i : Var) → Yes (i .0 .more) → i .0 .index < length (i .1 .0)
       within i on = omega (arith, going-room (i .1 .1 .1 .1 .0) (is-true (i .0 .more) on), length-encoded (i .1 .0))
 
-      facts-on : (i : Var) (on : Yes (i .0 .more)) (r : Turn) → Said (i .0) r → IsTurn r → Facts r (set (i .1 .0) (i .0 .index) (i .0 .token)) (i .1 .1 .0 - 1)
+      facts-on : (i : Var) (on : Yes (i .0 .more)) (r : Pending) → Said (i .0) r → IsPending r → Facts r (set (i .1 .0) (i .0 .index) (i .0 .token)) (i .1 .1 .0 - 1)
       facts-on i on r said is = (
         length-set (i .1 .0) (i .0 .index) (i .0 .token) ∙ i .1 .1 .1 .0,
         (going-next (i .1 .1 .1 .1 .0) (is-true (i .0 .more) on) (encoded-set (i .1 .0) (i .0 .index) (i .0 .token) (within i on)) said, is),
@@ -305,11 +307,11 @@ module _ {M : Type 1} (𝓤 : URA M) (H : Heap 𝓤) (A : Atoms 𝓤) (W : Given
       going : (i : Var) → Going bk tx (encoded ys) hs ss es (encoded (i .1 .0)) (i .1 .1 .0) (i .0)
       going i = i .1 .1 .1 .1 .0
 
-      turned : (i : Var) → IsTurn (i .0)
-      turned i = i .1 .1 .1 .1 .1
+      is-pending : (i : Var) → IsPending (i .0)
+      is-pending i = i .1 .1 .1 .1 .1
 
       fitting : (i : Var) → Yes (hasTy S′.mir (S′.lowered (i .0))) × WT (S′.lowered (i .0))
-      fitting i = typed (i .0) (turned i)
+      fitting i = typed (i .0) (is-pending i)
 
       scaled : (i : Var) → Yes (i .0 .more) → i .0 .index * 12 < 2 ^ 64
       scaled i on = omega (arith, room .1, within i on, i .1 .1 .1 .0)
@@ -346,7 +348,7 @@ module _ {M : Type 1} (𝓤 : URA M) (H : Heap 𝓤) (A : Atoms 𝓤) (W : Given
 
         leaves : (i : Var) → Yes (not (i .0 .more)) → Sq W (Tested i) (runs C Λ En body.t-13 (atRet En Post))
         leaves i off =
-            nothing ! $ use1 W (raw (Answer 𝓤 H A mem run .pre (to-answer (i .0)))) (goes-answer (i .0) (turned i)) $
+            nothing ! $ use1 W (raw (Answer 𝓤 H A mem run .pre (to-answer (i .0)))) (goes-answer (i .0) (is-pending i)) $
             calls-at ! (fmOf 𝓤 H (W .laws) 𝓣) (Answer 𝓤 H A mem run) known-answer (to-answer (i .0)) (and-then ! (load ! (from ! (stop !)) (look ! 30 refl)) (no-more !)) (λ u.
             use1 W (later (some (λ (r : LexAnswer). (‵ ftrue ⊛ ‵ (L.the-row .own r (u ∷ []))) ⊛ raw (ensured 𝓤 H A answer.ended (answer.clauses 𝓤 H A mem run) tt (i .0, tt) tt r)))) (id⊢ 𝓤 _) $ await ! tt $ pick ! (λ r.
             split ! $ move ! (1 ∷ []) $ use1 W (raw (fact 𝓤 (r ≡ answerOf (i .0)))) (answer-said (i .0) r) $ heard ! (r ≡ answerOf (i .0)) (λ e. split ! $ drop ! $
@@ -373,19 +375,19 @@ module _ {M : Type 1} (𝓤 : URA M) (H : Heap 𝓤) (A : Atoms 𝓤) (W : Given
             assigns ! (bin ! (load ! (from ! (stop !)) (look ! 21 refl)) (lit ! tt) (record { fits = scaled i on })) (from ! (stop !)) (init ! 9 refl (tt, record { fits = scaled i on })) $
             assigns ! (bin ! (load ! (from ! (fld ! refl (stop !))) (look-in ! 34 (sub ! 0 refl (whole !)))) (load ! (from ! (stop !)) (look ! 9 refl)) tt) (from ! (stop !)) (init ! 7 refl (tt, tt)) $
             rewrite ! 7 (λ (p : ℕ). ‵ (fat fullShare tyPtr l₁₈ 0 (vptr b p))) (sym (place-is 12 o (i .0 .index))) refl $
-            elem-out ! T.the-row (Is T.the-row) (shows 𝓤 H A T.the-row) (LL.vals T.the-type T′.the-laws) (LL.tells T.the-type T′.the-laws) fullShare (i .1 .0) (i .0 .index) noToken b o (within i on) (λ _.
+            elem-out ! T.the-row (Is T.the-row) (shows 𝓤 H A T.the-row) (LL.vals T.the-type T′.the-laws) (LL.tells T.the-type T′.the-laws) fullShare (i .1 .0) (i .0 .index) noRecord b o (within i on) (λ _.
             -- [the token at the index; what it owns; the others; the tables; their lifetimes; the open borrow; obs; auth; what waits; _18; …]
             assigns ! (of-opd ! (load ! (from ! (fld ! refl (stop !))) (look-in ! 31 (sub ! 2 refl (whole !))))) (from ! (hop ! (look ! 9 refl) (stop !))) (store-raw ! 0 refl (tt, (fitting i) .1 .1 .1 .0)) $
-            move ! (1 ∷ []) $ drop ! $ owned ! T.the-row (Is T.the-row) ((LL.makes T.the-type T′.the-plain) 𝓤 H A) (i .0 .token) _ (is-token (i .0) (turned i)) $ move ! (1 ∷ 0 ∷ []) $
+            move ! (1 ∷ []) $ drop ! $ owned ! T.the-row (Is T.the-row) ((LL.makes T.the-type T′.the-plain) 𝓤 H A) (i .0 .token) _ (is-token (i .0) (is-pending i)) $ move ! (1 ∷ 0 ∷ []) $
             elem-put ! T.the-row fullShare (i .1 .0) (i .0 .index) (i .0 .token) (T′.lowered (i .0 .token) ∷ []) b o (within i on) $
             -- `next`, with a copy of the tables
-            move ! (1 ∷ []) $ use1 W (Tabs ⊛ Tabs) tabs-twice $ split ! $ move ! (3 ∷ 0 ∷ []) $ use2 W (raw (Next 𝓤 H A mem run .pre (to-next (i .0)))) (goes-next (i .0) (turned i) (going-ready (going i) (is-true (i .0 .more) on))) $
+            move ! (1 ∷ []) $ use1 W (Tabs ⊛ Tabs) tabs-twice $ split ! $ move ! (3 ∷ 0 ∷ []) $ use2 W (raw (Next 𝓤 H A mem run .pre (to-next (i .0)))) (goes-next (i .0) (is-pending i) (going-ready (going i) (is-true (i .0 .more) on))) $
             calls-at-last ! (fmOf 𝓤 H (W .laws) 𝓣) (Next 𝓤 H A mem run) known-next (to-next (i .0))
             (and-then ! (load ! (from ! (stop !)) (look ! 27 refl)) (and-then ! (load ! (from ! (stop !)) (look ! 25 refl)) (and-then ! (load ! (from ! (stop !)) (look ! 23 refl)) (and-then ! (load ! (from ! (stop !)) (look ! 36 refl)) (and-then ! (load ! (from ! (stop !)) (look ! 29 refl)) (no-more !)))))) (λ u.
-            use1 W (later (some (λ (r : Turn). (Toks ⊛ ‵ (S.the-row .own r (u ∷ []))) ⊛ raw (ensured 𝓤 H A next.ended (next.clauses 𝓤 H A mem run) passed-for (passed (i .0)) tt r)))) (id⊢ 𝓤 _) $ await ! tt $ pick ! (λ r.
+            use1 W (later (some (λ (r : Pending). (Toks ⊛ ‵ (S.the-row .own r (u ∷ []))) ⊛ raw (ensured 𝓤 H A next.ended (next.clauses 𝓤 H A mem run) passed-for (passed (i .0)) tt r)))) (id⊢ 𝓤 _) $ await ! tt $ pick ! (λ r.
             split ! $ move ! (1 ∷ []) $ use1 W (raw (fact 𝓤 (Said (i .0) r))) (next-said (i .0) r) $ heard ! (Said (i .0) r) (λ said.
             split ! $ move ! (1 ∷ []) $ peeks ! S.the-row (Is S.the-row) (shows 𝓤 H A S.the-row) r (u ∷ []) (λ is.
-            -- [the turn; the lifetimes; the tables; the row; the open borrow; obs; auth; what waits; _18; …]
+            -- [what is pending; the lifetimes; the tables; the row; the open borrow; obs; auth; what waits; _18; …]
             land-last ! (from ! (stop !)) (store ! 30 refl (LL.lawful S.the-type S′.the-laws 𝓤 H A W .typed r _ is .0)) $
             rewrite ! 30 (λ (z : Val). ‵ (fat fullShare S′.mir l₇ 0 z)) (ap only (LL.tells S.the-type S′.the-laws r _ is)) refl $
             forget ! 8 refl $ forget ! 10 refl $ forget ! 12 refl $ forget ! 22 refl $
@@ -406,14 +408,14 @@ module _ {M : Type 1} (𝓤 : URA M) (H : Heap 𝓤) (A : Atoms 𝓤) (W : Given
 
       -- the locals behind what is owned, with the tables lent out
       abbrev Locals : Item 𝓤 → Item 𝓤 → List (Item 𝓤)
-      Locals turn₇ e₀ = ‵ (froom tyPtr l₁₈ 0) ∷ ‵ (fdies tyPtr l₁₈) ∷ ‵ (froom word l₁₇ 0) ∷ ‵ (fdies word l₁₇) ∷ ‵ (froom tyBool l₁₆ 0) ∷ ‵ (fdies tyBool l₁₆) ∷ ‵ (fat fullShare word l₁₅ 0 (vint w64 cap)) ∷ ‵ (fdies word l₁₅)
+      Locals pending₇ e₀ = ‵ (froom tyPtr l₁₈ 0) ∷ ‵ (fdies tyPtr l₁₈) ∷ ‵ (froom word l₁₇ 0) ∷ ‵ (fdies word l₁₇) ∷ ‵ (froom tyBool l₁₆ 0) ∷ ‵ (fdies tyBool l₁₆) ∷ ‵ (fat fullShare word l₁₅ 0 (vint w64 cap)) ∷ ‵ (fdies word l₁₅)
           ∷ ‵ (fat fullShare (lent w64 8192) l₁₄ 0 (vptr l₆ 0)) ∷ ‵ (fdies (lent w64 8192) l₁₄) ∷ ‵ (fat fullShare (lent w16 8192) l₁₃ 0 (vptr l₅ 0)) ∷ ‵ (fdies (lent w16 8192) l₁₃) ∷ ‵ (fat fullShare (lent w64 32) l₁₂ 0 (vptr l₄ 0)) ∷ ‵ (fdies (lent w64 32) l₁₂) ∷ ‵ (froom word l₁₁ 0) ∷ ‵ (fdies word l₁₁)
           ∷ ‵ (froom (shared w64 8192) l₁₀ 0) ∷ ‵ (fdies (shared w64 8192) l₁₀) ∷ ‵ (froom (shared w16 8192) l₉ 0) ∷ ‵ (fdies (shared w16 8192) l₉) ∷ ‵ (froom (shared w64 32) l₈ 0) ∷ ‵ (fdies (shared w64 32) l₈)
-          ∷ turn₇ ∷ ‵ (fdies S′.mir l₇) ∷ ‵ (fdies (words w64 8192) l₆) ∷ ‵ (fdies (words w16 8192) l₅) ∷ ‵ (fdies (words w64 32) l₄)
+          ∷ pending₇ ∷ ‵ (fdies S′.mir l₇) ∷ ‵ (fdies (words w64 8192) l₆) ∷ ‵ (fdies (words w16 8192) l₅) ∷ ‵ (fdies (words w64 32) l₄)
           ∷ ‵ (fat fullShare tokens l₃ 0 s) ∷ ‵ (fdies tokens l₃) ∷ ‵ (fat fullShare texts l₂ 0 v) ∷ ‵ (fdies texts l₂) ∷ ‵ (fat fullShare books l₁ 0 vb) ∷ ‵ (fdies books l₁) ∷ ‵ (froom L′.mir l₀ 0) ∷ e₀ ∷ []
 
-      -- `begin` has returned the turn r with the tables at hs, ss and es
-      module _ (hs ss es : List ℕ) (r : Turn) (begun : Begun bk tx cap hs ss es r) (is : IsTurn r) where
+      -- `begin` has returned r with the tables at hs, ss and es
+      module _ (hs ss es : List ℕ) (r : Pending) (begun : Begun bk tx cap hs ss es r) (is : IsPending r) where
         shared-out : Sq W (‵ (partAt (Words w64 8192) fullShare es l₆ 0) ∷ (‵ (flft κ₁ q₁) ⊛ ‵ ftrue) ∷ ‵ (partAt (Words w16 8192) fullShare ss l₅ 0) ∷ ‵ (partAt (Words w64 32) fullShare hs l₄ 0) ∷ ‵ (flft κ₀ q₀) ∷ ‵ OwnText ∷ ‵ OwnBook
             ∷ ‵ (row T.the-row fullShare ys b o) ∷ ‵ (fobor κ₂ q₂ (Held T.the-row cap b o γ)) ∷ ‵ (fobs γ (codedHoleys T.the-row .code (heres T.the-row ys))) ∷ ‵ (fauth γ (codedHoleys T.the-row .code (heres T.the-row ys)))
             ∷ Locals (‵ (fat fullShare S′.mir l₇ 0 (S′.lowered r))) (‵ (fdies L′.mir l₀))) (runs (𝓣 .C) (𝓣 .Λ) Env₀ body.t-9 (atRet Env₀ Post))
@@ -459,17 +461,17 @@ module _ {M : Type 1} (𝓤 : URA M) (H : Heap 𝓤) (A : Atoms 𝓤) (W : Given
           -- [what is asked; text; book; the row; the open borrow; obs; auth; the fact; true; lent (edges); lent (states); lent (headers); _18; …]
           calls-at ! (fmOf 𝓤 H (W .laws) 𝓣) (Begin 𝓤 H A mem run) known-begin (to-begin l₄ l₅ l₆ ν₁ ν₂ ν₃ γ₁ γ₂ γ₃)
           (and-then ! (load ! (from ! (stop !)) (look ! 43 refl)) (and-then ! (load ! (from ! (stop !)) (look ! 24 refl)) (and-then ! (load ! (from ! (stop !)) (look ! 22 refl)) (and-then ! (load ! (from ! (stop !)) (look ! 20 refl)) (and-then ! (load ! (from ! (stop !)) (look ! 41 refl)) (and-then ! (load ! (from ! (stop !)) (look ! 18 refl)) (no-more !))))))) (λ u.
-          use1 W (later (some (λ (r : Turn). (LentToks l₄ l₅ l₆ ν₁ ν₂ ν₃ γ₁ γ₂ γ₃ ⊛ ‵ (S.the-row .own r (u ∷ []))) ⊛ raw (ensured 𝓤 H A begin.ended (begin.clauses 𝓤 H A mem run) (lent-for l₄ l₅ l₆ ν₁ ν₂ ν₃ γ₁ γ₂ γ₃) (lent-to l₄ l₅ l₆ ν₁ ν₂ ν₃ γ₁ γ₂ γ₃) tt r)))) (id⊢ 𝓤 _) $ await ! tt $ pick ! (λ r.
+          use1 W (later (some (λ (r : Pending). (LentToks l₄ l₅ l₆ ν₁ ν₂ ν₃ γ₁ γ₂ γ₃ ⊛ ‵ (S.the-row .own r (u ∷ []))) ⊛ raw (ensured 𝓤 H A begin.ended (begin.clauses 𝓤 H A mem run) (lent-for l₄ l₅ l₆ ν₁ ν₂ ν₃ γ₁ γ₂ γ₃) (lent-to l₄ l₅ l₆ ν₁ ν₂ ν₃ γ₁ γ₂ γ₃) tt r)))) (id⊢ 𝓤 _) $ await ! tt $ pick ! (λ r.
           split ! $ move ! (1 ∷ []) $ use1 W (some (λ (ls : Unit {0} × (List ℕ × (List ℕ × (List ℕ × (Unit {0} × (Unit {0} × Unit {0})))))). ‵ (lasts begin.ended (lent-for l₄ l₅ l₆ ν₁ ν₂ ν₃ γ₁ γ₂ γ₃) (lent-to l₄ l₅ l₆ ν₁ ν₂ ν₃ γ₁ γ₂ γ₃) ls) ⊛ raw (fact 𝓤 (Begun bk tx cap (ls .1 .0) (ls .1 .1 .0) (ls .1 .1 .1 .0) r)))) (id⊢ 𝓤 _) $ pick ! (λ ls.
           split ! $ move ! (1 ∷ []) $ heard ! (Begun bk tx cap (ls .1 .0) (ls .1 .1 .0) (ls .1 .1 .1 .0) r) (λ begun. fsplit ! $ drop ! $ fsplit ! $ move ! (1 ∷ []) $ fsplit ! $ move ! (1 ∷ []) $ fsplit ! $
-          -- [edges' last; …; states' last; headers' last; the lifetimes and the turn; text; book; the row; the open borrow; obs; auth; the fact; true; lent; lent; lent; _18; …]
+          -- [edges' last; …; states' last; headers' last; the lifetimes and what is pending; text; book; the row; the open borrow; obs; auth; the fact; true; lent; lent; lent; _18; …]
           move ! (4 ∷ []) $ split ! $ move ! (1 ∷ []) $ peeks ! S.the-row (Is S.the-row) (shows 𝓤 H A S.the-row) r (u ∷ []) (λ is.
           land ! (from ! (stop !)) (init ! 39 refl (LL.lawful S.the-type S′.the-laws 𝓤 H A W .typed r _ is .0)) $ rewrite ! 39 (λ (z : Val). ‵ (fat fullShare S′.mir l₇ 0 z)) (ap only (LL.tells S.the-type S′.the-laws r _ is)) refl $
           -- the tables are taken back
           move ! (1 ∷ []) $ split ! $ move ! (1 ∷ []) $ split ! $ move ! (0 ∷ 18 ∷ 7 ∷ []) $ takes-back ! tt w64 32 l₄ ν₁ γ₁ (ls .1 .0) $
           move ! (1 ∷ []) $ split ! $ move ! (0 ∷ 17 ∷ 7 ∷ []) $ takes-back ! tt w16 8192 l₅ ν₂ γ₂ (ls .1 .1 .0) $
           move ! (1 ∷ []) $ split ! $ move ! (0 ∷ 16 ∷ 6 ∷ []) $ takes-back ! tt w64 8192 l₆ ν₃ γ₃ (ls .1 .1 .1 .0) $
-          -- [edges; text's lifetime; states; headers; book's lifetime; the turn; …; text; book; the row; the open borrow; obs; auth; the fact; true; _18; …]
+          -- [edges; text's lifetime; states; headers; book's lifetime; what is pending; …; text; book; the row; the open borrow; obs; auth; the fact; true; _18; …]
           move ! (5 ∷ 6 ∷ 13 ∷ 14 ∷ []) $ drop ! $ drop ! $ drop ! $ drop ! $
           shared-out (ls .1 .0) (ls .1 .1 .0) (ls .1 .1 .1 .0) r begun (subst (Is S.the-row r) (LL.tells S.the-type S′.the-laws r _ is) is)))))))))
 

@@ -49,9 +49,9 @@ use Rattle.book.proofs.Filling.{fresh-zeros}
 use Rattle.book.specs.Limits.{maxText}
 use Rattle.record.specs.Records.{recordCount}
 use Rattle.record.specs.Tokens.{recordAt}
-use Rattle.record.specs.Contracts.{Small, Fits}
-use Rattle.record.specs.Encoding.{encoded, noToken, recordIn}
-use Rattle.record.specs.declared.Token.{Token}
+use Rattle.record.specs.Contracts.{Fits, noRecord}
+use Rattle.record.specs.Encoding.{encoded}
+use Rattle.record.specs.declared.TokenRecord.{TokenRecord}
 use Rattle.record.proofs.Encoding.{length-encoded, count-encoded, record-encoded}
 use Rattle.printer.specs.Contracts.{PrintAnswered}
 use Rattle.printer.specs.Outcome.{printOutcome}
@@ -71,8 +71,8 @@ use Rattle.answer.proofs.PrintAnswer as L
 use Rattle.answer.proofs.PrintAnswer.Laws as L′
 use Rattle.slices.proofs.printing.Stage as S
 use Rattle.slices.proofs.printing.Stage.Laws as S′
-use Rattle.record.proofs.Token as T
-use Rattle.record.proofs.Token.Laws as T′
+use Rattle.record.proofs.TokenRecord as T
+use Rattle.record.proofs.TokenRecord.Laws as T′
 use Rattle.slices.proofs.printing.begin as begin
 use Rattle.slices.proofs.printing.begin.Symbol as begin-def
 use Rattle.slices.proofs.printing.begin.Met as begin-thm
@@ -137,7 +137,7 @@ module _ {M : Type 1} (𝓤 : URA M) (H : Heap 𝓤) (A : Atoms 𝓤) (mem : Mem
   abbrev Finish : Contract 𝓤
   Finish = tripleOf 𝓤 H A finish.signature (finish.spec 𝓤 H A mem run)
 
-module _ {M : Type 1} (𝓤 : URA M) (H : Heap 𝓤) (A : Atoms 𝓤) (W : Given 𝓤 H A) (mem : Memory → SProp 𝓤) (run : Routine → Fun 𝓤) (κ₀ κ₁ κ₂ κ₃ : Lft) (q₀ q₁ q₂ q₃ : Share) (book : RefT (List ℕ)) (b o : ℕ) (γ : GName) (ys : List Token) (pool out : RefT (List ℕ))
+module _ {M : Type 1} (𝓤 : URA M) (H : Heap 𝓤) (A : Atoms 𝓤) (W : Given 𝓤 H A) (mem : Memory → SProp 𝓤) (run : Routine → Fun 𝓤) (κ₀ κ₁ κ₂ κ₃ : Lft) (q₀ q₁ q₂ q₃ : Share) (book : RefT (List ℕ)) (b o : ℕ) (γ : GName) (ys : List TokenRecord) (pool out : RefT (List ℕ))
     (b-room : Room u8 (length (book .now))) (room : Room T.the-row (length ys)) (p-room : Room u8 (length (pool .now))) (o-room : Room u8 (length (out .now))) where
   abbrev bk : List ℕ
   bk = book .now
@@ -152,9 +152,9 @@ module _ {M : Type 1} (𝓤 : URA M) (H : Heap 𝓤) (A : Atoms 𝓤) (W : Given
   os = out .now
 
   abbrev Arg : Type 0
-  Arg = RefT (List ℕ) × (RefT (List Token) × (RefT (List ℕ) × (RefT (List ℕ) × Unit {0})))
+  Arg = RefT (List ℕ) × (RefT (List TokenRecord) × (RefT (List ℕ) × (RefT (List ℕ) × Unit {0})))
 
-  abbrev ts : RefT (List Token)
+  abbrev ts : RefT (List TokenRecord)
   ts = record { ptr = (b, o); name = γ; now = ys }
 
   abbrev x : Arg
@@ -207,17 +207,14 @@ module _ {M : Type 1} (𝓤 : URA M) (H : Heap 𝓤) (A : Atoms 𝓤) (W : Given
   abbrev IsStage : Stage → Type 0
   IsStage t = Is S.the-row t (S′.lowered t ∷ [])
 
-  abbrev IsToken : Token → Type 0
+  abbrev IsToken : TokenRecord → Type 0
   IsToken t = Is T.the-row t (T′.lowered t ∷ [])
 
   typed : (t : Stage) → IsStage t → Yes (hasTy S′.mir (S′.lowered t)) × WT (S′.lowered t)
   typed t is = LL.lawful S.the-type S′.the-laws 𝓤 H A W .typed t _ is .0
 
-  fits : (t : Token) → IsToken t → Fits t
-  fits t is = let wt = LL.lawful T.the-type T′.the-laws 𝓤 H A W .typed t _ is .0 .1 in record { tag = wt .0 .fits; place = wt .1 .0 .fits; length = wt .1 .1 .0 .fits }
-
-  small : (t : Token) → IsToken t → Small (recordIn t)
-  small t is = let f = fits t is in record { place-below = f .place; len-below = f .length }
+  fits : (t : TokenRecord) → IsToken t → Fits t
+  fits t is = let wt = LL.lawful T.the-type T′.the-laws 𝓤 H A W .typed t _ is .0 .1 in record { tag = wt .0 .fits; place = wt .1 .0 .fits; len = wt .1 .1 .0 .fits }
 
   module _ (l₅ l₆ l₇ l₈ : ℕ) where
     -- ---- `begin`, with the tables lent for ν₁, ν₂ and ν₃
@@ -284,13 +281,13 @@ module _ {M : Type 1} (𝓤 : URA M) (H : Heap 𝓤) (A : Atoms 𝓤) (W : Given
           abbrev Scratch : Fml
           Scratch = MutRef (named 3) (ν ∷ []) (Words w8 65536) .own (ref-at w8 65536 l₈ δ scr) (vptr l₈ 0 ∷ [])
 
-          abbrev stepped : Token → RefT (List ℕ) × (RefT (List ℕ) × (RefT (List ℕ) × (RefT (List ℕ) × (RefT (List ℕ) × (Stage × (Token × (ℕ × Unit {0})))))))
+          abbrev stepped : TokenRecord → RefT (List ℕ) × (RefT (List ℕ) × (RefT (List ℕ) × (RefT (List ℕ) × (RefT (List ℕ) × (Stage × (TokenRecord × (ℕ × Unit {0})))))))
           stepped k = (ref-at w64 32 l₅ γ₁ hs, (ref-at w16 8192 l₆ γ₂ ss, (ref-at w64 8192 l₇ γ₃ es, (ref-at w8 65536 l₈ δ scr, (pool, (t, (k, (n, tt))))))))
 
-          abbrev to-step : Token → Step 𝓤 H A mem run .Ghost
+          abbrev to-step : TokenRecord → Step 𝓤 H A mem run .Ghost
           to-step k = ((step-for, (fullShare, (fullShare, (fullShare, (fullShare, (q₂, tt))))), tt, stepped k, (vptr l₅ 0 ∷ [], (vptr l₆ 0 ∷ [], (vptr l₇ 0 ∷ [], (vptr l₈ 0 ∷ [], (v ∷ [], (S′.lowered t ∷ [], (T′.lowered k ∷ [], (vint w64 n ∷ [], tt))))))))), tt)
 
-          goes-step : (k : Token) → IsStage t → IsToken k → Steps hs ss es scr pl t (recordIn k) → ent 𝓤 (⋆ 𝓤 H A (StepToks ∷ ‵ Scratch ∷ Tabs ∷ [])) (Step 𝓤 H A mem run .pre (to-step k))
+          goes-step : (k : TokenRecord) → IsStage t → IsToken k → Steps hs ss es scr pl t k → ent 𝓤 (⋆ 𝓤 H A (StepToks ∷ ‵ Scratch ∷ Tabs ∷ [])) (Step 𝓤 H A mem run .pre (to-step k))
           goes-step k is ik asked =
               qed W (StepToks ∷ ‵ Scratch ∷ Tabs ∷ []) ∵ says ! asked $ frame ! $ move ! (1 ∷ []) $ split ! $ move ! (1 ∷ []) $ split ! $ move ! (1 ∷ []) $ split ! $
               -- [edges; pool; states; headers; the scratch]
@@ -313,8 +310,8 @@ module _ {M : Type 1} (𝓤 : URA M) (H : Heap 𝓤) (A : Atoms 𝓤) (W : Given
               qed W ((‵ (flft (ν ∷ []) fullShare) ⊛ (‵ (flft κ₃ q₃) ⊛ ‵ ftrue)) ∷ ‵ Read ∷ ‵ OwnOut ∷ []) ∵ says ! asked $ frame ! $
               nothing ! $ move ! (2 ∷ 0 ∷ []) $ fjoin ! $ owned ! S.the-row (Is S.the-row) ((LL.makes S.the-type S′.the-plain) 𝓤 H A) t _ is $ fjoin ! $ move ! (1 ∷ 0 ∷ []) $ fjoin ! $ done !
 
-      abbrev Said : Stage → List ℕ → Token → List ℕ → Stage → Type 0
-      Said t scr k after r = Stepped hs ss es scr after pl t (recordIn k) n r
+      abbrev Said : Stage → List ℕ → TokenRecord → List ℕ → Stage → Type 0
+      Said t scr k after r = Stepped hs ss es scr after pl t k n r
 
       abbrev Facts : Stage → List ℕ → ℕ → Type 0
       Facts t scr left = (length scr ≡ maxText) × (Going bk hs ss es (encoded ys) pl scr left t × IsStage t)
@@ -322,8 +319,8 @@ module _ {M : Type 1} (𝓤 : URA M) (H : Heap 𝓤) (A : Atoms 𝓤) (W : Given
       abbrev Var : Type 0
       Var = (t : Stage) × ((scr : List ℕ) × ((left : ℕ) × Facts t scr left))
 
-      abbrev elem : Var → Token
-      elem i = getD ys (i .0 .index) noToken
+      abbrev elem : Var → TokenRecord
+      elem i = getD ys (i .0 .index) noRecord
 
       abbrev Nearer : Var → Var → Type 0
       Nearer i′ i = i′ .1 .1 .0 < i .1 .1 .0
@@ -334,16 +331,16 @@ module _ {M : Type 1} (𝓤 : URA M) (H : Heap 𝓤) (A : Atoms 𝓤) (W : Given
       within : (i : Var) → Yes (i .0 .more) → i .0 .index < n
       within i on = omega (arith, going-index (i .1 .1 .1 .1 .0) (is-true (i .0 .more) on) .0, length-encoded ys)
 
-      here : (i : Var) → Yes (i .0 .more) → IsToken (elem i) → recordIn (elem i) ≡ recordAt (encoded ys) (i .0 .index)
+      here : (i : Var) → Yes (i .0 .more) → IsToken (elem i) → elem i ≡ recordAt (encoded ys) (i .0 .index)
       here i on g = sym (record-encoded ys (i .0 .index) (within i on) (fits (elem i) g))
 
-      steps : (i : Var) → Yes (i .0 .more) → IsToken (elem i) → Steps hs ss es (i .1 .0) pl (i .0) (recordIn (elem i))
-      steps i on g = going-steps (i .1 .1 .1 .0) (small (elem i) g) (i .1 .1 .1 .1 .0) (is-true (i .0 .more) on) (here i on g)
+      steps : (i : Var) → Yes (i .0 .more) → IsToken (elem i) → Steps hs ss es (i .1 .0) pl (i .0) (elem i)
+      steps i on g = going-steps (i .1 .1 .1 .0) (fits (elem i) g) (i .1 .1 .1 .1 .0) (is-true (i .0 .more) on) (here i on g)
 
       facts-on : (i : Var) (on : Yes (i .0 .more)) → IsToken (elem i) → {after : List ℕ} {r : Stage} → Said (i .0) (i .1 .0) (elem i) after r → IsStage r → Facts r after (i .1 .1 .0 - 1)
       facts-on i on g {after} {r} said is =
-          let f = going-next (i .1 .1 .1 .0) (small (elem i) g) (i .1 .1 .1 .1 .0) (is-true (i .0 .more) on) (here i on g)
-          (subst (λ (m : ℕ). Stepped hs ss es (i .1 .0) after pl (i .0) (recordIn (elem i)) m r) (sym (count-encoded ys)) said) in
+          let f = going-next (i .1 .1 .1 .0) (fits (elem i) g) (i .1 .1 .1 .1 .0) (is-true (i .0 .more) on) (here i on g)
+          (subst (λ (m : ℕ). Stepped hs ss es (i .1 .0) after pl (i .0) (elem i) m r) (sym (count-encoded ys)) said) in
           (f .1, (f .0, is))
 
       total-in : (i : Var) → Yes (not (i .0 .more)) → i .0 .total ≤ length (i .1 .0)
@@ -428,9 +425,9 @@ module _ {M : Type 1} (𝓤 : URA M) (H : Heap 𝓤) (A : Atoms 𝓤) (W : Given
             -- the token at the index, by a copy of the slice
             move ! (6 ∷ []) $ use1 W (‵ OwnTs ⊛ ‵ OwnTs) (shr-slice-copy 𝓤 H A W (named 1) κ₁ T.the-row .twice ts (s ∷ [])) $ split ! $ fsplit ! $ drop ! $ fsplit ! $ drop ! $ move ! (0 ∷ 8 ∷ []) $
             looks-slice ! tt T.the-row (Is T.the-row) (shows 𝓤 H A T.the-row) (LL.vals T.the-type T′.the-laws) (LL.tells T.the-type T′.the-laws) ((LL.copy T.the-type T′.the-copy) 𝓤 H A W) ys b o (λ q′.
-            elem-out ! T.the-row (Is T.the-row) (shows 𝓤 H A T.the-row) (LL.vals T.the-type T′.the-laws) (LL.tells T.the-type T′.the-laws) q′ ys (i .0 .index) noToken b o (within i on) (λ g.
+            elem-out ! T.the-row (Is T.the-row) (shows 𝓤 H A T.the-row) (LL.vals T.the-type T′.the-laws) (LL.tells T.the-type T′.the-laws) q′ ys (i .0 .index) noRecord b o (within i on) (λ g.
             assigns ! (of-opd ! (load ! (from ! (hop ! (look ! 21 refl) (stop !))) (look-raw ! 0 refl))) (from ! (stop !)) (init ! 19 refl (LL.lawful T.the-type T′.the-laws 𝓤 H A W .typed (elem i) _ g .0)) $
-            elem-back ! T.the-row q′ ys (i .0 .index) noToken (T′.lowered (elem i) ∷ []) b o (within i on) $ shuts-slice ! tt T.the-row q′ ys b o $ move ! (1 ∷ []) $ drop ! $
+            elem-back ! T.the-row q′ ys (i .0 .index) noRecord (T′.lowered (elem i) ∷ []) b o (within i on) $ shuts-slice ! tt T.the-row q′ ys b o $ move ! (1 ∷ []) $ drop ! $
             -- `step`, with the scratch lent for a lifetime of the call and a copy of the tables and the pool
             move ! (2 ∷ []) $ lends-lying ! tt (named 3) w8 65536 l₈ (i .1 .0) (λ ν δ.
             nothing ! $ move ! (10 ∷ 0 ∷ []) $ join ! $ move ! (3 ∷ 0 ∷ []) $ join ! $ move ! (8 ∷ 0 ∷ []) $ join ! $ move ! (7 ∷ 0 ∷ []) $ join ! $ move ! (6 ∷ 0 ∷ []) $ join ! $ move ! (5 ∷ []) $ use1 W (Tabs ⊛ Tabs) tabs-twice $ split ! $ move ! (2 ∷ 3 ∷ 0 ∷ []) $

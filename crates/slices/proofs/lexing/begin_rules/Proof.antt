@@ -10,7 +10,7 @@ use Rattle.automaton.specs.Rule.{Rule}
 use Rattle.longest_match.specs.Lexer.{lex}
 use Rattle.longest_match.specs.Contracts.{Holds}
 use Rattle.longest_match.proofs.Lexing.{lex-few}
-use Rattle.slices.proofs.Opening.{opens-long, opens-few, opens-turn}
+use Rattle.slices.proofs.Opening.{opens-long, opens-few, opens-pending}
 use Rattle.slices.proofs.lexing.begin_rules.Statement.{statement}
 use Rattle.slices.proofs.lexing.begin_rules.Tie as tie
 
@@ -33,12 +33,12 @@ refuse-requires-2 c κs = search needs
 returns-2 : tie.Need-returns-2
 returns-2 c = λ rs h. opens-few (c .before .before .before .before .before .if1 .left) (c .before .before .before .count .ensures rs h) (c .before .if3 .taken) (c .refuse2 .ensures)
 
-turn-at-requires : tie.Need-turn-at-requires
-turn-at-requires c κs = search needs
+pending-at-requires : tie.Need-pending-at-requires
+pending-at-requires c κs = search needs
 
 returns-3 : tie.Need-returns-3
-returns-3 c = λ rs h. opens-turn (c .before .before .if1 .left) (fits (c .before) rs h) (c .turn-at .ensures rs h)
+returns-3 c = λ rs h. opens-pending (c .before .before .if1 .left) (fits (c .before) rs h) (c .pending-at .ensures rs h)
 
 pub begin-rules-spec : {M : Type 1} → statement M
 begin-rules-spec =
-    tie.close (tie.spec refuse-requires returns count-requires refuse-requires-2 returns-2 turn-at-requires returns-3)
+    tie.close (tie.spec refuse-requires returns count-requires refuse-requires-2 returns-2 pending-at-requires returns-3)
