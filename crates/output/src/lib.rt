@@ -1,6 +1,5 @@
-// Copying bytes between two lent slices.
-// Bytes put in front of what is written, at the high end of a scratch.
-// The last step of every printer: the bytes that it has put together go to the caller's output, if that has room for them.
+// Bytes that go to a lent buffer: copied, put in front of what is written at the high end of a scratch, and, the last step of every
+// printer, written to the caller's output if that has room for them.
 use answer::PrintAnswer;
 use answer::Refusal;
 use record::TokenRecord;
@@ -32,7 +31,7 @@ pub enum Placed {
 }
 
 // Stores `len` bytes of the pool, from `place` on, in front of what is written from `at` on.
-pub fn put_before(pool: &[u8], place: usize, len: usize, scratch: &mut [u8], at: usize) -> Placed
+fn put_before(pool: &[u8], place: usize, len: usize, scratch: &mut [u8], at: usize) -> Placed
     requires { ⌜ (place + len ≤ length (now pool)) × (at ≤ length (now scratch)) ⌝ }
     ensures { λ r. ⌜ Stands r (take len (drop place (now (pool .entry))) ++ drop at (now (scratch .entry))) (now (scratch .exit)) ⌝ }
 {
@@ -42,6 +41,15 @@ pub fn put_before(pool: &[u8], place: usize, len: usize, scratch: &mut [u8], at:
     let start = at - len;
     copy(pool, place, len, scratch, start);
     Placed::At(start)
+}
+
+// Stores the bytes of a token in front of what is written from `at` on.
+pub fn put_token(pool: &[u8], token: TokenRecord, scratch: &mut [u8], at: usize) -> Placed
+    requires { ⌜ InPool (now pool) token ⌝ }
+    requires { ⌜ at ≤ length (now scratch) ⌝ }
+    ensures { λ r. ⌜ Stands r (bytesIn (now (pool .entry)) token ++ drop at (now (scratch .entry))) (now (scratch .exit)) ⌝ }
+{
+    put_before(pool, token.place as usize, token.len as usize, scratch, at)
 }
 
 // The token, and the separator behind it.
@@ -55,10 +63,12 @@ pub fn put_both(
     requires { ⌜ InPool (now pool) token ⌝ }
     requires { ⌜ InPool (now pool) separator ⌝ }
     requires { ⌜ at ≤ length (now scratch) ⌝ }
-    ensures { λ r. ⌜ Stands r (bytesIn (now (pool .entry)) token ++ (bytesIn (now (pool .entry)) separator ++ drop at (now (scratch .entry)))) (now (scratch .exit)) ⌝ }
+    ensures { λ r. ⌜ Stands r
+        (bytesIn (now (pool .entry)) token ++ (bytesIn (now (pool .entry)) separator ++ drop at (now (scratch .entry))))
+        (now (scratch .exit)) ⌝ }
 {
-    match put_before(pool, separator.place, separator.len, scratch, at) {
-        Placed::At(start) => put_before(pool, token.place, token.len, scratch, start),
+    match put_token(pool, separator, scratch, at) {
+        Placed::At(start) => put_token(pool, token, scratch, start),
         Placed::Full => Placed::Full,
     }
 }

@@ -20,12 +20,9 @@ use Rattle.record.specs.Tokens.{recordsOf, tokensOf}
 use Rattle.output.specs.Contracts.{WritesOut}
 use Rattle.token_list.specs.Faults.{faultOf}
 use Rattle.token_list.specs.Checks.{refuse, firstFault, firstExtended}
-use Rattle.token_list.specs.Contracts.{measured, extendedAt}
-use Rattle.token_list.proofs.Faulting.{faultless}
-use Rattle.printer.specs.Contracts.{trouble, Rehearsed, PrintAnswered}
+use Rattle.printer.specs.Contracts.{trouble, Clean, PrintAnswered}
 use Rattle.printer.specs.Outcome.{PrintOutcome, printAccepted, refusedIf, unless, printChecked, printRules}
 use Rattle.answer.specs.declared.PrintAnswer.the-variants as print
-use Rattle.token_list.specs.declared.Measured.the-variants as measure
 
 -- ---- of tokens without fault
 
@@ -34,20 +31,23 @@ module _ (rules : List Rule) (tokens : List Token) (out : List ℕ) {total : ℕ
   unfolding printChecked refusedIf
   answered-long l a = rw (← e, lt-ltb _ _ l) (record { answer = a; out = refl })
 
-  module _ (short : total ≤ maxText) {k n : ℕ} (f : firstExtended rules tokens 0 ≡ extendedAt k n) where
-    pub answered-extended : k < n → {r : PrintAnswer} → r ≡ print.Refused (record { number = 21; place = k }) → PrintAnswered (printChecked rules tokens out) r out
-    unfolding printChecked refusedIf unless refuse
-    answered-extended l a = rw (← e, le-ltb _ _ short, f, lt-ltb _ _ l) (record { answer = a; out = refl })
+  module _ (short : total ≤ maxText) where
+    pub answered-extended : {f : Refusal} → firstExtended rules tokens 0 ≡ some f → {r : PrintAnswer} → r ≡ print.Refused f
+        → PrintAnswered (printChecked rules tokens out) r out
+    unfolding printChecked refusedIf unless
+    answered-extended f a = rw (← e, le-ltb _ _ short, f) (record { answer = a; out = refl })
 
-    module _ (all : n ≤ k) where
-      pub answered-short : length out < total → {r : PrintAnswer} → r ≡ print.Refused (record { number = 22; place = total }) → PrintAnswered (printChecked rules tokens out) r out
-      unfolding printChecked refusedIf unless refuse
-      answered-short l a = rw (← e, le-ltb _ _ short, f, le-ltb _ _ all, lt-ltb _ _ l) (record { answer = a; out = refl })
+    module _ (apart : firstExtended rules tokens 0 ≡ none) where
+      pub answered-short : length out < total → {r : PrintAnswer} → r ≡ print.Refused (record { number = 22; place = total })
+          → PrintAnswered (printChecked rules tokens out) r out
+      unfolding printChecked refusedIf unless
+      answered-short l a = rw (← e, le-ltb _ _ short, apart, lt-ltb _ _ l) (record { answer = a; out = refl })
 
-      pub answered-printed : total ≤ length out → (scratch : List ℕ) {exit : List ℕ} → take total scratch ≡ join tokens → exit ≡ paste out 0 (drop 0 scratch) total
-          → PrintAnswered (printChecked rules tokens out) (print.Printed total) exit
-      unfolding printChecked refusedIf unless refuse
-      answered-printed l scratch s p = rw (← e, le-ltb _ _ short, f, le-ltb _ _ all, le-ltb _ _ l) (record { answer = refl; out = p ∙ rw (s, zero-add) })
+      pub answered-printed : total ≤ length out → (scratch : List ℕ) {exit : List ℕ} → take total scratch ≡ join tokens
+          → exit ≡ paste out 0 (drop 0 scratch) total → PrintAnswered (printChecked rules tokens out) (print.Printed total) exit
+      unfolding printChecked refusedIf unless
+      answered-printed l scratch s p =
+          rw (← e, le-ltb _ _ short, apart, le-ltb _ _ l) (record { answer = refl; out = p ∙ rw (s, zero-add) })
 
 -- ---- of records
 
@@ -58,15 +58,10 @@ module _ (rules : List Rule) (records pool out : List ℕ) where
   answered-many l a = rw (lt-ltb _ _ l) (record { answer = a; out = refl })
 
   module _ (few : recordCount records ≤ maxTokens) where
-    pub answered-fault : {f : Refusal} → measure.Refused f ≡ measured (firstFault (faultOf rules pool) (recordsOf records) 0) (length (join (tokensOf records pool)))
+    pub answered-fault : {f : Refusal} → firstFault (faultOf rules pool) (recordsOf records) 0 ≡ some f
         → PrintAnswered (printRules rules records pool out) (print.Refused f) out
     unfolding printRules refusedIf unless
-    answered-fault {f} e = go (firstFault (faultOf rules pool) (recordsOf records) 0) refl e
-      where
-        go : (o : Option Refusal) → firstFault (faultOf rules pool) (recordsOf records) 0 ≡ o → measure.Refused f ≡ measured o (length (join (tokensOf records pool)))
-            → PrintAnswered (printRules rules records pool out) (print.Refused f) out
-        go none q z = let y : _≡_ {A = ℕ} 0 1 = cc in absurd (omega arith)
-        go (some g) q z = let y : f ≡ g = cc in rw (le-ltb _ _ few, q) (record { answer = ap print.Refused y; out = refl })
+    answered-fault q = rw (le-ltb _ _ few, q) (record { answer = refl; out = refl })
 
     pub answered-checked : {r : PrintAnswer} {exit : List ℕ} → firstFault (faultOf rules pool) (recordsOf records) 0 ≡ none
         → PrintAnswered (printChecked rules (tokensOf records pool) out) r exit → PrintAnswered (printRules rules records pool out) r exit
@@ -92,23 +87,21 @@ module _ (rules : List Rule) (records pool out : List ℕ) where
         go none false none z = let y : _≡_ {A = ℕ} 0 1 = cc in absurd (omega arith)
 
     -- a list with which nothing is wrong
-    module _ {scratch : List ℕ} {total : ℕ} (w : Rehearsed rules records pool scratch total) (short : total ≤ maxText) where
-      front : take total scratch ≡ join (tokensOf records pool)
-      front = rw (w .bytes short) (w .laid (w .each short) (omega (arith, w .bytes short)))
-
-      nothing-on : firstExtended rules (tokensOf records pool) 0 ≡ extendedAt 0 0
-      unfolding refuse
-      nothing-on = w .settled short .apart
-
-      clean-short : length out < total → {r : PrintAnswer} → r ≡ print.Refused (record { number = 22; place = total }) → PrintAnswered (printRules rules records pool out) r out
+    module _ {scratch : List ℕ} {total : ℕ} (w : Clean rules records pool scratch total) where
+      clean-short : length out < total → {r : PrintAnswer} → r ≡ print.Refused (record { number = 22; place = total })
+          → PrintAnswered (printRules rules records pool out) r out
       clean-short l a =
-          answered-checked (w .settled short .faultless) (answered-short rules (tokensOf records pool) out (w .bytes short) short {k = 0} {n = 0} nothing-on (omega arith) l a)
+          answered-checked (w .settled .faultless)
+          (answered-short rules (tokensOf records pool) out (w .spanned .bytes) (w .spanned .short) (w .settled .apart) l a)
 
-      clean-printed : total ≤ length out → {exit : List ℕ} → exit ≡ paste out 0 (drop 0 scratch) total → PrintAnswered (printRules rules records pool out) (print.Printed total) exit
+      clean-printed : total ≤ length out → {exit : List ℕ} → exit ≡ paste out 0 (drop 0 scratch) total
+          → PrintAnswered (printRules rules records pool out) (print.Printed total) exit
       clean-printed l e =
-          answered-checked (w .settled short .faultless) (answered-printed rules (tokensOf records pool) out (w .bytes short) short {k = 0} {n = 0} nothing-on (omega arith) l scratch front e)
+          answered-checked (w .settled .faultless)
+          (answered-printed rules (tokensOf records pool) out (w .spanned .bytes) (w .spanned .short) (w .settled .apart) l scratch (w .laid) e)
 
-      pub clean-written : {r : PrintAnswer} {exit : List ℕ} → WritesOut scratch 0 total out r exit → PrintAnswered (printRules rules records pool out) r exit
+      pub clean-written : {r : PrintAnswer} {exit : List ℕ} → WritesOut scratch 0 total out r exit
+          → PrintAnswered (printRules rules records pool out) r exit
       clean-written {r} {exit} h = go (ltb (length out) total) refl
         where
           go : (t : Bool) → ltb (length out) total ≡ t → PrintAnswered (printRules rules records pool out) r exit

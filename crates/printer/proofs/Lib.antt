@@ -1,6 +1,5 @@
 -- What the proofs of this crate share, and the laws for the layers above.
 pub mod Rehearsing
-pub mod Finding
 pub mod ByRules
 pub mod Outcomes
 pub mod Accepting

@@ -2,6 +2,7 @@
 use answer::PrintAnswer;
 use answer::Refusal;
 use book::Book;
+use crate::rehearsal::Rehearsed;
 ghost use mathlib.Core.Path.{_≡_};
 ghost use mathlib.Core.List.{List};
 ghost use lib.ListN.{length};
@@ -30,17 +31,16 @@ pub fn print_rules(
     if Book::TOKENS < records.len() / 10 {
         return output::refused(Refusal::TOO_MANY_TOKENS, 0);
     }
-    let total = crate::rehearsal::rehearse(headers, states, edges, rules, records, pool, scratch);
-    if Book::TEXT < total {
-        return PrintAnswer::Refused(crate::rehearsal::find_refusal(
+    match crate::rehearsal::rehearse(headers, states, edges, rules, records, pool, scratch) {
+        Rehearsed::Clean(total) => output::write(scratch, 0, total, out),
+        Rehearsed::Wrong(found) => PrintAnswer::Refused(crate::rehearsal::find_refusal(
             headers,
             states,
             edges,
             rules,
             records,
             pool,
-            scratch,
-        ));
+            found,
+        )),
     }
-    output::write(scratch, 0, total, out)
 }

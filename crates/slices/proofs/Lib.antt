@@ -2,6 +2,7 @@
 pub mod Tests
 pub mod Arrays
 pub mod Locals
+pub mod Passes
 pub mod Opening
 pub mod Starting
 pub mod Storing

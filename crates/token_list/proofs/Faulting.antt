@@ -148,18 +148,18 @@ module _ (rules : List Rule) (pool : List ℕ) (r : TokenRecord) where
       fault-none e = rw (le-ltb _ _ in-pool, known, e)
 
 -- what a token without fault is like
-pub record Faultless (rules : List Rule) (pool : List ℕ) (r : TokenRecord) : Type 0 where
+pub record Fine (rules : List Rule) (pool : List ℕ) (r : TokenRecord) : Type 0 where
   pub in-pool : r .place + r .len ≤ length pool
   pub known : tagged (r .tag) rules ≡ true
   pub alone : aloneIn rules (r .tag) (bytesIn pool r) ≡ true
 
-pub faultless : (rules : List Rule) (pool : List ℕ) (r : TokenRecord) → faultOf rules pool r ≡ 0 → Faultless rules pool r
+pub fine : (rules : List Rule) (pool : List ℕ) (r : TokenRecord) → faultOf rules pool r ≡ 0 → Fine rules pool r
 unfolding faultOf
-faultless rules pool r e = go (ltb (length pool) (r .place + r .len)) refl (tagged (r .tag) rules) refl (aloneIn rules (r .tag) (bytesIn pool r)) refl e
+fine rules pool r e = go (ltb (length pool) (r .place + r .len)) refl (tagged (r .tag) rules) refl (aloneIn rules (r .tag) (bytesIn pool r)) refl e
   where
     go : (a : Bool) → ltb (length pool) (r .place + r .len) ≡ a → (b : Bool) → tagged (r .tag) rules ≡ b
         → (d : Bool) → aloneIn rules (r .tag) (bytesIn pool r) ≡ d
-        → _≡_ {A = ℕ} (if a 17 (if (not b) 18 (if (not d) 19 0))) 0 → Faultless rules pool r
+        → _≡_ {A = ℕ} (if a 17 (if (not b) 18 (if (not d) 19 0))) 0 → Fine rules pool r
     go true p b q d s z = absurd (omega arith)
     go false p false q d s z = absurd (omega arith)
     go false p true q false s z = absurd (omega arith)

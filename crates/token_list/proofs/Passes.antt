@@ -13,20 +13,18 @@ use lib.Seq.{paste, length-paste, take-paste, drop-paste, drop-drop, drop-at, le
 use borrow.Author.Tests.{lt-ltb, le-ltb, eqb-true, ne-eqb}
 use Rattle.automaton.specs.Choice.{All}
 use Rattle.automaton.specs.Rule.{Rule}
-use Rattle.longest_match.specs.Lexer.{firstMatch, join}
-use Rattle.longest_match.specs.Contracts.{Chooses}
+use Rattle.longest_match.specs.Lexer.{join}
 use Rattle.longest_match.proofs.First.{nothing}
 use Rattle.record.specs.Records.{recordCount}
 use Rattle.record.specs.declared.TokenRecord.{TokenRecord}
 use Rattle.record.specs.Tokens.{recordAt, recordsFrom, recordsOf, bytesIn, tokensIn, tokensOf}
 use Rattle.record.specs.Contracts.{InPool}
 use Rattle.token_list.specs.Faults.{faultOf}
-use Rattle.token_list.specs.Checks.{refuse, firstFault, firstExtended}
-use Rattle.token_list.specs.Contracts.{measured, Fitting, Joined, Laid, extendedAt}
-use Rattle.token_list.proofs.Alone.{alone-first}
-use Rattle.token_list.proofs.Faulting.{Faultless, faultless, bytes-length}
-use Rattle.token_list.proofs.Extended.{read-no-more, read-on}
-use Rattle.token_list.specs.declared.Measured.the-variants as measure
+use Rattle.token_list.specs.Checks.{refuse, firstFault}
+use Rattle.token_list.specs.Contracts.{checkedOf, Fitting, Joined}
+use Rattle.token_list.proofs.Faulting.{fine, bytes-length}
+use Rattle.token_list.specs.declared.Checked.{Checked}
+use Rattle.token_list.specs.declared.Checked.the-variants as checked
 
 -- ---- the records from number k on
 
@@ -55,46 +53,34 @@ record-at P records h k l = (subst (All P) (left-next records k l) (from k (omeg
         let q : j < recordCount records = omega arith in
         subst (λ (i : ℕ). All P (left records i)) (add-one j) ((subst (All P) (left-next records j q) (from j (omega arith))) .1)
 
--- ---- the first fault, and the number of bytes
+-- ---- the first fault
 
--- the first k tokens have no fault, and `total` bytes
-pub record Measuring (rules : List Rule) (records pool : List ℕ) (total k : ℕ) : Type 0 where
+-- the first k tokens have no fault
+pub record Passing (fault : TokenRecord → ℕ) (records : List ℕ) (k : ℕ) : Type 0 where
   pub within : k ≤ recordCount records
-  pub few : total ≤ k * 4294967295
-  pub first : firstFault (faultOf rules pool) (recordsOf records) 0 ≡ firstFault (faultOf rules pool) (left records k) k
-  pub sum : length (join (tokensOf records pool)) ≡ total + length (join (tokensIn pool (left records k)))
+  pub first : firstFault fault (recordsOf records) 0 ≡ firstFault fault (left records k) k
 
-pub measuring-start : (rules : List Rule) (records pool : List ℕ) → Measuring rules records pool 0 0
-measuring-start rules records pool =
-    record { within = omega arith; few = omega arith; first = rw left-start; sum = rw left-start (omega arith) }
+pub passing-start : (fault : TokenRecord → ℕ) (records : List ℕ) → Passing fault records 0
+passing-start fault records = record { within = omega arith; first = rw left-start }
 
-module _ {rules : List Rule} {records pool : List ℕ} {total k : ℕ} (w : Measuring rules records pool total k) where
-  module _ (more : k < recordCount records) {r : TokenRecord} (e : r ≡ recordAt records k) {number : ℕ} (f : number ≡ faultOf rules pool r) where
-    fault-here : faultOf rules pool (recordAt records k) ≡ number
-    fault-here = ap (faultOf rules pool) (sym e) ∙ sym f
+module _ {fault : TokenRecord → ℕ} {records : List ℕ} {k : ℕ} (w : Passing fault records k) where
+  module _ (more : k < recordCount records) {r : TokenRecord} (e : r ≡ recordAt records k) {number : ℕ} (f : number ≡ fault r) where
+    fault-here : fault (recordAt records k) ≡ number
+    fault-here = ap fault (sym e) ∙ sym f
 
-    pub measuring-refused : (number ≡ 0 → ⊥) → measure.Refused (record { number = number; place = k })
-        ≡ measured (firstFault (faultOf rules pool) (recordsOf records) 0) (length (join (tokensOf records pool)))
+    pub passing-refused : (number ≡ 0 → ⊥) → {c : Checked} → c ≡ checked.Refused (record { number = number; place = k })
+        → c ≡ checkedOf (firstFault fault (recordsOf records) 0)
     unfolding firstFault refuse
-    measuring-refused ne = rw (w .first, left-next records k more, fault-here, ne-eqb number 0 ne)
+    passing-refused ne a = a ∙ rw (w .first, left-next records k more, fault-here, ne-eqb number 0 ne)
 
-    pub measuring-next : number ≡ 0 → r .len < 4294967296 → Measuring rules records pool (total + r .len) (k + 1)
-    unfolding firstFault refuse tokensIn
-    measuring-next z small =
-        let t = faultless rules pool r (sym f ∙ z) in
-        let l : length (bytesIn pool (recordAt records k)) ≡ r .len = ap (λ (q : TokenRecord). length (bytesIn pool q)) (sym e) ∙ bytes-length pool r (t .in-pool) in
-        let s = rw (left-next records k more) at (w .sum) in
-        record {
-          within = omega arith;
-          few = omega (arith, w .few);
-          first = w .first ∙ rw (left-next records k more, fault-here, z, add-one);
-          sum = omega (arith, length-append (bytesIn pool (recordAt records k)) (join (tokensIn pool (left records (k + 1)))));
-        }
+    pub passing-next : number ≡ 0 → Passing fault records (k + 1)
+    unfolding firstFault refuse
+    passing-next z =
+        record { within = omega arith; first = w .first ∙ rw (left-next records k more, fault-here, z, add-one) }
 
-  pub measuring-end : recordCount records ≤ k → measure.Bytes total
-      ≡ measured (firstFault (faultOf rules pool) (recordsOf records) 0) (length (join (tokensOf records pool)))
-  unfolding firstFault tokensIn
-  measuring-end l = rw (w .first, w .sum, left-end records k l, add-zero)
+  pub passing-end : recordCount records ≤ k → checked.Passed ≡ checkedOf (firstFault fault (recordsOf records) 0)
+  unfolding firstFault
+  passing-end l = rw (w .first, left-end records k l)
 
 -- no fault in a list: none at its front and none behind
 pub faultless-front : (fault : TokenRecord → ℕ) (r : TokenRecord) (rs : List TokenRecord) (k : ℕ) → firstFault fault (r ∷ rs) k ≡ none
@@ -111,7 +97,7 @@ pub faultless-pool : (rules : List Rule) (pool : List ℕ) (rs : List TokenRecor
 faultless-pool rules pool [] k e = tt
 faultless-pool rules pool (r ∷ rs) k e =
     let f = faultless-front (faultOf rules pool) r rs k e in
-    (record { in-pool = faultless rules pool r (f .0) .in-pool }, faultless-pool rules pool rs (suc k) (f .1))
+    (record { in-pool = fine rules pool r (f .0) .in-pool }, faultless-pool rules pool rs (suc k) (f .1))
 
 -- ---- joining
 
@@ -176,72 +162,3 @@ module _ {records pool entry out : List ℕ} {at k : ℕ} (w : Joining records p
       let r = w .room in
       let n : length (join (tokensOf records pool)) ≡ at = ap length b ∙ length-take-le at out (omega (arith, w .room, w .same)) in
       record { written = rw (n, b, ← (w .kept)) (sym (take-append-drop at out)) }
-
--- ---- the first token that is read on
-
--- the first k tokens, `at` bytes, are not read on
-pub record Extending (rules : List Rule) (records pool text : List ℕ) (at k : ℕ) : Type 0 where
-  pub within : at ≤ length text
-  pub few : k ≤ recordCount records
-  pub behind : drop at text ≡ join (tokensIn pool (left records k))
-  pub faultless : firstFault (faultOf rules pool) (left records k) k ≡ none
-  pub first : firstExtended rules (tokensOf records pool) 0 ≡ firstExtended rules (tokensIn pool (left records k)) k
-
-pub extending-start : {rules : List Rule} {records pool text : List ℕ} → Laid rules records pool text → Extending rules records pool text 0 0
-extending-start {records = records} l =
-    record { within = omega arith; few = omega arith; behind = rw left-start at (l .written); faultless = rw left-start at (l .faultless); first = rw left-start }
-
-module _ {rules : List Rule} {records pool text : List ℕ} {at k : ℕ} (w : Extending rules records pool text at k) where
-  module _ (empty : firstMatch rules [] ≡ none) (more : k < recordCount records) {r : TokenRecord} (e : r ≡ recordAt records k)
-      {rule len : ℕ} (c : Chooses rules (drop at text) rule len) where
-    front-is : left records k ≡ r ∷ left records (k + 1)
-    front-is = left-next records k more ∙ ap (λ (q : TokenRecord). q ∷ left records (k + 1)) (sym e)
-
-    fine : (faultOf rules pool r ≡ 0) × (firstFault (faultOf rules pool) (left records (k + 1)) (suc k) ≡ none)
-    fine = faultless-front (faultOf rules pool) r (left records (k + 1)) k (rw front-is at (w .faultless))
-
-    token-fine : Faultless rules pool r
-    token-fine = faultless rules pool r (fine .0)
-
-    split : drop at text ≡ bytesIn pool r ++ join (tokensIn pool (left records (k + 1)))
-    unfolding tokensIn
-    split = rw front-is at (w .behind)
-
-    long : length (bytesIn pool r) ≡ r .len
-    long = bytes-length pool r (token-fine .in-pool)
-
-    chosen-here : Chooses rules (bytesIn pool r ++ join (tokensIn pool (left records (k + 1)))) rule len
-    chosen-here = subst (λ (x : List ℕ). Chooses rules x rule len) split c
-
-    pub extending-found : (len ≡ r .len → ⊥) → firstExtended rules (tokensOf records pool) 0 ≡ extendedAt k (recordCount records)
-    unfolding firstExtended tokensIn refuse
-    extending-found ne =
-        w .first ∙ rw (
-          front-is,
-          lt-ltb k (recordCount records) more,
-          read-on rules (bytesIn pool r) (join (tokensIn pool (left records (k + 1)))) (r .tag) empty (alone-first rules (r .tag) (bytesIn pool r) (token-fine .alone)) chosen-here (λ q. ne (q ∙ long)),
-        )
-
-    pub extending-within : at + r .len ≤ length text
-    extending-within =
-        let l = simp (length-drop, length-append) at (ap length split) in
-        omega (arith, w .within, long)
-
-    pub extending-next : len ≡ r .len → Extending rules records pool text (at + r .len) (k + 1)
-    unfolding firstExtended tokensIn refuse
-    extending-next q =
-        record {
-          within = extending-within;
-          few = omega arith;
-          behind = sym (drop-drop (r .len) at text) ∙ rw split (drop-at (bytesIn pool r) (join (tokensIn pool (left records (k + 1)))) (r .len) long);
-          faultless = ap (firstFault (faultOf rules pool) (left records (k + 1))) (add-one k) ∙ fine .1;
-          first = w .first ∙ rw (
-            front-is,
-            read-no-more rules (bytesIn pool r) (join (tokensIn pool (left records (k + 1)))) (r .tag) empty (alone-first rules (r .tag) (bytesIn pool r) (token-fine .alone)) chosen-here (q ∙ sym long),
-          )
-              (ap (firstExtended rules (tokensIn pool (left records (k + 1)))) (sym (add-one k)));
-        }
-
-  pub extending-end : recordCount records ≤ k → firstExtended rules (tokensOf records pool) 0 ≡ extendedAt k (recordCount records)
-  unfolding firstExtended tokensIn refuse
-  extending-end l = w .first ∙ rw (left-end records k l, le-ltb k (recordCount records) l)

@@ -1,4 +1,4 @@
--- The loops of `extent` and `read_back`: what holds at their heads, how a turn keeps it, and how they end. Assumes nothing.
+-- The loops of `measure` and `read_back`: what holds at their heads, how a turn keeps it, and how they end. Assumes nothing.
 use mathlib.Core.Path.{_≡_, refl, sym, ap, _∙_, subst}
 use mathlib.Core.Bool.{Bool, true, false}
 use mathlib.Core.Option.{Option, none, some}
@@ -24,13 +24,17 @@ use Rattle.record.specs.Tokens.{recordAt, recordsOf, bytesIn, tokensIn, tokensO
 use Rattle.record.specs.Contracts.{InPool}
 use Rattle.token_list.specs.Faults.{aloneIn, faultOf}
 use Rattle.token_list.proofs.Alone.{alone-first}
-use Rattle.token_list.proofs.Faulting.{Faultless, faultless, bytes-length, fault-none, front-other, front-same}
+use Rattle.token_list.proofs.Faulting.{Fine, fine, bytes-length, fault-none, front-other, front-same}
 use Rattle.token_list.specs.Checks.{refuse, firstFault, firstExtended}
 use Rattle.token_list.proofs.Extended.{matched-long, read-no-more, read-on}
 use Rattle.token_list.proofs.Passes.{left, left-start, left-next, left-end, record-at, faultless-front}
-use Rattle.token_list.specs.Contracts.{Settled, Spans, Spread, Tells}
+use Rattle.token_list.specs.Contracts.{Spanned, Spans, Spread, Faultless, ReadsBack}
+use Rattle.token_list.specs.declared.readback.Extent.the-variants as extent
 
 -- ---- how many bytes
+
+beyond-bytes : {n : ℕ} → extent.Beyond ≡ extent.Bytes n → ⊥
+beyond-bytes e = let z : _≡_ {A = ℕ} 0 1 = cc in omega arith
 
 -- the first k tokens lie in the pool and have `total` bytes
 pub record Spanning (records pool : List ℕ) (total k : ℕ) : Type 0 where
@@ -50,12 +54,11 @@ spanning-start records pool =
 
 module _ {records pool : List ℕ} {total k : ℕ} (w : Spanning records pool total k) where
   module _ (more : k < recordCount records) {r : TokenRecord} (e : r ≡ recordAt records k) where
-    pub spanning-outside : length pool < r .place + r .len → Spans records pool (maxText + 1)
+    pub spanning-outside : length pool < r .place + r .len → Spans records pool extent.Beyond
     spanning-outside l =
         record {
-          each = λ s. absurd (omega arith);
-          bytes = λ s. absurd (omega arith);
-          long = λ s h. let i = subst (InPool pool) (sym e) (record-at (InPool pool) records h k more) in absurd (omega (arith, i .in-pool));
+          fits = λ n q. absurd (beyond-bytes q);
+          beyond = λ _ h. let i = subst (InPool pool) (sym e) (record-at (InPool pool) records h k more) in absurd (omega (arith, i .in-pool));
         }
 
     module _ (in-pool : r .place + r .len ≤ length pool) where
@@ -75,33 +78,23 @@ module _ {records pool : List ℕ} {total k : ℕ} (w : Spanning records pool to
             sum = longer;
           }
 
-      pub spanning-long : maxText < total + r .len → Spans records pool (total + r .len)
-      spanning-long l =
-          record { each = λ s. absurd (omega arith); bytes = λ s. absurd (omega arith); long = λ s h. omega (arith, longer) }
+      pub spanning-long : maxText < total + r .len → Spans records pool extent.Beyond
+      spanning-long l = record { fits = λ n q. absurd (beyond-bytes q); beyond = λ _ h. omega (arith, longer) }
 
-  pub spanning-end : recordCount records ≤ k → Spans records pool total
+  spanned : recordCount records ≤ k → Spanned records pool total
   unfolding tokensIn
-  spanning-end l =
+  spanned l =
       let s = rw (left-end records k l) at (w .sum) in
+      record { each = w .inside (rw (left-end records k l) tt); bytes = omega arith; short = w .short }
+
+  pub spanning-end : recordCount records ≤ k → Spans records pool (extent.Bytes total)
+  spanning-end l =
       record {
-        each = λ _. w .inside (rw (left-end records k l) tt);
-        bytes = λ _. omega arith;
-        long = λ m _. absurd (omega (arith, w .short));
+        fits = λ n q. let e : total ≡ n = cc in subst (Spanned records pool) e (spanned l);
+        beyond = λ q. absurd (beyond-bytes (sym q));
       }
 
 -- ---- reading back
-
-pub tells-no : {rules : List Rule} {records pool : List ℕ} → (Settled rules records pool → ⊥) → Tells rules records pool false
-tells-no h = record { yes = λ e. clash e refl; no = λ _ s. h s }
-
-pub tells-yes : {rules : List Rule} {records pool : List ℕ} → Settled rules records pool → Tells rules records pool true
-tells-yes s = record { yes = λ _. s; no = λ e. clash refl e }
-
--- a refusal that is none has a test that fails
-untested : (b : Bool) (number place : ℕ) (next : Option Refusal) → refuse b number place next ≡ none → b ≡ false
-unfolding refuse
-untested true number place next e = nothing e refl
-untested false number place next e = refl
 
 -- the first k tokens, `at` bytes, are alone and not read on
 pub record Retracing (rules : List Rule) (records pool text : List ℕ) (at k : ℕ) : Type 0 where
@@ -146,6 +139,10 @@ module _ {rules : List Rule} {records pool text : List ℕ} {at k : ℕ} (w : Re
         let l = simp (length-drop, length-append) at (ap length split) in
         omega (arith, w .within, long)
 
+    here-first : (Faultless rules records pool → firstExtended rules (tokensOf records pool) 0 ≡ some (record { number = 21; place = k }))
+        → ReadsBack rules records pool k
+    here-first f = record { settled = λ l. absurd (omega arith); first = λ _. f }
+
     module _ {rank rule len : ℕ} (ranks : Ranks rules (r .tag) rank) (c : Chooses rules (drop at text) rule len) where
       chosen-here : Chooses rules (bytesIn pool r ++ join (tokensIn pool (left records (k + 1)))) rule len
       chosen-here = subst (λ (x : List ℕ). Chooses rules x rule len) split c
@@ -177,31 +174,45 @@ module _ {rules : List Rule} {records pool text : List ℕ} {at k : ℕ} (w : Re
                   (ap (firstExtended rules (tokensIn pool (left records (k + 1)))) (sym (add-one k)));
             }
 
-      -- of a settled list nothing else is chosen
-      module _ (s : Settled rules records pool) where
-        token-fine : Faultless rules pool r
+      -- if no token is at fault, this one is chosen, or read on
+      module _ (none-at-fault : Faultless rules records pool) where
+        token-fine : Fine rules pool r
         token-fine =
-            faultless rules pool r
-            (faultless-front (faultOf rules pool) r (left records (k + 1)) k (rw front-is at (sym (w .faults) ∙ s .faultless)) .0)
+            fine rules pool r
+            (faultless-front (faultOf rules pool) r (left records (k + 1)) k (rw front-is at (sym (w .faults) ∙ none-at-fault)) .0)
 
         matched : firstMatch rules (bytesIn pool r) ≡ some (r .tag)
         matched = alone-first rules (r .tag) (bytesIn pool r) (token-fine .alone)
 
-        not-on : extends rules (bytesIn pool r) (join (tokensIn pool (left records (k + 1)))) ≡ false
-        unfolding firstExtended tokensIn
-        not-on = untested _ 21 k _ (rw front-is at (sym (w .first) ∙ s .apart))
+        reading-on : (len ≡ r .len → ⊥) → firstExtended rules (tokensOf records pool) 0 ≡ some (record { number = 21; place = k })
+        unfolding firstExtended tokensIn refuse
+        reading-on ne =
+            w .first ∙ rw (front-is,
+            read-on rules (bytesIn pool r) (join (tokensIn pool (left records (k + 1)))) (r .tag) empty matched chosen-here (λ q. ne (q ∙ long)))
 
-        pub settled-all : (len ≡ r .len → ⊥) → ⊥
-        settled-all ne = clash (read-on rules (bytesIn pool r) (join (tokensIn pool (left records (k + 1)))) (r .tag) empty matched chosen-here (λ q. ne (q ∙ long))) not-on
+        none-chosen : len ≡ 0 → len ≡ r .len → ⊥
+        none-chosen z q = let l = matched-long rules (bytesIn pool r) (r .tag) empty matched in omega (arith, long)
 
-        pub settled-some : len ≡ 0 → ⊥
-        settled-some z = settled-all (λ q. let l = matched-long rules (bytesIn pool r) (r .tag) empty matched in omega (arith, long))
-
-        pub settled-same : (len ≡ 0 → ⊥) → len ≡ r .len → (rule ≡ rank → ⊥) → ⊥
-        settled-same some-byte all ne =
+        another-rule : (len ≡ 0 → ⊥) → len ≡ r .len → (rule ≡ rank → ⊥) → ⊥
+        another-rule some-byte all ne =
             clash (token-fine .alone)
-            (front-other ranks (λ z. clash (token-fine .known) (ranks-none ranks z)) (bytesIn pool r) (join (tokensIn pool (left records (k + 1)))) chosen-here some-byte (all ∙ sym long) ne)
+            (front-other ranks (λ z. clash (token-fine .known) (ranks-none ranks z)) (bytesIn pool r)
+            (join (tokensIn pool (left records (k + 1)))) chosen-here some-byte (all ∙ sym long) ne)
 
-  pub retracing-end : recordCount records ≤ k → Settled rules records pool
+      -- the token is not what is chosen
+      pub retracing-none : len ≡ 0 → ReadsBack rules records pool k
+      retracing-none z = here-first (λ f. reading-on f (none-chosen f z))
+
+      pub retracing-longer : (len ≡ r .len → ⊥) → ReadsBack rules records pool k
+      retracing-longer ne = here-first (λ f. reading-on f ne)
+
+      pub retracing-other : (len ≡ 0 → ⊥) → len ≡ r .len → (rule ≡ rank → ⊥) → ReadsBack rules records pool k
+      retracing-other some-byte all ne = here-first (λ f. absurd (another-rule f some-byte all ne))
+
+  pub retracing-end : recordCount records ≤ k → ReadsBack rules records pool k
   unfolding firstFault firstExtended tokensIn
-  retracing-end l = record { faultless = w .faults ∙ rw (left-end records k l); apart = w .first ∙ rw (left-end records k l) }
+  retracing-end l =
+      record {
+        settled = λ _. record { faultless = w .faults ∙ rw (left-end records k l); apart = w .first ∙ rw (left-end records k l) };
+        first = λ m. absurd (omega arith);
+      }

@@ -10,25 +10,7 @@ ghost use Rattle.automaton.specs.Rule.{Rule};
 ghost use Rattle.longest_match.specs.Contracts.{Holds, Held, Chooses};
 ghost use Rattle.token_list.specs.Faults.{faultOf};
 
-// What is chosen of `len` bytes of the pool from `place` on, taken as a text.
-pub fn choose_part(
-    headers: &[u64],
-    states: &[u16],
-    edges: &[u64],
-    rules: usize,
-    pool: &[u8],
-    place: usize,
-    len: usize,
-) -> Choice
-    requires { ⌜ Held (now headers) (now states) (now edges) rules ⌝ }
-    requires { ⌜ place + len ≤ length (now pool) ⌝ }
-    ensures { λ r. ⌜ ((rs : List Rule) → Holds (now (headers .entry)) (now (states .entry)) (now (edges .entry)) rules rs → Chooses rs (take len (drop place (now (pool .entry)))) (r .rule) (r .len)) ⌝ }
-{
-    let end = place + len;
-    longest_match::choose(headers, states, edges, rules, &pool[place..end])
-}
-
-// The number that refuses a token, 0 for none. Its place and length may be any numbers.
+// The number that refuses a token, 0 for none.
 pub fn token_fault(
     headers: &[u64],
     states: &[u16],
@@ -38,21 +20,19 @@ pub fn token_fault(
     token: TokenRecord,
 ) -> u8
     requires { ⌜ Held (now headers) (now states) (now edges) rules ⌝ }
-    ensures { λ r. ⌜ ((rs : List Rule) → Holds (now (headers .entry)) (now (states .entry)) (now (edges .entry)) rules rs → r ≡ faultOf rs (now (pool .entry)) token) ⌝ }
+    ensures { λ r. ⌜ ((rs : List Rule) → Holds (now (headers .entry)) (now (states .entry)) (now (edges .entry)) rules rs
+        → r ≡ faultOf rs (now (pool .entry)) token) ⌝ }
 {
-    let place = token.place;
-    let len = token.len;
-    if pool.len() < place {
+    let place = token.place as usize;
+    let len = token.len as usize;
+    if pool.len() < place + len {
         return Refusal::PAST_THE_POOL;
     }
-    if pool.len() - place < len {
-        return Refusal::PAST_THE_POOL;
-    }
-    let rule = book::find_tag(headers, rules, token.tag);
+    let rule = book::find_tag(headers, rules, token.tag as u64);
     if rule == rules {
         return Refusal::UNKNOWN_TAG;
     }
-    let chosen = choose_part(headers, states, edges, rules, pool, place, len);
+    let chosen = longest_match::choose(headers, states, edges, rules, pool, place, place + len);
     if chosen.len == 0 {
         return Refusal::NOT_ALONE;
     }

@@ -5,10 +5,15 @@ ghost use Prim.Native.Nat.{ℕ, _≤_};
 ghost use lib.ListN.{length, take};
 ghost use Rattle.automaton.specs.Rule.{Rule};
 ghost use Rattle.longest_match.specs.Contracts.{Holds, Held};
-ghost use Rattle.token_list.specs.Contracts.{Spans, Spread, Spreads, Tells};
+ghost use Rattle.token_list.specs.Contracts.{Spans, Spread, Spreads, ReadsBack};
 
-// How many bytes the tokens have. Where they are too many to be written, or one lies outside the pool, a number above the limit.
-pub fn extent(records: &[u8], pool: &[u8]) -> usize
+// How many bytes the tokens have; or that one lies outside the pool, or that they are too many to be written.
+pub enum Extent {
+    Bytes(usize),
+    Beyond,
+}
+
+pub fn measure(records: &[u8], pool: &[u8]) -> Extent
     ensures { λ r. ⌜ Spans (now (records .entry)) (now (pool .entry)) r ⌝ }
 {
     let count = records.len() / 10;
@@ -16,21 +21,21 @@ pub fn extent(records: &[u8], pool: &[u8]) -> usize
     let mut k = 0;
     while k < count {
         let token = record::read_record(records, k);
-        let place = token.place;
-        let len = token.len;
-        if pool.len() < place + len {
-            return Book::TEXT + 1;
+        let len = token.len as usize;
+        if pool.len() < token.place as usize + len {
+            return Extent::Beyond;
         }
         total += len;
         if Book::TEXT < total {
-            return total;
+            return Extent::Beyond;
         }
         k += 1;
     }
-    total
+    Extent::Bytes(total)
 }
 
-// Whether each token is what is chosen at its place of the text, which is their bytes joined.
+// The number of the first token that is not what is chosen at its place of the tokens' bytes joined, the first `total` bytes of
+// `text`; the number of tokens where each is.
 pub fn read_back(
     headers: &[u64],
     states: &[u16],
@@ -38,50 +43,33 @@ pub fn read_back(
     rules: usize,
     records: &[u8],
     text: &[u8],
-) -> bool
+    total: usize,
+) -> usize
     requires { ⌜ Held (now headers) (now states) (now edges) rules ⌝ }
-    requires { ⌜ Spreads (now records) (now text) ⌝ }
+    requires { ⌜ total ≤ length (now text) ⌝ }
+    requires { ⌜ Spreads (now records) (take total (now text)) ⌝ }
     ensures { λ r. ⌜ ((rs : List Rule) (pool : List ℕ) → Holds (now (headers .entry)) (now (states .entry)) (now (edges .entry)) rules rs
-        → Spread (now (records .entry)) pool (now (text .entry)) → Tells rs (now (records .entry)) pool r) ⌝ }
+        → Spread (now (records .entry)) pool (take total (now (text .entry))) → ReadsBack rs (now (records .entry)) pool r) ⌝ }
 {
     let count = records.len() / 10;
     let mut at = 0;
     let mut k = 0;
     while k < count {
         let token = record::read_record(records, k);
-        let len = token.len;
-        let rule = book::find_tag(headers, rules, token.tag);
-        let chosen = longest_match::choose_at(headers, states, edges, rules, text, at);
+        let len = token.len as usize;
+        let rule = book::find_tag(headers, rules, token.tag as u64);
+        let chosen = longest_match::choose(headers, states, edges, rules, text, at, total);
         if chosen.len == 0 {
-            return false;
+            return k;
         }
         if chosen.len != len {
-            return false;
+            return k;
         }
         if chosen.rule != rule {
-            return false;
+            return k;
         }
         at += len;
         k += 1;
     }
-    true
-}
-
-// The same of the first `total` bytes of the scratch.
-pub fn read_back_within(
-    headers: &[u64],
-    states: &[u16],
-    edges: &[u64],
-    rules: usize,
-    records: &[u8],
-    scratch: &[u8],
-    total: usize,
-) -> bool
-    requires { ⌜ Held (now headers) (now states) (now edges) rules ⌝ }
-    requires { ⌜ total ≤ length (now scratch) ⌝ }
-    requires { ⌜ Spreads (now records) (take total (now scratch)) ⌝ }
-    ensures { λ r. ⌜ ((rs : List Rule) (pool : List ℕ) → Holds (now (headers .entry)) (now (states .entry)) (now (edges .entry)) rules rs
-        → Spread (now (records .entry)) pool (take total (now (scratch .entry))) → Tells rs (now (records .entry)) pool r) ⌝ }
-{
-    read_back(headers, states, edges, rules, records, &scratch[..total])
+    k
 }

@@ -8,14 +8,14 @@ use Rattle.output.proofs.Placing.{both-full, both-put}
 use Rattle.output.proofs.put_both.Statement.{statement}
 use Rattle.output.proofs.put_both.Tie as tie
 
-put-before-requires : tie.Need-put-before-requires
-put-before-requires c κs = (c .before .before .before .pre .1 .0 .in-pool, c .before .before .before .pre .1 .1)
+put-token-requires : tie.Need-put-token-requires
+put-token-requires c κs = (c .before .before .before .pre .1 .0, c .before .before .before .pre .1 .1)
 
 enum-known-start : tie.Need-enum-known-start
 enum-known-start c = search needs
 
-put-before-requires-2 : tie.Need-put-before-requires-2
-put-before-requires-2 c κs = (c .before .before .before .before .before .before .before .before .before .before .pre .0 .in-pool, c .before .before .before .before .before .before .put-before .ensures .at _ (c .before .before .start .given .1) .within)
+put-token-requires-2 : tie.Need-put-token-requires-2
+put-token-requires-2 c κs = (c .before .before .before .before .before .before .before .before .before .before .pre .0, c .before .before .before .before .before .before .put-token .ensures .at _ (c .before .before .start .given .1) .within)
 
 enum-told : tie.Need-enum-told
 enum-told c = search needs
@@ -24,21 +24,21 @@ same-length : tie.Need-same-length
 same-length c = search needs
 
 returns : tie.Need-returns
-returns c = both-put (bytesIn (now (c .before .before .before .before .before .before .before .before .before .before .before .before .before .args .pool)) (c .before .before .before .before .before .before .before .before .before .before .before .before .before .args .token)) (bytesIn (now (c .before .before .before .before .before .before .before .before .before .before .before .before .before .args .pool)) (c .before .before .before .before .before .before .before .before .before .before .before .before .before .args .separator) ++ drop (c .before .before .before .before .before .before .before .before .before .before .before .before .before .args .at) (now (c .before .before .before .before .before .before .before .before .before .before .before .before .before .args .scratch))) (c .before .before .before .before .before .before .before .before .before .put-before .ensures .at _ (c .before .before .before .before .before .start .given .1)) (c .before .before .put-before2 .ensures)
+returns c = both-put (bytesIn (now (c .before .before .before .before .before .before .before .before .before .before .before .before .before .args .pool)) (c .before .before .before .before .before .before .before .before .before .before .before .before .before .args .token)) (bytesIn (now (c .before .before .before .before .before .before .before .before .before .before .before .before .before .args .pool)) (c .before .before .before .before .before .before .before .before .before .before .before .before .before .args .separator) ++ drop (c .before .before .before .before .before .before .before .before .before .before .before .before .before .args .at) (now (c .before .before .before .before .before .before .before .before .before .before .before .before .before .args .scratch))) (c .before .before .before .before .before .before .before .before .before .put-token .ensures .at _ (c .before .before .before .before .before .start .given .1)) (c .before .before .put-token2 .ensures)
 
 same-length-2 : tie.Need-same-length-2
 same-length-2 c = search needs
 
 returns-2 : tie.Need-returns-2
-returns-2 c = both-full (bytesIn (now (c .before .before .before .before .before .before .before .before .args .pool)) (c .before .before .before .before .before .before .before .before .args .token)) (bytesIn (now (c .before .before .before .before .before .before .before .before .args .pool)) (c .before .before .before .before .before .before .before .before .args .separator)) (drop (c .before .before .before .before .before .before .before .before .args .at) (now (c .before .before .before .before .before .before .before .before .args .scratch))) (c .enum-told .given .1) (c .before .before .before .before .put-before .ensures)
+returns-2 c = both-full (bytesIn (now (c .before .before .before .before .before .before .before .before .args .pool)) (c .before .before .before .before .before .before .before .before .args .token)) (bytesIn (now (c .before .before .before .before .before .before .before .before .args .pool)) (c .before .before .before .before .before .before .before .before .args .separator)) (drop (c .before .before .before .before .before .before .before .before .args .at) (now (c .before .before .before .before .before .before .before .before .args .scratch))) (c .enum-told .given .1) (c .before .before .before .before .put-token .ensures)
 
 pub put-both-spec : {M : Type 1} → statement M
 put-both-spec =
     tie.close
     (tie.spec
-    put-before-requires
+    put-token-requires
     enum-known-start
-    put-before-requires-2
+    put-token-requires-2
     enum-told
     same-length
     returns

@@ -1,6 +1,7 @@
 -- `join_tokens`: the invariant is `Joining`. Assumes nothing.
 use Prim.Native.Nat.{_-_}
 use native.Mathlib.Omega.{arith}
+use borrow.Author.Needs.{needs}
 use Rattle.record.specs.Records.{recordCount}
 use Rattle.token_list.proofs.Passes.{Joining, joining-start, joining-pool, joining-room, joining-next, joining-end}
 use Rattle.token_list.proofs.join_tokens.Statement.{statement}
@@ -18,20 +19,26 @@ loop-holds c = joining-start _ _ _ (c .before .before .before .pre)
 read-record-requires : tie.Need-read-record-requires Inv-loop μ-loop
 read-record-requires c κs = omega (arith, c .loop-test .taken)
 
+cast-len : tie.Need-cast-len Inv-loop μ-loop
+cast-len c = search needs
+
+cast-copy : tie.Need-cast-copy Inv-loop μ-loop
+cast-copy c = search needs
+
 copy-requires : tie.Need-copy-requires Inv-loop μ-loop
-copy-requires c κs = (joining-pool (c .before .before .before .loop .inv) (c .before .before .loop-test .taken) (c .before .read-record .ensures .0), joining-room (c .before .before .before .loop .inv) (c .before .before .loop-test .taken) (c .before .read-record .ensures .0))
+copy-requires c κs = (joining-pool (c .before .before .before .before .before .loop .inv) (c .before .before .before .before .loop-test .taken) (c .before .before .before .read-record .ensures), joining-room (c .before .before .before .before .before .loop .inv) (c .before .before .before .before .loop-test .taken) (c .before .before .before .read-record .ensures))
 
 add-at : tie.Need-add-at Inv-loop μ-loop
-add-at c = omega (arith, joining-room (c .before .before .before .before .before .before .before .loop .inv) (c .before .before .before .before .before .before .loop-test .taken) (c .before .before .before .before .before .read-record .ensures .0), c .before .before .before .before .before .before .before .loop .inv .same, c .before .before .before .before .before .before .before .before .before .before .before .good)
+add-at c = omega (arith, joining-room (c .before .before .before .before .before .before .before .before .loop .inv) (c .before .before .before .before .before .before .before .loop-test .taken) (c .before .before .before .before .before .before .read-record .ensures), c .before .before .before .before .before .before .before .before .loop .inv .same, c .before .before .before .before .before .before .before .before .before .before .before .before .good)
 
 add-k : tie.Need-add-k Inv-loop μ-loop
-add-k c = omega (arith, c .before .before .before .before .before .before .loop-test .taken, c .before .before .before .before .before .before .before .before .before .before .before .good)
+add-k c = omega (arith, c .before .before .before .before .before .before .before .loop-test .taken, c .before .before .before .before .before .before .before .before .before .before .before .before .good)
 
 loop-less : tie.Need-loop-less Inv-loop μ-loop
-loop-less c = omega (arith, c .before .before .before .before .before .before .loop-test .taken)
+loop-less c = omega (arith, c .before .before .before .before .before .before .before .loop-test .taken)
 
 loop-again : tie.Need-loop-again Inv-loop μ-loop
-loop-again c = joining-next (c .before .before .before .before .before .before .before .loop .inv) (c .before .before .before .before .before .before .loop-test .taken) (c .before .before .before .before .before .read-record .ensures .0) (c .before .before .before .copy .ensures)
+loop-again c = joining-next (c .before .before .before .before .before .before .before .before .loop .inv) (c .before .before .before .before .before .before .before .loop-test .taken) (c .before .before .before .before .before .before .read-record .ensures) (c .before .before .copy .ensures)
 
 same-length : tie.Need-same-length Inv-loop μ-loop
 same-length c = c .before .loop .inv .same
@@ -47,6 +54,8 @@ join-tokens-spec =
     μ-loop
     loop-holds
     read-record-requires
+    cast-len
+    cast-copy
     copy-requires
     add-at
     add-k

@@ -3,26 +3,32 @@ use mathlib.Core.Path.{sym}
 use mathlib.Core.List.{List}
 use Prim.Native.Nat.{ℕ, _-_}
 use native.Mathlib.Omega.{arith}
+use lib.ListN.{take}
+use lib.Seq.{length-take-le}
+use borrow.Author.Needs.{needs}
 use denote.Ref.{now}
 use Rattle.automaton.specs.Rule.{Rule}
 use Rattle.longest_match.specs.Contracts.{Holds}
+use Rattle.longest_match.proofs.Parts.{part-front}
 use Rattle.longest_match.proofs.Held.{held-empty}
 use Rattle.record.specs.Records.{recordCount}
 use Rattle.token_list.proofs.Faulting.{held-room}
 use Rattle.token_list.specs.Contracts.{Spread}
-use Rattle.token_list.proofs.Settling.{tells-no, tells-yes, Retracing, retracing-start, retracing-within, retracing-next, settled-some, settled-all, settled-same, retracing-end}
+use Rattle.token_list.proofs.Settling.{Retracing, retracing-start, retracing-within, retracing-next, retracing-none, retracing-longer, retracing-other, retracing-end}
 use Rattle.token_list.proofs.readback.read_back.Statement.{statement}
 use Rattle.token_list.proofs.readback.read_back.Tie as tie
 
 abbrev Inv-loop : tie.InvT-loop
-Inv-loop headers states edges rules records text count at₀ k₀ at k = (rs : List Rule) (pool : List ℕ) → Holds headers states edges rules rs → Spread records pool text → Retracing rs records pool text at k
+Inv-loop headers states edges rules records text total count at₀ k₀ at k =
+    (rs : List Rule) (pool : List ℕ) → Holds headers states edges rules rs → Spread records pool (take total text)
+    → Retracing rs records pool (take total text) at k
 
 abbrev μ-loop : tie.MeasureT-loop
-μ-loop headers states edges rules records text count at₀ k₀ at k = recordCount records - k
+μ-loop headers states edges rules records text total count at₀ k₀ at k = recordCount records - k
 
 -- by one list of rules that the tables hold, and one pool
-some : (c : tie.At-loop Inv-loop μ-loop) → Retracing (c .before .before .before .before .before .before .pre .0 .rules) (now (c .before .before .before .before .before .before .args .records)) (c .before .before .before .before .before .before .pre .1 .pool) (now (c .before .before .before .before .before .before .args .text)) (c .loop .at) (c .loop .k)
-some c = c .loop .inv (c .before .before .before .before .before .before .pre .0 .rules) (c .before .before .before .before .before .before .pre .1 .pool) (c .before .before .before .before .before .before .pre .0 .holds) (c .before .before .before .before .before .before .pre .1 .spread)
+some : (c : tie.At-loop Inv-loop μ-loop) → Retracing (c .before .before .before .before .before .before .pre .0 .rules) (now (c .before .before .before .before .before .before .args .records)) (c .before .before .before .before .before .before .pre .1 .1 .pool) (take (c .before .before .before .before .before .before .args .total) (now (c .before .before .before .before .before .before .args .text))) (c .loop .at) (c .loop .k)
+some c = c .loop .inv (c .before .before .before .before .before .before .pre .0 .rules) (c .before .before .before .before .before .before .pre .1 .1 .pool) (c .before .before .before .before .before .before .pre .0 .holds) (c .before .before .before .before .before .before .pre .1 .1 .spread)
 
 loop-holds : tie.Need-loop-holds Inv-loop μ-loop
 loop-holds c = λ rs pool h s. retracing-start s
@@ -30,35 +36,43 @@ loop-holds c = λ rs pool h s. retracing-start s
 read-record-requires : tie.Need-read-record-requires Inv-loop μ-loop
 read-record-requires c κs = omega (arith, c .loop-test .taken)
 
-find-tag-requires : tie.Need-find-tag-requires Inv-loop μ-loop
-find-tag-requires c κs = held-room (c .before .before .before .before .before .before .before .before .pre .0 .holds)
+cast-len : tie.Need-cast-len Inv-loop μ-loop
+cast-len c = search needs
 
-choose-at-requires : tie.Need-choose-at-requires Inv-loop μ-loop
-choose-at-requires c κs = (c .before .before .before .before .before .before .before .before .before .pre .0, some (c .before .before .before) .within)
+cast-find-tag : tie.Need-cast-find-tag Inv-loop μ-loop
+cast-find-tag c = search needs
+
+find-tag-requires : tie.Need-find-tag-requires Inv-loop μ-loop
+find-tag-requires c κs = held-room (c .before .before .before .before .before .before .before .before .before .before .pre .0 .holds)
+
+choose-requires : tie.Need-choose-requires Inv-loop μ-loop
+choose-requires c κs =
+    let w = some (c .before .before .before .before .before) .within in
+    (c .before .before .before .before .before .before .before .before .before .before .before .pre .0, (rw (length-take-le _ _ (c .before .before .before .before .before .before .before .before .before .before .before .pre .1 .0)) at w, c .before .before .before .before .before .before .before .before .before .before .before .pre .1 .0))
 
 returns : tie.Need-returns Inv-loop μ-loop
-returns c = λ rs pool h s. tells-no (λ st. settled-some (c .before .before .before .before .before .before .loop .inv rs pool h s) (held-empty h) (c .before .before .before .before .before .loop-test .taken) (c .before .before .before .before .read-record .ensures .0) (c .before .before .before .find-tag .ensures _ _ rs (h .tables) (sym (h .count))) (c .before .before .choose-at .ensures rs h) st (c .if1 .taken))
+returns c = λ rs pool h s. retracing-none (c .before .before .before .before .before .before .before .before .loop .inv rs pool h s) (held-empty h) (c .before .before .before .before .before .before .before .loop-test .taken) (c .before .before .before .before .before .before .read-record .ensures) (c .before .before .before .find-tag .ensures _ _ rs (h .tables) (sym (h .count))) (c .before .before .choose .ensures rs _ h (part-front _ _ _)) (c .if1 .taken)
 
 returns-2 : tie.Need-returns-2 Inv-loop μ-loop
-returns-2 c = λ rs pool h s. tells-no (λ st. settled-all (c .before .before .before .before .before .before .before .before .loop .inv rs pool h s) (held-empty h) (c .before .before .before .before .before .before .before .loop-test .taken) (c .before .before .before .before .before .before .read-record .ensures .0) (c .before .before .before .before .before .find-tag .ensures _ _ rs (h .tables) (sym (h .count))) (c .before .before .before .before .choose-at .ensures rs h) st (c .if2 .taken))
+returns-2 c = λ rs pool h s. retracing-longer (c .before .before .before .before .before .before .before .before .before .before .loop .inv rs pool h s) (held-empty h) (c .before .before .before .before .before .before .before .before .before .loop-test .taken) (c .before .before .before .before .before .before .before .before .read-record .ensures) (c .before .before .before .before .before .find-tag .ensures _ _ rs (h .tables) (sym (h .count))) (c .before .before .before .before .choose .ensures rs _ h (part-front _ _ _)) (c .if2 .taken)
 
 returns-3 : tie.Need-returns-3 Inv-loop μ-loop
-returns-3 c = λ rs pool h s. tells-no (λ st. settled-same (c .before .before .before .before .before .before .before .before .before .before .loop .inv rs pool h s) (held-empty h) (c .before .before .before .before .before .before .before .before .before .loop-test .taken) (c .before .before .before .before .before .before .before .before .read-record .ensures .0) (c .before .before .before .before .before .before .before .find-tag .ensures _ _ rs (h .tables) (sym (h .count))) (c .before .before .before .before .before .before .choose-at .ensures rs h) st (c .before .before .before .before .if1 .left) (c .before .before .if2 .left) (c .if3 .taken))
+returns-3 c = λ rs pool h s. retracing-other (c .before .before .before .before .before .before .before .before .before .before .before .before .loop .inv rs pool h s) (held-empty h) (c .before .before .before .before .before .before .before .before .before .before .before .loop-test .taken) (c .before .before .before .before .before .before .before .before .before .before .read-record .ensures) (c .before .before .before .before .before .before .before .find-tag .ensures _ _ rs (h .tables) (sym (h .count))) (c .before .before .before .before .before .before .choose .ensures rs _ h (part-front _ _ _)) (c .before .before .before .before .if1 .left) (c .before .before .if2 .left) (c .if3 .taken)
 
 add-at : tie.Need-add-at Inv-loop μ-loop
-add-at c = omega (arith, retracing-within (some (c .before .before .before .before .before .before .before .before .before .before)) (held-empty (c .before .before .before .before .before .before .before .before .before .before .before .before .before .before .before .before .pre .0 .holds)) (c .before .before .before .before .before .before .before .before .before .loop-test .taken) (c .before .before .before .before .before .before .before .before .read-record .ensures .0), c .before .before .before .before .before .before .before .before .before .before .before .before .before .before .before .before .good)
+add-at c = omega (arith, length-take-le (c .before .before .before .before .before .before .before .before .before .before .before .before .before .before .before .before .before .before .args .total) (now (c .before .before .before .before .before .before .before .before .before .before .before .before .before .before .before .before .before .before .args .text)) (c .before .before .before .before .before .before .before .before .before .before .before .before .before .before .before .before .before .before .pre .1 .0), retracing-within (some (c .before .before .before .before .before .before .before .before .before .before .before .before)) (held-empty (c .before .before .before .before .before .before .before .before .before .before .before .before .before .before .before .before .before .before .pre .0 .holds)) (c .before .before .before .before .before .before .before .before .before .before .before .loop-test .taken) (c .before .before .before .before .before .before .before .before .before .before .read-record .ensures), c .before .before .before .before .before .before .before .before .before .before .before .before .before .before .before .before .before .before .good)
 
 add-k : tie.Need-add-k Inv-loop μ-loop
-add-k c = omega (arith, c .before .before .before .before .before .before .before .before .before .loop-test .taken, c .before .before .before .before .before .before .before .before .before .before .before .before .before .before .before .before .good)
+add-k c = omega (arith, c .before .before .before .before .before .before .before .before .before .before .before .loop-test .taken, c .before .before .before .before .before .before .before .before .before .before .before .before .before .before .before .before .before .before .good)
 
 loop-less : tie.Need-loop-less Inv-loop μ-loop
-loop-less c = omega (arith, c .before .before .before .before .before .before .before .before .before .loop-test .taken)
+loop-less c = omega (arith, c .before .before .before .before .before .before .before .before .before .before .before .loop-test .taken)
 
 loop-again : tie.Need-loop-again Inv-loop μ-loop
-loop-again c = λ rs pool h s. retracing-next (c .before .before .before .before .before .before .before .before .before .before .loop .inv rs pool h s) (held-empty h) (c .before .before .before .before .before .before .before .before .before .loop-test .taken) (c .before .before .before .before .before .before .before .before .read-record .ensures .0) (c .before .before .before .before .before .before .before .find-tag .ensures _ _ rs (h .tables) (sym (h .count))) (c .before .before .before .before .before .before .choose-at .ensures rs h) (c .before .before .before .before .if1 .left) (c .before .before .if2 .left) (c .if3 .left)
+loop-again c = λ rs pool h s. retracing-next (c .before .before .before .before .before .before .before .before .before .before .before .before .loop .inv rs pool h s) (held-empty h) (c .before .before .before .before .before .before .before .before .before .before .before .loop-test .taken) (c .before .before .before .before .before .before .before .before .before .before .read-record .ensures) (c .before .before .before .before .before .before .before .find-tag .ensures _ _ rs (h .tables) (sym (h .count))) (c .before .before .before .before .before .before .choose .ensures rs _ h (part-front _ _ _)) (c .before .before .before .before .if1 .left) (c .before .before .if2 .left) (c .if3 .left)
 
 returns-4 : tie.Need-returns-4 Inv-loop μ-loop
-returns-4 c = λ rs pool h s. tells-yes (retracing-end (c .before .loop .inv rs pool h s) (c .loop-test .left))
+returns-4 c = λ rs pool h s. retracing-end (c .before .loop .inv rs pool h s) (c .loop-test .left)
 
 pub read-back-spec : {M : Type 1} → statement M
 read-back-spec =
@@ -68,8 +82,10 @@ read-back-spec =
     μ-loop
     loop-holds
     read-record-requires
+    cast-len
+    cast-find-tag
     find-tag-requires
-    choose-at-requires
+    choose-requires
     returns
     returns-2
     returns-3
