@@ -6,4 +6,5 @@ pub mod Passes
 pub mod Opening
 pub mod Starting
 pub mod Storing
+pub mod Checking
 pub mod Staging

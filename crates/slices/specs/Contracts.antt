@@ -22,6 +22,7 @@ use Rattle.record.specs.Contracts.{noRecord}
 use Rattle.record.specs.declared.TokenRecord.{TokenRecord}
 use Rattle.lexer.specs.Outcome.{lexRules, lexOutcome}
 use Rattle.lexer.specs.Contracts.{LexAnswered}
+use Rattle.output.specs.Contracts.{WritesOut}
 use Rattle.token_list.specs.Faults.{faultOf}
 use Rattle.printer.specs.Contracts.{PrintAnswered}
 use Rattle.printer.specs.Outcome.{printOutcome}
@@ -173,7 +174,4 @@ pub record Begins (book : List ℕ) (count : ℕ) (hs ss es : List ℕ) (r : Sta
 -- the answer, by the joined bytes in the scratch
 pub record Finishes (scratch : List ℕ) (s : Stage) (out : List ℕ) (r : PrintAnswer) (exit : List ℕ) : Type 0 where
   pub refuses : s .refused ≡ true → (r ≡ print.Refused (stageRefusal s)) × (exit ≡ out)
-  pub lacks : s .refused ≡ false → length out < s .total
-      → (r ≡ print.Refused (record { number = 22; place = s .total })) × (exit ≡ out)
-  pub prints : s .refused ≡ false → s .total ≤ length out
-      → (r ≡ print.Printed (s .total)) × (exit ≡ paste out 0 (drop 0 scratch) (s .total))
+  pub writes : s .refused ≡ false → WritesOut scratch 0 (s .total) out r exit

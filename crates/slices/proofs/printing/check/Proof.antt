@@ -4,6 +4,9 @@ use borrow.Author.Needs.{needs}
 use Rattle.slices.proofs.printing.check.Statement.{statement}
 use Rattle.slices.proofs.printing.check.Tie as tie
 
+cast-len : tie.Need-cast-len
+cast-len c = search needs
+
 token-fault-requires : tie.Need-token-fault-requires
 token-fault-requires c κs = search needs
 
@@ -21,4 +24,4 @@ returns-2 c = λ rs h. let e = c .before .before .token-fault .ensures rs h in r
 
 pub check-spec : {M : Type 1} → statement M
 check-spec =
-    tie.close (tie.spec token-fault-requires refuse-requires returns move-on-requires returns-2)
+    tie.close (tie.spec cast-len token-fault-requires refuse-requires returns move-on-requires returns-2)
