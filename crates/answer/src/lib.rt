@@ -1,4 +1,5 @@
 // What a call answers where it refuses: the number of document 01 and a place.
+ghost use mathlib.Core.Path.{_≡_};
 
 pub struct Refusal {
     pub number: u8,
@@ -66,14 +67,38 @@ pub enum BookAnswer {
     Refused(Refusal),
 }
 
+impl BookAnswer {
+    pub fn refused(number: u8, place: usize) -> BookAnswer
+        ensures { λ r. ⌜ r ≡ BookAnswer.Refused (record { number = number; place = place }) ⌝ }
+    {
+        BookAnswer::Refused(Refusal { number, place })
+    }
+}
+
 // What lexing a text answers: the number of tokens and the place of the rest, or a refusal.
 pub enum LexAnswer {
     Lexed { tokens: usize, rest: usize },
     Refused(Refusal),
 }
 
+impl LexAnswer {
+    pub fn refused(number: u8, place: usize) -> LexAnswer
+        ensures { λ r. ⌜ r ≡ LexAnswer.Refused (record { number = number; place = place }) ⌝ }
+    {
+        LexAnswer::Refused(Refusal { number, place })
+    }
+}
+
 // What printing answers: the number of bytes written, or a refusal.
 pub enum PrintAnswer {
     Printed(usize),
     Refused(Refusal),
+}
+
+impl PrintAnswer {
+    pub fn refused(number: u8, place: usize) -> PrintAnswer
+        ensures { λ r. ⌜ r ≡ PrintAnswer.Refused (record { number = number; place = place }) ⌝ }
+    {
+        PrintAnswer::Refused(Refusal { number, place })
+    }
 }

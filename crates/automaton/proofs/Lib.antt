@@ -1,4 +1,4 @@
--- What the proofs of this crate share, and the laws for the layers above.
+-- Laws of rules (`Walks`, `Used`) and of the tables that hold them (`Chains`, `Built`). `Tests` takes tests apart.
 pub mod Tests
 pub mod Chains
 pub mod Walks

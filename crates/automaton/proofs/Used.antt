@@ -1,4 +1,5 @@
--- Used bytes: a rule that matches a text uses each of its bytes. And transitions that meet share a byte. Assumes nothing.
+-- Used bytes: a rule that matches a text uses each of its bytes, and what it uses are bytes.
+-- And transitions that meet share a byte. Assumes nothing.
 use mathlib.Core.Path.{_≡_, refl}
 use mathlib.Core.Bool.{Bool, true, false, not, _&&_, _||_}
 use mathlib.Core.List.{List, [], _∷_}
@@ -7,7 +8,7 @@ use native.Mathlib.Omega.{arith}
 use lib.Dec.{leb, eqb}
 use borrow.Author.Tests.{eqb-true, eq-eqb, le-leb, leb-true, leb-false}
 use Rattle.automaton.specs.Choice.{if, All, any, among}
-use Rattle.automaton.specs.Rule.{Transition, Rule, covers, target, step, walk, matches, used, meets, Sound}
+use Rattle.automaton.specs.Rule.{Transition, Rule, covers, target, step, walk, matches, used, meets, Ranged, Sound}
 use Rattle.automaton.proofs.Tests.{clash, or-true, and-true}
 use Rattle.automaton.proofs.Walks.{target-stays}
 
@@ -27,12 +28,14 @@ target-used (t ∷ ts) error s b e = go (eqb t.from s && covers t b) refl (targe
     go true q ih z = rw ((and-true (eqb t.from s) (covers t b) q) .1, z)
     go false q ih z = rw (ih z, or-true)
 
+-- in the error state of a sound rule every walk stays
 walk-stays : {n : ℕ} (r : Rule) → Sound n r → (w : List ℕ) → walk r r.error w ≡ r.error
 unfolding walk
 walk-stays r h [] = refl
 walk-stays r h (b ∷ w) = rw (target-stays r.error b r.transitions (h .stays)) (walk-stays r h w)
 
-walk-uses : {n : ℕ} (r : Rule) → Sound n r → (s : ℕ) (w : List ℕ) → among (walk r s w) r.finals ≡ true → All (λ (b : ℕ). used r b ≡ true) w
+walk-uses : {n : ℕ} (r : Rule) → Sound n r → (s : ℕ) (w : List ℕ) → among (walk r s w) r.finals ≡ true
+    → All (λ (b : ℕ). used r b ≡ true) w
 unfolding walk used
 walk-uses r h s [] e = tt
 walk-uses r h s (b ∷ w) e = (go (eqb (step r s b) r.error) refl, walk-uses r h (step r s b) w e)
@@ -45,6 +48,20 @@ walk-uses r h s (b ∷ w) e = (go (eqb (step r s b) r.error) refl, walk-uses r h
 pub uses-all : {n : ℕ} (r : Rule) → Sound n r → (w : List ℕ) → matches r w ≡ true → All (λ (b : ℕ). used r b ≡ true) w
 unfolding matches
 uses-all r h w e = walk-uses r h r.start w e
+
+-- what a sound rule uses are bytes
+ranged-byte : (n error b : ℕ) (ts : List Transition) → All (Ranged n) ts → any (uses error b) ts ≡ true → b < 256
+ranged-byte n error b [] h e = clash e refl
+ranged-byte n error b (t ∷ ts) (r, h) e = go (covers t b) refl (ranged-byte n error b ts h) e
+  where
+    go : (c : Bool) → covers t b ≡ c → (any (uses error b) ts ≡ true → b < 256)
+        → c && not (eqb t.to error) || any (uses error b) ts ≡ true → b < 256
+    go true q ih z = let l : b ≤ t.high = leb-true _ _ (and-true (leb t.low b) _ q .1) in omega (arith, r .byte)
+    go false q ih z = ih z
+
+pub used-byte : {n : ℕ} (r : Rule) → Sound n r → (b : ℕ) → used r b ≡ true → b < 256
+unfolding used
+used-byte {n} r h b e = ranged-byte n r.error b r.transitions (h .ranged) e
 
 -- ---- `meets` is what refusal 9 says: two transitions from one state cover one byte
 
@@ -65,10 +82,20 @@ meets-shared t u p q e =
     go : (c : Bool) → leb t.low u.low ≡ c → u.from ≡ t.from → t.low ≤ u.high → u.low ≤ t.high → Shared t u
     go true z f l r =
         let k : t.low ≤ u.low = leb-true _ _ z in
-        record { state = f; byte = u.low; first = rw (le-leb _ _ k, le-leb _ _ r); second = rw (le-leb u.low u.low (omega arith), le-leb _ _ q) }
+        record {
+          state = f;
+          byte = u.low;
+          first = rw (le-leb _ _ k, le-leb _ _ r);
+          second = rw (le-leb u.low u.low (omega arith), le-leb _ _ q);
+        }
     go false z f l r =
         let k : u.low < t.low = leb-false _ _ z in
-        record { state = f; byte = t.low; first = rw (le-leb t.low t.low (omega arith), le-leb _ _ p); second = rw (le-leb u.low t.low (omega arith), le-leb _ _ l) }
+        record {
+          state = f;
+          byte = t.low;
+          first = rw (le-leb t.low t.low (omega arith), le-leb _ _ p);
+          second = rw (le-leb u.low t.low (omega arith), le-leb _ _ l);
+        }
 
 pub shared-meets : (t u : Transition) → Shared t u → meets t u ≡ true
 shared-meets t u s =

@@ -10,7 +10,8 @@ use lib.ListN.{length, getD, take}
 use lib.Dec.{eqb}
 use borrow.Author.Tests.{eq-eqb, ne-eqb}
 use Rattle.automaton.specs.Choice.{if, All, any, among}
-use Rattle.automaton.specs.Rule.{Transition, Rule, covers, target, step, walk, matches, longestWithin, longest, Ranged, Sound, stateCount}
+use Rattle.automaton.specs.Rule.{Transition, Rule, covers, target, step, walk, matches, longestWithin, longest}
+use Rattle.automaton.specs.Rule.{Ranged, Sound, stateCount}
 use Rattle.automaton.specs.Contracts.{errorOf, startOf, kindOf, tagOf, headAt, finalAt, leaving, pick, Chain, Table}
 use Rattle.automaton.proofs.Tests.{or-false}
 
@@ -36,7 +37,8 @@ target-below n s b error (t ∷ ts) l (r, h) = go (eqb t.from s && covers t b) (
     go false k = k
 
 -- nothing leaves the error state
-pub target-stays : (error b : ℕ) (ts : List Transition) → any (λ (t : Transition). eqb t.from error) ts ≡ false → target ts error b error ≡ error
+pub target-stays : (error b : ℕ) (ts : List Transition) → any (λ (t : Transition). eqb t.from error) ts ≡ false
+    → target ts error b error ≡ error
 unfolding target
 target-stays error b [] h = refl
 target-stays error b (t ∷ ts) h = let p = or-false (eqb t.from error) _ h in rw (p .0) (target-stays error b ts (p .1))
@@ -57,19 +59,22 @@ module _ (r : Rule) where
   unfolding longestWithin matches
   longest-yes t n h = rw h
 
-  longest-no : (t : List ℕ) (n : ℕ) → among (walk r r.start (take (suc n) t)) r.finals ≡ false → longestWithin r t n ≡ longestWithin r t (suc n)
+  longest-no : (t : List ℕ) (n : ℕ) → among (walk r r.start (take (suc n) t)) r.finals ≡ false
+      → longestWithin r t n ≡ longestWithin r t (suc n)
   unfolding longestWithin matches
   longest-no t n h = rw h
 
   module _ {m : ℕ} (sound : Sound m r) where
-    stays : (t : List ℕ) (n k : ℕ) → k + n ≤ length t → walk r r.start (take n t) ≡ r.error → walk r r.start (take (k + n) t) ≡ r.error
+    stays : (t : List ℕ) (n k : ℕ) → k + n ≤ length t → walk r r.start (take n t) ≡ r.error
+        → walk r r.start (take (k + n) t) ≡ r.error
     stays t n zero h e = rw zero-add e
     stays t n (suc k) h e =
         rw suc-add
         (walk-more t (k + n) r.start (omega arith) ∙ ap (λ (x : ℕ). step r x (getD t (k + n) 0)) (stays t n k (omega arith) e)
         ∙ target-stays r.error (getD t (k + n) 0) r.transitions (sound .stays))
 
-    longest-stays : (t : List ℕ) (n k : ℕ) → k + n ≤ length t → walk r r.start (take n t) ≡ r.error → longestWithin r t (k + n) ≡ longestWithin r t n
+    longest-stays : (t : List ℕ) (n k : ℕ) → k + n ≤ length t → walk r r.start (take n t) ≡ r.error
+        → longestWithin r t (k + n) ≡ longestWithin r t n
     longest-stays t n zero h e = rw zero-add
     longest-stays t n (suc k) h e =
         let q : walk r r.start (take (suc k + n) t) ≡ r.error = stays t n (suc k) h e in
@@ -86,16 +91,16 @@ module _ (r : Rule) where
 
 module _ {hs ss es : List ℕ} {k : ℕ} {r : Rule} (table : Table hs ss es k r) where
   pub header-error : errorOf (getD hs k 0) ≡ r.error
-  header-error = let e = table .sound .error-below in rw (table .word) (omega arith)
+  header-error = rw (table .word) (omega (arith, table .sound .error-below))
 
   pub header-start : startOf (getD hs k 0) ≡ r.start
-  header-start = let e = table .sound .error-below in let s = table .sound .start-below in rw (table .word) (omega arith)
+  header-start = rw (table .word) (omega (arith, table .sound .error-below, table .sound .start-below))
 
   pub header-kind : kindOf (getD hs k 0) ≡ r.kind
-  header-kind = let e = table .sound .error-below in let s = table .sound .start-below in let l = table .kind in rw (table .word) (omega arith)
+  header-kind = rw (table .word) (omega (arith, table .sound .error-below, table .sound .start-below, table .kind))
 
   pub header-tag : tagOf (getD hs k 0) ≡ r.tag
-  header-tag = let e = table .sound .error-below in let s = table .sound .start-below in let l = table .kind in rw (table .word) (omega arith)
+  header-tag = rw (table .word) (omega (arith, table .sound .error-below, table .sound .start-below, table .kind))
 
 -- ---- the loop of `longest_prefix`
 
@@ -110,11 +115,13 @@ pub walk-start : (r : Rule) (t : List ℕ) (s : ℕ) → Sound stateCount r → 
 unfolding walk
 walk-start r t s h e = rw e (record { within = omega arith; inside = h .start-below; state = refl; most = longest-zero r t })
 
-module _ {hs ss es : List ℕ} {k : ℕ} {r : Rule} (table : Table hs ss es k r) {t : List ℕ} {s best i next : ℕ} (w : Walk r t s best i) (more : i < length t)
+module _ {hs ss es : List ℕ} {k : ℕ} {r : Rule} (table : Table hs ss es k r)
+    {t : List ℕ} {s best i next : ℕ} (w : Walk r t s best i) (more : i < length t)
     (e : (ts : List Transition) → Chain es (headAt ss (k * stateCount + s)) ts → next ≡ pick ts (getD t i 0) (errorOf (getD hs k 0))) where
   leads : next ≡ step r s (getD t i 0)
   leads =
-      e (leaving s r.transitions) (table .cells .chains s (w .inside)) ∙ rw (header-error table) (pick-leaving s (getD t i 0) r.error r.transitions)
+      e (leaving s r.transitions) (table .cells .chains s (w .inside))
+      ∙ rw (header-error table) (pick-leaving s (getD t i 0) r.error r.transitions)
 
   reached : next ≡ walk r r.start (take (suc i) t)
   reached = leads ∙ ap (λ (x : ℕ). step r x (getD t i 0)) (w .state) ∙ sym (walk-more r t i r.start more)

@@ -1,12 +1,11 @@
-// A rule at run time: its transitions in flat arrays, chained by the state that they leave, and one step along them.
+// Rules at run time: their transitions in flat arrays, chained by the state that they leave, and one step along them.
 // A step costs the transitions that leave the state, whatever the size of the rule.
+// `building` fills the arrays; `walking` goes along them over a text.
 pub mod building;
 pub mod walking;
 
 ghost use mathlib.Core.Path.{_≡_};
-ghost use mathlib.Core.Bool.{false};
 ghost use mathlib.Core.List.{List};
-ghost use Prim.Native.Nat.{_+_, _-_, _*_, _/_, _%_};
 ghost use Rattle.automaton.specs.Rule.{Transition};
 ghost use Rattle.automaton.specs.Contracts.{coversWord, kindOf, tagOf, headerWord, Chain, Chained, pick};
 

@@ -14,7 +14,8 @@ pub fn longest_prefix(
     text: &[u8],
 ) -> usize
     requires { ⌜ Tabled (now headers) (now states) (now edges) rule ⌝ }
-    ensures { λ r. ⌜ ((m : Rule) → Table (now (headers .entry)) (now (states .entry)) (now (edges .entry)) rule m → r ≡ longest m (now (text .entry))) ⌝ }
+    ensures { λ r. ⌜ ((m : Rule) → Table (now (headers .entry)) (now (states .entry)) (now (edges .entry)) rule m
+        → r ≡ longest m (now (text .entry))) ⌝ }
 {
     let header = headers[rule];
     let base = rule * STATES;

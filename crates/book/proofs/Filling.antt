@@ -17,7 +17,8 @@ use Rattle.book.specs.Valid.{ValidRule}
 use Rattle.book.specs.Contracts.{edgeCount, cellCount, Fresh, Stored}
 
 -- a rule's cells, and its table, in other cells and edges
-retable : {hs ss es ss₁ es₁ : List ℕ} {k : ℕ} {r : Rule} → Table hs ss es k r → Cells ss₁ es₁ (k * stateCount) r.finals r.transitions → Table hs ss₁ es₁ k r
+retable : {hs ss es ss₁ es₁ : List ℕ} {k : ℕ} {r : Rule} → Table hs ss es k r
+    → Cells ss₁ es₁ (k * stateCount) r.finals r.transitions → Table hs ss₁ es₁ k r
 retable t c = record { room = t .room; word = t .word; kind = t .kind; cells = c; sound = t .sound }
 
 -- one place stored, read at any place: the bound of its head
@@ -28,8 +29,10 @@ top-set ss j v n i r l h = go (eqb i j) refl
     go true e = rw (eqb-true i j e, getD-set-same ss j v 0 r) l
     go false e = rw (getD-set-other ss j i v 0 (eqb-false i j e)) h
 
-module _ {edges : ℕ} {hs ss es : List ℕ} {rules : List Rule} {fs : List ℕ} {ts : List Transition} (st : Stored edges hs ss es rules fs ts) where
-  built : (k : ℕ) → k < maxRules → {gs : List ℕ} {us : List Transition} → Cells ss es (k * stateCount) gs us → Built ss es (k * stateCount) edges gs us
+module _ {edges : ℕ} {hs ss es : List ℕ} {rules : List Rule} {fs : List ℕ} {ts : List Transition}
+    (st : Stored edges hs ss es rules fs ts) where
+  built : (k : ℕ) → k < maxRules → {gs : List ℕ} {us : List Transition} → Cells ss es (k * stateCount) gs us
+      → Built ss es (k * stateCount) edges gs us
   built k l c =
       let z = st .sized .edges in
       record { cells = c; edges = omega (arith, st .room); tops = λ s h. st .tops (k * stateCount + s) (omega arith) }
@@ -44,53 +47,66 @@ module _ {edges : ℕ} {hs ss es : List ℕ} {rules : List Rule} {fs : List ℕ}
     beyond : (v i : ℕ) → (length rules + 1) * stateCount ≤ i → i < cellCount → getD (set ss (length rules * stateCount + s) v) i 0 ≡ 0
     beyond v i l m = getD-set-other ss (length rules * stateCount + s) i v 0 (λ e. omega arith) ∙ st .blank i l m
 
+    abbrev place : ℕ
+    place = length rules * stateCount + s
+
     -- a final state more
-    pub stored-final : Stored edges hs (set ss (length rules * stateCount + s) (marked (getD ss (length rules * stateCount + s) 0))) es rules (s ∷ fs) ts
+    pub stored-final : Stored edges hs
+        (set ss (length rules * stateCount + s) (marked (getD ss (length rules * stateCount + s) 0))) es rules (s ∷ fs) ts
     stored-final =
         record {
           sized = record { headers = st .sized .headers; cells = simp length-set (st .sized .cells); edges = st .sized .edges };
           tables = record {
             each = λ k l.
                 let t = st .tables .each k l in
-                retable t (built-cell-frame (built k (omega arith) (t .cells)) (length rules * stateCount + s) (marked (getD ss (length rules * stateCount + s) 0)) (apart k l) .cells);
+                retable t (built-cell-frame (built k (omega arith) (t .cells)) place (marked (getD ss place 0)) (apart k l) .cells);
           };
           room = st .room;
-          tops = λ i l. top-set ss (length rules * stateCount + s) (marked (getD ss (length rules * stateCount + s) 0)) edges i cell-inside
-              (let z = st .tops (length rules * stateCount + s) (omega arith) in omega arith) (st .tops i l);
+          tops = λ i l. top-set ss place (marked (getD ss place 0)) edges i cell-inside
+              (let z = st .tops place (omega arith) in omega arith) (st .tops i l);
           current = λ l. built-final (built (length rules) l (st .current l)) s below .cells;
-          blank = beyond (marked (getD ss (length rules * stateCount + s) 0));
+          blank = beyond (marked (getD ss place 0));
         }
 
   -- a transition more
-  module _ (open-room : length rules < maxRules) (t : Transition) (more : edges < edgeCount) (f : t.from < stateCount) (lo : t.low < 256) (hi : t.high < 256) (to : t.to < 65536) where
-    cell : ℕ
-    cell = getD ss (length rules * stateCount + t.from) 0
+  module _ (open-room : length rules < maxRules) (t : Transition) (more : edges < edgeCount) (f : t.from < stateCount)
+      (lo : t.low < 256) (hi : t.high < 256) (to : t.to < 65536) where
+    abbrev at : ℕ
+    at = length rules * stateCount + t.from
 
-    pub stored-edge : Stored (edges + 1) hs (set ss (length rules * stateCount + t.from) (linked (getD ss (length rules * stateCount + t.from) 0) edges))
+    abbrev cell : ℕ
+    cell = linked (getD ss at 0) edges
+
+    abbrev word : ℕ
+    word = edgeWord t.low t.high t.to (getD ss at 0 / 2)
+
+    pub stored-edge : Stored (edges + 1) hs
+        (set ss (length rules * stateCount + t.from) (linked (getD ss (length rules * stateCount + t.from) 0) edges))
         (set es edges (edgeWord t.low t.high t.to (getD ss (length rules * stateCount + t.from) 0 / 2))) rules fs (t ∷ ts)
     stored-edge =
         let z = st .sized .edges in
         record {
-          sized = record { headers = st .sized .headers; cells = simp length-set (st .sized .cells); edges = simp length-set (st .sized .edges) };
+          sized = record {
+            headers = st .sized .headers;
+            cells = simp length-set (st .sized .cells);
+            edges = simp length-set (st .sized .edges);
+          };
           tables = record {
             each = λ k l.
                 let b = st .tables .each k l in
-                retable b
-                (built-frame (built k (omega arith) (b .cells)) (length rules * stateCount + t.from) (linked (getD ss (length rules * stateCount + t.from) 0) edges) edges
-                (edgeWord t.low t.high t.to (getD ss (length rules * stateCount + t.from) 0 / 2)) (apart open-room t.from f k l) (omega arith) (omega arith) .cells);
+                let c = built k (omega arith) (b .cells) in
+                retable b (built-frame c at cell edges word (apart open-room t.from f k l) (omega arith) (omega arith) .cells);
           };
           room = omega arith;
-          tops = λ i l. top-set ss (length rules * stateCount + t.from) (linked (getD ss (length rules * stateCount + t.from) 0) edges) (edges + 1) i
+          tops = λ i l. top-set ss at cell (edges + 1) i
               (cell-inside open-room t.from f) (omega arith) (let q = st .tops i l in omega arith);
           current = λ l. built-edge (built (length rules) l (st .current l)) t (omega arith) f lo hi to .cells;
-          blank = beyond open-room t.from f (linked (getD ss (length rules * stateCount + t.from) 0) edges);
+          blank = beyond open-room t.from f cell;
         }
 
   -- the open rule closed
-  module _ (r : Rule) (v : ValidRule r) (same-finals : r.finals ≡ fs) (same-transitions : r.transitions ≡ ts) (open-room : length rules < maxRules) where
-    word : ℕ
-    word = headerWord r.tag r.kind r.start r.error
-
+  module _ (r : Rule) (v : ValidRule r) (same-finals : r.finals ≡ fs) (same-transitions : r.transitions ≡ ts)
+      (open-room : length rules < maxRules) where
     more : length (rules ++ (r ∷ [])) ≡ length rules + 1
     more = length-append rules (r ∷ [])
 
@@ -147,7 +163,9 @@ stored-fresh {hs} {ss} {es} f =
       tables = record { each = λ k l. absurd (omega arith) };
       room = omega arith;
       tops = λ i l. rw (f .zeros i l) (omega arith);
-      current = λ l. let z = f .sized .cells in built-blank ss es 0 0 (omega arith) (omega arith) (λ s h. f .zeros (0 + s) (omega arith)) .cells;
+      current = λ l.
+          let z = f .sized .cells in
+          built-blank ss es 0 0 (omega arith) (omega arith) (λ s h. f .zeros (0 + s) (omega arith)) .cells;
       blank = λ i l h. f .zeros i h;
     }
 

@@ -9,14 +9,15 @@ use lib.Dec.{leb, ltb, eqb}
 use lib.ListN.{length, length-append}
 use borrow.Author.Tests.{leb-false, ltb-false, eqb-false, ne-eqb}
 use Rattle.automaton.specs.Choice.{All, any, among}
-use Rattle.automaton.specs.Rule.{Transition, Rule, overlaps, stateCount}
+use Rattle.automaton.specs.Rule.{Transition, Rule, overlaps, Ranged, stateCount}
 use Rattle.automaton.proofs.Tests.{clash, or-false}
 use Rattle.command.specs.declared.Command.{Command}
 use Rattle.command.specs.declared.Command.the-variants.{Rule as RULE, Start, Error, Final, Step, Span, Close, End}
 use Rattle.book.specs.Limits.{maxRules, maxTransitions}
-use Rattle.book.specs.Draft.{Draft, between, isSet, isUnset, stateOf, ruleOf, Verdict, goes, accepts, refuses, check, tagged, isEmpty, move, apply}
-use Rattle.book.specs.Valid.{ValidRule, Distinct, ValidRules, Valid, Below, OpenRule, Fine}
-use Rattle.book.specs.Contracts.{standsInside}
+use Rattle.book.specs.Draft.{Draft, bare, between, withParts, isSet, isUnset, stateOf, ruleOf}
+use Rattle.book.specs.Draft.{Verdict, goes, accepts, refuses, check, tagged, isEmpty, move, apply}
+use Rattle.book.specs.Valid.{ValidRule, Distinct, ValidRules, Valid}
+use Rattle.book.specs.Contracts.{Below, OpenRule, Fine, standsInside}
 
 -- the operands of a command are bytes
 abbrev pub InRange : Command → Type 0
@@ -50,37 +51,51 @@ distinct-snoc : (rs : List Rule) (r : Rule) → Distinct rs → tagged r.tag rs 
 distinct-snoc [] r d e = (tt, tt)
 distinct-snoc (q ∷ rs) r (h, d) e =
     let p = or-false (eqb q.tag r.tag) (tagged r.tag rs) e in
-    (all-snoc (λ (x : Rule). eqb x.tag q.tag ≡ false) rs r h (ne-eqb r.tag q.tag (λ z. eqb-false q.tag r.tag (p .0) (sym z))), distinct-snoc rs r d (p .1))
+    let n = ne-eqb r.tag q.tag (λ z. eqb-false q.tag r.tag (p .0) (sym z)) in
+    (all-snoc (λ (x : Rule). eqb x.tag q.tag ≡ false) rs r h n, distinct-snoc rs r d (p .1))
 
 -- ---- one command
 
-pub move-good : (d : Draft) (at from low high to : ℕ) → Fine d → d.inside ≡ true → from < 256 → high < 256 → to < 256 → Good (move d at from low high to)
+-- inside a rule, what is within its range may be set anew
+inside-fine : {d : Draft} → Fine d → d.inside ≡ true → {start error : Option ℕ} {finals : List ℕ} {transitions : List Transition}
+    → Below stateCount start → Below stateCount error → All (λ (s : ℕ). s < stateCount) finals
+    → All (Ranged stateCount) transitions → length transitions ≤ maxTransitions
+    → Fine (withParts d start error finals transitions)
+inside-fine f i start error finals ranged few =
+    record {
+      closed = f .closed;
+      current = f .current;
+      start = start;
+      error = error;
+      finals = finals;
+      ranged = ranged;
+      few = few;
+      idle-finals = λ e. clash i e;
+      idle-transitions = λ e. clash i e;
+    }
+
+pub move-good : (d : Draft) (at from low high to : ℕ) → Fine d → d.inside ≡ true → from < 256 → high < 256 → to < 256
+    → Good (move d at from low high to)
 unfolding move
 move-good d at from low high to f i a b c =
     check-good (leb maxTransitions (length d.transitions)) _ _ _ (λ few. check-good (ltb high low) _ _ _ (λ order.
-    record {
-      closed = f .closed;
-      current = λ e. let o = f .current e in record { tag-some = o .tag-some; tag-below = o .tag-below; tag-new = o .tag-new; kind = o .kind; room = o .room };
-      start = f .start;
-      error = f .error;
-      finals = f .finals;
-      ranged = (record { from-below = a; to-below = c; ordered = ltb-false high low order; byte = b }, f .ranged);
-      few = let h : length d.transitions < maxTransitions = leb-false _ _ few in omega arith;
-      idle-finals = f .idle-finals;
-      idle-transitions = λ e. clash i e;
-    }))
+    let h : length d.transitions < maxTransitions = leb-false _ _ few in
+    let t : Ranged stateCount (record { from = from; low = low; high = high; to = to }) =
+    record { from-below = a; to-below = c; ordered = ltb-false high low order; byte = b } in
+    inside-fine f i (f .start) (f .error) (f .finals) (t, f .ranged) (omega arith)))
 
-start-below : (o : Option ℕ) → Below stateCount o → stateOf o < stateCount
-start-below none h = omega arith
-start-below (some s) h = h
+pub state-below : (o : Option ℕ) → Below stateCount o → stateOf o < stateCount
+state-below none h = omega arith
+state-below (some s) h = h
 
-pub closed-rule : (d : Draft) → Fine d → OpenRule d → overlaps d.transitions ≡ false → any (λ (t : Transition). eqb t.from (stateOf d.error)) d.transitions ≡ false
+pub closed-rule : (d : Draft) → Fine d → OpenRule d.rules d.tag d.kind → overlaps d.transitions ≡ false
+    → any (λ (t : Transition). eqb t.from (stateOf d.error)) d.transitions ≡ false
     → among (stateOf d.error) d.finals ≡ false → among (stateOf d.start) d.finals ≡ false → ValidRule (ruleOf d)
 closed-rule d f o apart stays fails nonempty =
     record {
       sound = record {
-        start-below = start-below d.start (f .start);
-        error-below = start-below d.error (f .error);
+        start-below = state-below d.start (f .start);
+        error-below = state-below d.error (f .error);
         finals-below = f .finals;
         ranged = f .ranged;
         apart = apart;
@@ -90,15 +105,17 @@ closed-rule d f o apart stays fails nonempty =
       };
       tag-some = o .tag-some;
       tag-below = o .tag-below;
-      kind = o .kind;
+      kind = o .kind-known;
       few = f .few;
     }
 
-between-fine : (rules : List Rule) → ValidRules rules → Fine (between rules)
-between-fine rules v =
+-- a rule just opened, or none
+bare-fine : {rules : List Rule} {inside : Bool} {tag kind : ℕ} → ValidRules rules → (inside ≡ true → OpenRule rules tag kind)
+    → Fine (bare rules inside tag kind)
+bare-fine v o =
     record {
       closed = v;
-      current = λ e. clash e refl;
+      current = o;
       start = tt;
       error = tt;
       finals = tt;
@@ -107,6 +124,9 @@ between-fine rules v =
       idle-finals = λ e. refl;
       idle-transitions = λ e. refl;
     }
+
+between-fine : (rules : List Rule) → ValidRules rules → Fine (between rules)
+between-fine rules v = bare-fine v (λ e. clash e refl)
 
 pub fine-start : Fine (between [])
 fine-start = between-fine [] (record { each = tt; distinct = tt; few = omega arith })
@@ -118,66 +138,24 @@ positive (r ∷ rs) e = omega arith
 pub apply-good : (d : Draft) (c : Command) (at len : ℕ) → Fine d → InRange c → standsInside c ≡ d.inside → Good (apply d c at len)
 unfolding apply
 apply-good d (RULE tag kind) at len f r i =
-    check-good (leb maxRules (length d.rules)) _ _ _ (λ few. check-good (eqb tag 0 || ltb 1 kind) _ _ _ (λ range. check-good (tagged tag d.rules) _ _ _ (λ new.
+    check-good (leb maxRules (length d.rules)) _ _ _ (λ few. check-good (eqb tag 0 || ltb 1 kind) _ _ _ (λ range.
+    check-good (tagged tag d.rules) _ _ _ (λ new.
     let p = or-false (eqb tag 0) (ltb 1 kind) range in
     let z : tag ≡ 0 → ⊥ = eqb-false tag 0 (p .0) in
     let k : kind ≤ 1 = ltb-false 1 kind (p .1) in
     let l : length d.rules < maxRules = leb-false _ _ few in
-    record {
-      closed = f .closed;
-      current = λ e. record { tag-some = omega arith; tag-below = r; tag-new = new; kind = k; room = l };
-      start = tt;
-      error = tt;
-      finals = tt;
-      ranged = tt;
-      few = omega arith;
-      idle-finals = λ e. refl;
-      idle-transitions = λ e. refl;
-    })))
+    bare-fine (f .closed) (λ e. record { tag-some = omega arith; tag-below = r; tag-new = new; kind-known = k; room = l }))))
 apply-good d (Start s) at len f r i =
-    check-good (isSet d.start) _ _ _ (λ e.
-    record {
-      closed = f .closed;
-      current = λ q. let o = f .current q in record { tag-some = o .tag-some; tag-below = o .tag-below; tag-new = o .tag-new; kind = o .kind; room = o .room };
-      start = r;
-      error = f .error;
-      finals = f .finals;
-      ranged = f .ranged;
-      few = f .few;
-      idle-finals = f .idle-finals;
-      idle-transitions = f .idle-transitions;
-    })
+    check-good (isSet d.start) _ _ _ (λ e. inside-fine f (sym i) r (f .error) (f .finals) (f .ranged) (f .few))
 apply-good d (Error s) at len f r i =
-    check-good (isSet d.error) _ _ _ (λ e.
-    record {
-      closed = f .closed;
-      current = λ q. let o = f .current q in record { tag-some = o .tag-some; tag-below = o .tag-below; tag-new = o .tag-new; kind = o .kind; room = o .room };
-      start = f .start;
-      error = r;
-      finals = f .finals;
-      ranged = f .ranged;
-      few = f .few;
-      idle-finals = f .idle-finals;
-      idle-transitions = f .idle-transitions;
-    })
-apply-good d (Final s) at len f r i =
-    record {
-      closed = f .closed;
-      current = λ q. let o = f .current q in record { tag-some = o .tag-some; tag-below = o .tag-below; tag-new = o .tag-new; kind = o .kind; room = o .room };
-      start = f .start;
-      error = f .error;
-      finals = (r, f .finals);
-      ranged = f .ranged;
-      few = f .few;
-      idle-finals = λ e. clash (sym i) e;
-      idle-transitions = f .idle-transitions;
-    }
+    check-good (isSet d.error) _ _ _ (λ e. inside-fine f (sym i) (f .start) r (f .finals) (f .ranged) (f .few))
+apply-good d (Final s) at len f r i = inside-fine f (sym i) (f .start) (f .error) (r, f .finals) (f .ranged) (f .few)
 apply-good d (Step from byte to) at len f (a, b, c) i = move-good d at from byte byte to f (sym i) a b c
 apply-good d (Span from low high to) at len f (a, b, c) i = move-good d at from low high to f (sym i) a b c
 apply-good d Close at len f r i =
     check-good (isUnset d.start || isUnset d.error) _ _ _ (λ set. check-good (overlaps d.transitions) _ _ _ (λ apart.
-    check-good (any (λ (t : Transition). eqb t.from (stateOf d.error)) d.transitions) _ _ _ (λ stays. check-good (among (stateOf d.error) d.finals) _ _ _ (λ fails.
-    check-good (among (stateOf d.start) d.finals) _ _ _ (λ nonempty.
+    check-good (any (λ (t : Transition). eqb t.from (stateOf d.error)) d.transitions) _ _ _ (λ stays.
+    check-good (among (stateOf d.error) d.finals) _ _ _ (λ fails. check-good (among (stateOf d.start) d.finals) _ _ _ (λ nonempty.
     let o = f .current (sym i) in
     let l = length-append d.rules (ruleOf d ∷ []) in
     between-fine (d.rules ++ (ruleOf d ∷ []))

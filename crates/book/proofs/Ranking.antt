@@ -19,7 +19,8 @@ use Rattle.book.specs.Contracts.{Ranks}
 -- no one of the first k rules has the tag
 pub record Ranking (hs : List ℕ) (rules tag k : ℕ) : Type 0 where
   pub within : k ≤ rules
-  pub passed : (ss es : List ℕ) (rs : List Rule) → Tables hs ss es rs → rules ≡ length rs → (j : ℕ) → j < k → eqb ((ruleAt rs j) .tag) tag ≡ false
+  pub passed : (ss es : List ℕ) (rs : List Rule) → Tables hs ss es rs → rules ≡ length rs
+      → (j : ℕ) → j < k → eqb ((ruleAt rs j) .tag) tag ≡ false
 
 pub ranking-start : (hs : List ℕ) (rules tag : ℕ) → Ranking hs rules tag 0
 ranking-start hs rules tag = record { within = omega arith; passed = λ ss es rs t q j l. absurd (omega arith) }
@@ -34,7 +35,8 @@ module _ {hs : List ℕ} {rules tag k : ℕ} (w : Ranking hs rules tag k) where
             (ne-eqb ((ruleAt rs k) .tag) tag (λ e. ne (header-tag (t .each k (omega arith)) ∙ e)));
       }
 
-  pub ranking-found : k < rules → tagOf (getD hs k 0) ≡ tag → (ss es : List ℕ) (rs : List Rule) → Tables hs ss es rs → rules ≡ length rs → Ranks rs tag k
+  pub ranking-found : k < rules → tagOf (getD hs k 0) ≡ tag
+      → (ss es : List ℕ) (rs : List Rule) → Tables hs ss es rs → rules ≡ length rs → Ranks rs tag k
   ranking-found more e ss es rs t q =
       record {
         within = omega arith;
@@ -56,8 +58,8 @@ untagged : (rules : List Rule) (tag : ℕ) → ((j : ℕ) → j < length rules �
 untagged [] tag h = refl
 untagged (r ∷ rs) tag h = rw (h 0 (omega arith)) (untagged rs tag (λ j l. h (suc j) (omega arith)))
 
-tagged-here : (rules : List Rule) (tag k : ℕ) → k < length rules → (ruleAt rules k) .tag ≡ tag → ((j : ℕ) → j < k → eqb ((ruleAt rules j) .tag) tag ≡ false)
-    → tagged tag rules ≡ true
+tagged-here : (rules : List Rule) (tag k : ℕ) → k < length rules → (ruleAt rules k) .tag ≡ tag
+    → ((j : ℕ) → j < k → eqb ((ruleAt rules j) .tag) tag ≡ false) → tagged tag rules ≡ true
 tagged-here [] tag k l e h = absurd (omega arith)
 tagged-here (r ∷ rs) tag zero l e h = rw (eq-eqb _ _ e)
 tagged-here (r ∷ rs) tag (suc k) l e h = rw (h 0 (omega arith)) (tagged-here rs tag k (omega arith) e (λ j p. h (suc j) (omega arith)))

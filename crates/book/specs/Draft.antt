@@ -22,30 +22,43 @@ pub record Draft : Type 0 where
   pub finals : List ℕ
   pub transitions : List Transition
 
+-- with nothing of a rule but its tag and kind
+abbrev pub bare : List Rule → Bool → ℕ → ℕ → Draft
+bare rules inside tag kind =
+    record { rules = rules; inside = inside; tag = tag; kind = kind; start = none; error = none; finals = []; transitions = [] }
+
 -- between rules
 abbrev pub between : List Rule → Draft
-between rules =
-    record { rules = rules; inside = false; tag = 0; kind = 0; start = none; error = none; finals = []; transitions = [] }
+between rules = bare rules false 0 0
 
 abbrev pub opened : Draft → ℕ → ℕ → Draft
-opened d tag kind =
-    record { rules = d.rules; inside = true; tag = tag; kind = kind; start = none; error = none; finals = []; transitions = [] }
+opened d tag kind = bare d.rules true tag kind
+
+-- with these parts of the open rule
+abbrev pub withParts : Draft → Option ℕ → Option ℕ → List ℕ → List Transition → Draft
+withParts d start error finals transitions =
+    record {
+      rules = d.rules;
+      inside = d.inside;
+      tag = d.tag;
+      kind = d.kind;
+      start = start;
+      error = error;
+      finals = finals;
+      transitions = transitions;
+    }
 
 abbrev pub withStart : Draft → ℕ → Draft
-withStart d s =
-    record { rules = d.rules; inside = d.inside; tag = d.tag; kind = d.kind; start = some s; error = d.error; finals = d.finals; transitions = d.transitions }
+withStart d s = withParts d (some s) d.error d.finals d.transitions
 
 abbrev pub withError : Draft → ℕ → Draft
-withError d s =
-    record { rules = d.rules; inside = d.inside; tag = d.tag; kind = d.kind; start = d.start; error = some s; finals = d.finals; transitions = d.transitions }
+withError d s = withParts d d.start (some s) d.finals d.transitions
 
 abbrev pub withFinal : Draft → ℕ → Draft
-withFinal d s =
-    record { rules = d.rules; inside = d.inside; tag = d.tag; kind = d.kind; start = d.start; error = d.error; finals = s ∷ d.finals; transitions = d.transitions }
+withFinal d s = withParts d d.start d.error (s ∷ d.finals) d.transitions
 
 abbrev pub withTransition : Draft → Transition → Draft
-withTransition d t =
-    record { rules = d.rules; inside = d.inside; tag = d.tag; kind = d.kind; start = d.start; error = d.error; finals = d.finals; transitions = t ∷ d.transitions }
+withTransition d t = withParts d d.start d.error d.finals (t ∷ d.transitions)
 
 abbrev pub isSet : Option ℕ → Bool
 isSet none = false

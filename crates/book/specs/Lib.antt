@@ -1,4 +1,5 @@
--- The definitions of this crate.
+-- `Limits`: the limits of document 01; `Draft`: what each command makes of what has been read; `Valid`: what holds of an accepted
+-- book; `Contracts`: how the code and the tables hold a draft.
 pub mod Limits
 pub mod Draft
 pub mod Valid

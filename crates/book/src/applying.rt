@@ -1,7 +1,7 @@
 // What a command makes of a book.
-use command::Command;
 use crate::Book;
 use crate::Progress;
+use command::Command;
 ghost use mathlib.Core.Path.{_≡_};
 ghost use Prim.Native.Nat.{_<_};
 ghost use Rattle.book.specs.Contracts.{Represented, Takes, standsInside, edgeCount};
@@ -18,7 +18,8 @@ pub fn apply(
 ) -> Progress
     requires { ⌜ Represented state (now headers) (now states) (now edges) ⌝ }
     requires { ⌜ (state .inside ≡ standsInside command) × (state .edges < edgeCount) × (at < len) ⌝ }
-    ensures { λ r. ⌜ Takes state command at len r (now (headers .entry)) (now (states .entry)) (now (edges .entry)) (now (headers .exit)) (now (states .exit)) (now (edges .exit)) ⌝ }
+    ensures { λ r. ⌜ Takes state command at len r (now (headers .entry)) (now (states .entry)) (now (edges .entry))
+        (now (headers .exit)) (now (states .exit)) (now (edges .exit)) ⌝ }
 {
     match command {
         Command::Rule { tag, kind } => crate::opening::open_rule(state, headers, tag, kind, at),

@@ -1,4 +1,6 @@
-// What has been read of a book, and what START, ERROR, FINAL and END make of it.
+// What has been read of a book, and what each command makes of it and of the tables.
+// Here are the limits, START, ERROR, FINAL, END and the search for a tag; `opening` has RULE, `moving` STEP and SPAN, `closing` CLOSE,
+// `applying` any command.
 pub mod applying;
 pub mod closing;
 pub mod moving;
@@ -8,13 +10,11 @@ use answer::Refusal;
 use automaton::STATES;
 use command::Command;
 ghost use mathlib.Core.Path.{_≡_};
-ghost use mathlib.Core.Bool.{true, false};
 ghost use mathlib.Core.List.{List};
 ghost use Prim.Native.Nat.{ℕ, _+_, _*_, _≤_, _<_};
 ghost use lib.ListN.{length};
 ghost use Rattle.automaton.specs.Rule.{Rule, stateCount};
 ghost use Rattle.automaton.specs.Contracts.{Tables};
-ghost use Rattle.automaton.specs.Choice.{if};
 ghost use Rattle.book.specs.Contracts.{idle, Takes, Ranks};
 
 // A book that is being read: how many rules are closed, how many transitions they and the open rule have, and the rest of
@@ -39,6 +39,14 @@ pub enum Progress {
     On(Book),
     Done(usize),
     Refused(Refusal),
+}
+
+impl Progress {
+    pub fn refused(number: u8, place: usize) -> Progress
+        ensures { λ r. ⌜ r ≡ Progress.Refused (record { number = number; place = place }) ⌝ }
+    {
+        Progress::Refused(Refusal { number, place })
+    }
 }
 
 impl Book {
@@ -90,7 +98,7 @@ impl Book {
         ensures { λ r. ⌜ ((hs ss es : List ℕ) (len : ℕ) → Takes self (Command.Start s) at len r hs ss es hs ss es) ⌝ }
     {
         if self.started {
-            return refused(Refusal::TWICE_OR_MISSING, at);
+            return Progress::refused(Refusal::TWICE_OR_MISSING, at);
         }
         self.started = true;
         self.start = s;
@@ -102,7 +110,7 @@ impl Book {
         ensures { λ r. ⌜ ((hs ss es : List ℕ) (len : ℕ) → Takes self (Command.Error s) at len r hs ss es hs ss es) ⌝ }
     {
         if self.erring {
-            return refused(Refusal::TWICE_OR_MISSING, at);
+            return Progress::refused(Refusal::TWICE_OR_MISSING, at);
         }
         self.erring = true;
         self.error = s;
@@ -112,7 +120,8 @@ impl Book {
     // FINAL.
     pub fn add_final(self, states: &mut [u16], s: u8) -> Progress
         requires { ⌜ self .rules * stateCount + stateCount ≤ length (now states) ⌝ }
-        ensures { λ r. ⌜ ((hs es : List ℕ) (at len : ℕ) → Takes self (Command.Final s) at len r hs (now (states .entry)) es hs (now (states .exit)) es) ⌝ }
+        ensures { λ r. ⌜ ((hs es : List ℕ) (at len : ℕ)
+            → Takes self (Command.Final s) at len r hs (now (states .entry)) es hs (now (states .exit)) es) ⌝ }
     {
         let rules = self.rules;
         automaton::building::mark_final(states, rules * STATES + (s as usize));
@@ -125,19 +134,13 @@ impl Book {
         ensures { λ r. ⌜ ((hs ss es : List ℕ) → Takes self Command.End at len r hs ss es hs ss es) ⌝ }
     {
         if self.rules == 0 {
-            return refused(Refusal::NO_RULE, at);
+            return Progress::refused(Refusal::NO_RULE, at);
         }
         if at + 1 < len {
-            return refused(Refusal::BYTES_AFTER_END, at + 1);
+            return Progress::refused(Refusal::BYTES_AFTER_END, at + 1);
         }
         Progress::Done(self.rules)
     }
-}
-
-pub fn refused(number: u8, place: usize) -> Progress
-    ensures { λ r. ⌜ r ≡ Progress.Refused (record { number = number; place = place }) ⌝ }
-{
-    Progress::Refused(Refusal { number, place })
 }
 
 // The number of the first rule of this tag; `rules` where none has it.

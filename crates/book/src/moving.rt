@@ -1,8 +1,8 @@
 // The commands STEP and SPAN.
-use answer::Refusal;
-use automaton::STATES;
 use crate::Book;
 use crate::Progress;
+use answer::Refusal;
+use automaton::STATES;
 ghost use mathlib.Core.Path.{_≡_};
 ghost use mathlib.Core.Bool.{true};
 ghost use mathlib.Core.List.{List};
@@ -24,23 +24,27 @@ pub fn add_transition(
     to: u8,
     at: usize,
 ) -> Progress
-    requires { ⌜ (book .rules * stateCount + stateCount ≤ length (now states)) × (book .edges < length (now edges)) × (length (now edges) ≡ edgeCount) ⌝ }
+    requires { ⌜ (book .rules * stateCount + stateCount ≤ length (now states)) × (book .edges < length (now edges))
+        × (length (now edges) ≡ edgeCount) ⌝ }
     requires { ⌜ Chained (now edges) (headAt (now states) (book .rules * stateCount + from)) ⌝ }
     ensures { λ r. ⌜ ((hs : List ℕ) (d : Draft) → Represents book hs (now (states .entry)) (now (edges .entry)) d → d .inside ≡ true
         → Follows (move d at from low high to) r hs (now (states .exit)) (now (edges .exit)) (book .edges + 1)) ⌝ }
 {
     let count = book.count;
     if Book::TRANSITIONS <= count {
-        return crate::refused(Refusal::TOO_MANY, at);
+        return Progress::refused(Refusal::TOO_MANY, at);
     }
     if high < low {
-        return crate::refused(Refusal::OUT_OF_RANGE, at);
+        return Progress::refused(Refusal::OUT_OF_RANGE, at);
     }
     let rules = book.rules;
     let number = book.edges;
     let cell = rules * STATES + (from as usize);
     let head = (states[cell] / 2) as usize;
-    book.overlap = either(automaton::building::shares_byte(edges, head, low, high), book.overlap);
+    book.overlap = either(
+        automaton::building::shares_byte(edges, head, low, high),
+        book.overlap,
+    );
     automaton::building::add_edge(states, edges, cell, number, low, high, to as u16);
     book.count = count + 1;
     book.edges = number + 1;

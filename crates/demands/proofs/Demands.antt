@@ -1,11 +1,10 @@
 -- A proof of each of the demands. Assumes nothing.
-use mathlib.Core.Path.{_≡_, refl, sym, subst}
+use mathlib.Core.Path.{_≡_, refl, sym, _∙_, subst}
 use mathlib.Core.Bool.{Bool, true, false}
 use mathlib.Core.List.{List, []}
 use Prim.Native.Nat.{ℕ, _-_, _≤_}
 use native.Mathlib.Omega.{arith}
-use lib.ListN.{length, take, drop}
-use lib.Seq.{take-append-seam}
+use lib.ListN.{length, drop}
 use Rattle.automaton.specs.Rule.{Rule}
 use Rattle.automaton.proofs.Tests.{clash}
 use Rattle.book.specs.Valid.{Valid}
@@ -18,17 +17,17 @@ use Rattle.longest_match.proofs.Cutting.{lex-nil}
 use Rattle.record.specs.Tokens.{tokensOf}
 use Rattle.token_list.specs.Faults.{aloneIn}
 use Rattle.printer.proofs.Accepting.{written-joins, alone-tagged}
-use Rattle.printer.proofs.RoundTrip.{byte-below, same-rules, Cut, lexed-cut, cut-accepts, stored-say, equal-lists, accepts-printable, output-cut, cut-printed}
-use Rattle.printer.specs.Outcome.{PrintOutcome}
+use Rattle.printer.proofs.RoundTrip.{byte-below, same-rules, Cut, lexed-cut, cut-accepts, stored-say}
+use Rattle.printer.proofs.RoundTrip.{equal-lists, accepts-printable, output-cut, cut-printed}
 use Rattle.spacing.specs.Separators.{spelled}
-use Rattle.separated.specs.Outcome.{separatedOutcome}
-use Rattle.separated.specs.Claims.{Accepts, Writes}
-use Rattle.separated.proofs.Claims.{accepts-unrefused, accepts-no-other, cuts-back, writes-apart}
+use Rattle.separated.proofs.RoundTrip.{spelled-rest, spelled-back, spelled-injective}
 use Rattle.demands.specs.Words.{Book, Lexes, stored, LongestMatch}
-use Rattle.demands.specs.Demands.{CutIsLongestMatch, StoredIsLongestMatch, TokensAndRestJoined, WritingJoins, EqualLists, AcceptedExactly, UnknownNotAlone, OutputsAreCut, CutsArePrinted, EmptyTextIsCut, SpacingAccepts, SpacingAcceptsNoOther, SpacingEqualLists, SpacingCutsBack}
+use Rattle.demands.specs.Demands.{CutIsLongestMatch, StoredIsLongestMatch, TokensAndRestJoined, WritingJoins}
+use Rattle.demands.specs.Demands.{EqualLists, AcceptedExactly, UnknownNotAlone, OutputsAreCut, CutsArePrinted, EmptyTextIsCut}
+use Rattle.demands.specs.Demands.{SpacingAccepts, SpacingAcceptsNoOther, SpacingEqualLists, SpacingCutsBack}
 use Rattle.demands.proofs.LongestMatch.{lex-longest, longest-lex}
 use Rattle.demands.proofs.Separable.{separable-printable, printable-separable}
-use Rattle.answer.specs.declared.PrintAnswer.the-variants as print
+use Rattle.demands.proofs.Spacing.{unrefused-passes, unrefused-spaces, spaces-unrefused}
 
 valid : {book : List ℕ} {rules : List Rule} → Book book rules → Valid rules
 valid {book} {rules} b = accepted-valid book rules (byte-below book (b .bytes)) (b .reads)
@@ -42,7 +41,8 @@ cut-is-longest-match book rules b text ts rest = (
 )
 
 -- the reported place is that of the rest
-rest-at : {book text room : List ℕ} {n place : ℕ} (rules : List Rule) → readBook book ≡ accepted rules → Cut book text room n place → drop place text ≡ (lex rules text) .rest
+rest-at : {book text room : List ℕ} {n place : ℕ} (rules : List Rule) → readBook book ≡ accepted rules → Cut book text room n place
+    → drop place text ≡ (lex rules text) .rest
 rest-at {book} {text} {room} {n} {place} rules e c =
     let q : c .rules ≡ rules = same-rules book (c .reads) e in
     let p : place ≡ length text - length ((lex rules text) .rest) = rw q at (c .place-is) in
@@ -54,7 +54,8 @@ stored-is-longest-match book rules b text room n place e =
     let t : tokensOf (stored book text room n) text ≡ (lex rules text) .tokens = stored-say book (b .bytes) c rules (b .reads) in
     let r : drop place text ≡ (lex rules text) .rest = rest-at rules (b .reads) c in
     subst (λ (x : List Token). LongestMatch rules text x (drop place text)) (sym t)
-    (subst (λ (x : List ℕ). LongestMatch rules text ((lex rules text) .tokens) x) (sym r) (lex-longest rules (valid b .rules-valid .distinct) text))
+    (subst (λ (x : List ℕ). LongestMatch rules text ((lex rules text) .tokens) x) (sym r)
+    (lex-longest rules (valid b .rules-valid .distinct) text))
 
 pub tokens-and-rest-joined : TokensAndRestJoined
 tokens-and-rest-joined book rules b text room n place e =
@@ -69,7 +70,8 @@ writing-joins = written-joins
 -- ---- demand 3, the plain printer
 
 pub equal-lists-equal-bytes : EqualLists
-equal-lists-equal-bytes book rules b records pool out n e records₁ pool₁ out₁ n₁ e₁ = equal-lists book (b .bytes) records pool out n records₁ pool₁ out₁ n₁ e e₁
+equal-lists-equal-bytes book rules b records pool out n e records₁ pool₁ out₁ n₁ e₁ =
+    equal-lists book (b .bytes) records pool out n records₁ pool₁ out₁ n₁ e e₁
 
 pub accepted-exactly : AcceptedExactly
 accepted-exactly book rules b records pool out u =
@@ -99,32 +101,27 @@ empty-text-is-cut book rules b room =
 
 -- ---- demand 3, the spacing printer
 
-accepts : {book : List ℕ} {rules : List Rule} → Book book rules → Accepts book rules
-accepts {book} b = record { bytes = byte-below book (b .bytes); reads = b .reads }
-
-writes : (o : PrintOutcome) (n : ℕ) → o .answer ≡ print.Printed n → Writes o (take n (o .out))
-writes o n e = record { count = n; reported = e; below = refl }
-
 pub spacing-accepts : SpacingAccepts
-spacing-accepts book rules b sep mode records pool out u =
-    let z = accepts-unrefused book rules (accepts b) sep mode records pool out u in
-    rw z (refl, take-append-seam (spelled rules sep mode records pool) (drop (length (spelled rules sep mode records pool)) out))
+spacing-accepts book rules b = unrefused-spaces book rules (b .reads)
 
 pub spacing-accepts-no-other : SpacingAcceptsNoOther
-spacing-accepts-no-other book rules b sep mode records pool out n e = accepts-no-other book rules (accepts b) sep mode records pool out _ (writes _ n e)
+spacing-accepts-no-other book rules b = spaces-unrefused book rules (b .reads)
 
 pub spacing-equal-lists : SpacingEqualLists
 spacing-equal-lists book rules b mode sep records pool out n e sep₁ records₁ pool₁ out₁ n₁ e₁ same =
-    writes-apart book rules (accepts b) mode sep records pool out _ sep₁ records₁ pool₁ out₁ _ same (writes _ n e) (writes _ n₁ e₁)
+    let x = spaces-unrefused book rules (b .reads) sep mode records pool out n e in
+    let y = spaces-unrefused book rules (b .reads) sep₁ mode records₁ pool₁ out₁ n₁ e₁ in
+    rw (x .1, y .1) (spelled-injective (valid b .rules-valid) (unrefused-passes (x .0)) (unrefused-passes (y .0)) same)
 
 pub spacing-cuts-back : SpacingCutsBack
 spacing-cuts-back book rules b sep mode records pool out n e text t room enough =
-    let w : Writes (separatedOutcome book sep mode records pool out) text = record { count = n; reported = e; below = t } in
-    let x = accepts-no-other book rules (accepts b) sep mode records pool out text w in
-    let y = cuts-back book rules (accepts b) sep mode records pool out text w in
-    let short : length text ≤ maxText = rw (x .1) (x .0 .not-20) in
+    let x = spaces-unrefused book rules (b .reads) sep mode records pool out n e in
+    let w : text ≡ spelled rules sep mode records pool = sym t ∙ x .1 in
+    let p = unrefused-passes (x .0) in
+    let short : length text ≤ maxText = rw w (x .0 .not-20) in
     let o = cut-accepts book text room rules (b .reads) short enough in
-    let z : length text - length ((lex rules text) .rest) ≡ length text = rw (y .0) (omega arith) in
+    let r : (lex rules text) .rest ≡ [] = rw w (spelled-rest (valid b .rules-valid) p) in
+    let z : length text - length ((lex rules text) .rest) ≡ length text = rw r (omega arith) in
     let l : Lexes book text room (length ((lex rules text) .tokens)) (length text) = rw o (rw z refl) in
     let c = lexed-cut book text room (length ((lex rules text) .tokens)) (length text) l in
-    (l, rw (stored-say book (b .bytes) c rules (b .reads)) (y .1))
+    (l, rw (stored-say book (b .bytes) c rules (b .reads)) (rw w (spelled-back (valid b .rules-valid) p)))

@@ -36,7 +36,8 @@ module _ (rules : List Rule) (distinct : Distinct rules) where
   abbrev By : List ℕ → Lexed → Type 0
   By text cut = LongestMatch rules text cut.tokens cut.rest
 
-  turn : (text : List ℕ) → ((x : List ℕ) → length x < length text → By x (lex rules x)) → (o : Option Found) → choose rules text ≡ o → By text (proceed o text (lex rules))
+  turn : (text : List ℕ) → ((x : List ℕ) → length x < length text → By x (lex rules x)) → (o : Option Found) → choose rules text ≡ o
+      → By text (proceed o text (lex rules))
   turn text ih none e = (refl, choose-none rules text e)
   turn text ih (some f) e = (
     chosen-longest text f e,
@@ -45,15 +46,16 @@ module _ (rules : List Rule) (distinct : Distinct rules) where
   )
 
   within : (n : ℕ) (text : List ℕ) → length text ≤ n → By text (lex rules text)
-  within zero text l = subst (By text) (sym (lex-unfolds rules text)) (turn text (λ x m. absurd (omega arith)) (choose rules text) refl)
-  within (suc n) text l = subst (By text) (sym (lex-unfolds rules text)) (turn text (λ x m. within n x (omega arith)) (choose rules text) refl)
+  within zero text l = subst (By text) (sym (lex-unfolds rules text)) (turn text (λ x m. absurd (omega arith)) _ refl)
+  within (suc n) text l = subst (By text) (sym (lex-unfolds rules text)) (turn text (λ x m. within n x (omega arith)) _ refl)
 
   pub lex-longest : (text : List ℕ) → LongestMatch rules text ((lex rules text) .tokens) ((lex rules text) .rest)
   lex-longest text = within (length text) text (omega arith)
 
 -- ---- and nothing else is
 
-longest-chosen : (rules : List Rule) (text : List ℕ) (t : Token) → Longest rules text t → choose rules text ≡ some (record { token = t; rest = drop (length t.bytes) text })
+longest-chosen : (rules : List Rule) (text : List ℕ) (t : Token) → Longest rules text t
+    → choose rules text ≡ some (record { token = t; rest = drop (length t.bytes) text })
 unfolding choose
 longest-chosen rules text t h =
     let m : firstMatch rules (take (length t.bytes) text) ≡ some t.tag = rw (h .here) (alone-first rules t.tag t.bytes (h .earliest)) in
@@ -64,11 +66,13 @@ longest-chosen rules text t h =
     fits : (text w : List ℕ) → take (length w) text ≡ w → length w ≤ length text
     fits text w e = omega (arith, simp length-take at (ap length e))
 
-none-chosen : (rules : List Rule) (text : List ℕ) → ((n : ℕ) → 0 < n → n ≤ length text → Unmatched rules (take n text)) → choose rules text ≡ none
+none-chosen : (rules : List Rule) (text : List ℕ) → ((n : ℕ) → 0 < n → n ≤ length text → Unmatched rules (take n text))
+    → choose rules text ≡ none
 unfolding choose
 none-chosen rules text h = within-none rules text (length text) (λ n p l. unmatched-none rules (take n text) (h n p l))
 
-pub longest-lex : (rules : List Rule) (text : List ℕ) (ts : List Token) (rest : List ℕ) → LongestMatch rules text ts rest → lex rules text ≡ record { tokens = ts; rest = rest }
+pub longest-lex : (rules : List Rule) (text : List ℕ) (ts : List Token) (rest : List ℕ) → LongestMatch rules text ts rest
+    → lex rules text ≡ record { tokens = ts; rest = rest }
 longest-lex rules text [] rest (e, h) = lex-stop rules text (none-chosen rules text h) ∙ rw e
 longest-lex rules text (t ∷ ts) rest (h, k) =
     let q = longest-lex rules (drop (length t.bytes) text) ts rest k in

@@ -18,15 +18,18 @@ use Rattle.demands.specs.Words.{Unmatched, Separable}
 use Rattle.demands.proofs.LongestMatch.{unmatched-none}
 
 -- some beginning behind w is matched, so that it is not so that none is
-unmatched-longer : (rules : List Rule) (w after : List ℕ) → Longer rules w after → ((n : ℕ) → 0 < n → n ≤ length after → Unmatched rules (w ++ take n after)) → ⊥
+unmatched-longer : (rules : List Rule) (w after : List ℕ) → Longer rules w after
+    → ((n : ℕ) → 0 < n → n ≤ length after → Unmatched rules (w ++ take n after)) → ⊥
 unmatched-longer rules w after l h =
     let p = l.first ∷ l.more in
     let s : length after ≡ length p + length l.behind = ap length (l .splits) ∙ length-append p l.behind in
     let t : take (length p) after ≡ p = ap (take (length p)) (l .splits) ∙ take-append-seam p l.behind in
-    let m : firstMatch rules (w ++ p) ≡ none = rw t at (unmatched-none rules (w ++ take (length p) after) (h (length p) (omega arith) (omega arith))) in
+    let u = unmatched-none rules (w ++ take (length p) after) (h (length p) (omega arith) (omega arith)) in
+    let m : firstMatch rules (w ++ p) ≡ none = rw t at u in
     clash (l .matched) (rw m)
 
-unextended : (rules : List Rule) (w after : List ℕ) → ((n : ℕ) → 0 < n → n ≤ length after → Unmatched rules (w ++ take n after)) → extends rules w after ≡ false
+unextended : (rules : List Rule) (w after : List ℕ) → ((n : ℕ) → 0 < n → n ≤ length after → Unmatched rules (w ++ take n after))
+    → extends rules w after ≡ false
 unextended rules w after h = go (extends rules w after) refl
   where
     go : (b : Bool) → extends rules w after ≡ b → b ≡ false
@@ -35,9 +38,13 @@ unextended rules w after h = go (extends rules w after) refl
 
 pub separable-printable : (rules : List Rule) (ts : List Token) → Separable rules ts → Printable rules ts
 separable-printable rules [] h = tt
-separable-printable rules (t ∷ ts) (a, x, h) = (alone-first rules t.tag t.bytes a, unextended rules t.bytes (join ts) x, separable-printable rules ts h)
+separable-printable rules (t ∷ ts) (a, x, h) =
+    (alone-first rules t.tag t.bytes a, unextended rules t.bytes (join ts) x, separable-printable rules ts h)
 
 pub printable-separable : (rules : List Rule) (ts : List Token) → Distinct rules → Printable rules ts → Separable rules ts
 printable-separable rules [] d h = tt
-printable-separable rules (t ∷ ts) d (a, x, h) =
-    (first-alone rules t.tag t.bytes d a, (λ n p l. unmatched rules (t.bytes ++ take n (join ts)) (extends-false rules t.bytes (join ts) x n p l)), printable-separable rules ts d h)
+printable-separable rules (t ∷ ts) d (a, x, h) = (
+  first-alone rules t.tag t.bytes d a,
+  λ n p l. unmatched rules (t.bytes ++ take n (join ts)) (extends-false rules t.bytes (join ts) x n p l),
+  printable-separable rules ts d h,
+)

@@ -14,8 +14,7 @@ use Rattle.record.specs.Tokens.{tokensOf, tokenIn}
 use Rattle.record.specs.declared.TokenRecord.{TokenRecord}
 use Rattle.token_list.specs.Faults.{aloneIn}
 use Rattle.spacing.specs.Separators.{dropSeparators, spelled}
-use Rattle.separated.specs.Claims.{Unrefused}
-use Rattle.demands.specs.Words.{Spaces, spaced, Book, Lexes, stored, Prints, written, Unlimited, LongestMatch, Separable}
+use Rattle.demands.specs.Words.{Spaces, spaced, Book, Lexes, stored, Prints, written, Unlimited, LongestMatch, Separable, Unrefused}
 
 -- ---- demand 1
 

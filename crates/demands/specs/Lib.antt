@@ -1,3 +1,3 @@
--- The definitions of this crate.
+-- The customer's demands as types (Demands), and the words that they use (Words).
 pub mod Words
 pub mod Demands

@@ -2,20 +2,24 @@
 use mathlib.Core.Path.{_≡_}
 use mathlib.Core.Bool.{true, false}
 use mathlib.Core.List.{List, [], _∷_, _++_}
-use Prim.Native.Nat.{ℕ, _*_, _<_, _≤_}
+use Prim.Native.Nat.{ℕ, _+_, _*_, _<_, _≤_}
 use lib.ListN.{length, take, drop}
 use Rattle.automaton.specs.Choice.{All}
 use Rattle.automaton.specs.Rule.{Rule, matches}
+use Rattle.book.specs.Draft.{tagged}
 use Rattle.book.specs.Limits.{maxText, maxTokens}
 use Rattle.reader.specs.Reading.{accepted, readBook}
 use Rattle.longest_match.specs.Lexer.{Token, join}
 use Rattle.record.specs.Records.{recordCount}
-use Rattle.record.specs.Tokens.{recordsOf, tokensOf}
+use Rattle.record.specs.Tokens.{recordsOf, bytesIn, tokensOf}
 use Rattle.record.specs.Contracts.{InPool}
 use Rattle.record.specs.declared.TokenRecord.{TokenRecord}
 use Rattle.lexer.specs.Outcome.{lexOutcome}
 use Rattle.token_list.specs.Faults.{aloneIn}
 use Rattle.printer.specs.Outcome.{printOutcome}
+use Rattle.used_bytes.specs.Kinds.{plainKind, separatorKind, separates}
+use Rattle.used_bytes.specs.Bytes.{usedByKind}
+use Rattle.spacing.specs.Separators.{spelled}
 use Rattle.separated.specs.Outcome.{separatedOutcome}
 use Rattle.answer.specs.declared.LexAnswer.the-variants as lexed
 use Rattle.answer.specs.declared.PrintAnswer.the-variants as print
@@ -88,3 +92,28 @@ Separable rules (t ∷ ts) =
     (aloneIn rules t.tag t.bytes ≡ true)
     × ((n : ℕ) → 0 < n → n ≤ length (join ts) → Unmatched rules (t.bytes ++ take n (join ts)))
     × Separable rules ts
+
+-- ---- a list that meets none of the spacing printer's refusals
+
+-- a token in none of the cases of 17, 18 and 19
+pub record Fit (rules : List Rule) (pool : List ℕ) (r : TokenRecord) : Type 0 where
+  pub not-17 : r .place + r .len ≤ length pool
+  pub not-18 : tagged (r .tag) rules ≡ true
+  pub not-19 : aloneIn rules (r .tag) (bytesIn pool r) ≡ true
+
+pub record FitSeparator (rules : List Rule) (pool : List ℕ) (r : TokenRecord) : Type 0 where
+  pub fit : Fit rules pool r
+  pub not-25 : separates rules (r .tag) ≡ true
+
+pub record FitPlain (rules : List Rule) (pool : List ℕ) (r : TokenRecord) : Type 0 where
+  pub fit : Fit rules pool r
+  pub not-26 : separates rules (r .tag) ≡ false
+
+pub record Unrefused (rules : List Rule) (sep : TokenRecord) (mode : ℕ) (records pool out : List ℕ) : Type 0 where
+  pub not-23 : (b : ℕ) → b < 256 → usedByKind plainKind rules b ≡ true → usedByKind separatorKind rules b ≡ true → ⊥
+  pub not-24 : mode ≤ 2
+  pub separator : FitSeparator rules pool sep
+  pub not-16 : recordCount records ≤ maxTokens
+  pub tokens : All (FitPlain rules pool) (recordsOf records)
+  pub not-20 : length (spelled rules sep mode records pool) ≤ maxText
+  pub not-22 : length (spelled rules sep mode records pool) ≤ length out

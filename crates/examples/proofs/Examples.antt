@@ -22,5 +22,11 @@ use Rattle.examples.specs.Table.{table, Examples}
 use Rattle.printer.specs.Outcome as print
 
 pub examples : Examples
-unfolding table target walk matches overlaps placed operandsOf decode commandAt check move apply readFrom readBook firstMatch chooseWithin choose lexFor lex recordsAt lexRules lexOutcome decimalFor decimal lastTwo tokenLine restLine refusedLine recordLine recordLines listing extends recordAt recordsFrom recordsOf tokensIn aloneIn faultOf refuse firstFault firstExtended print.refusedIf print.unless print.printChecked print.printRules printOutcome used usedByKind shared lowestFrom sharedByte separates meaning follows separated orElse separatorFault plainFault sharing listRefusal separatedRefusal writing separatedRules separatedOutcome
+unfolding table target walk matches overlaps placed operandsOf decode commandAt check move apply readFrom readBook
+    firstMatch chooseWithin choose lexFor lex recordsAt lexRules lexOutcome
+    decimalFor decimal lastTwo tokenLine restLine refusedLine recordLine recordLines listing
+    extends recordAt recordsFrom recordsOf tokensIn aloneIn faultOf refuse firstFault firstExtended
+    print.refusedIf print.unless print.printChecked print.printRules printOutcome
+    used usedByKind shared lowestFrom sharedByte separates meaning follows separated
+    orElse separatorFault plainFault sharing listRefusal separatedRefusal writing separatedRules separatedOutcome
 examples = (refl, (refl, (refl, (refl, (refl, (refl, (refl, (refl, (refl, (refl, (refl, (refl, (refl, (refl, tt))))))))))))))

@@ -1,2 +1,2 @@
--- What the proofs of this crate share, and the laws for the layers above.
+-- The proof of the claim.
 pub mod Examples

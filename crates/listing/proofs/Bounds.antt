@@ -19,7 +19,7 @@ use Rattle.longest_match.proofs.Lexing.{lex-lengths}
 use Rattle.record.specs.Records.{recordOf, recordsAt, recordCount}
 use Rattle.record.proofs.Records.{length-records, tokenAt, placeAt, records-at, laid-within, four-value}
 use Rattle.record.specs.Tokens.{twoAt, fourAt, recordAt}
-use Rattle.lexer.specs.Outcome.{lexRefused, lexAccepted, lexRules, lexReading, lexOutcome}
+use Rattle.lexer.specs.Outcome.{LexOutcome, lexRefused, lexAccepted, lexRules, lexReading, lexOutcome}
 use Rattle.listing.specs.Decimal.{decimal, field, blank, lineEnd, lastTwo}
 use Rattle.listing.specs.Contracts.{Puts, outputBytes, LinesFit}
 use Rattle.listing.proofs.Putting.{digits}
@@ -34,7 +34,8 @@ short-two : (a b : ℕ) → a < 100000 → b < 100000 → length (lastTwo a b) �
 unfolding lastTwo
 short-two a b l m = omega (arith, length-append (field a blank) (field b lineEnd), short-field a blank l, short-field b lineEnd m)
 
-short-token : (number tag place len : ℕ) → number < 100000 → tag < 100000 → place < 100000 → len < 100000 → length (tokenLine number tag place len) ≤ 24
+short-token : (number tag place len : ℕ) → number < 100000 → tag < 100000 → place < 100000 → len < 100000
+    → length (tokenLine number tag place len) ≤ 24
 unfolding tokenLine
 short-token number tag place len l m n o =
     omega (
@@ -54,7 +55,8 @@ short-lines : (records : List ℕ) (n : ℕ) → ((k : ℕ) → k < n → length
 unfolding recordLines
 short-lines records zero h = omega arith
 short-lines records (suc n) h =
-    omega (arith, length-append (recordLines records n) (recordLine records n), short-lines records n (λ k l. h k (omega arith)), h n (omega arith))
+    let l = length-append (recordLines records n) (recordLine records n) in
+    omega (arith, short-lines records n (λ k m. h k (omega arith)), h n (omega arith))
 
 -- ---- the records of a cut
 
@@ -67,7 +69,8 @@ four-is bytes i n l a b c d =
 module _ (ts : List Token) (more : List ℕ) (k : ℕ) (l : k < length ts) where
   -- byte number j of record number k
   pub byte-at : (j : ℕ) → j < 10
-      → getD (recordsAt 0 ts ++ more) (10 * k + j) 0 ≡ getD (recordOf ((tokenAt ts k) .tag) (placeAt ts k) (length ((tokenAt ts k) .bytes))) j 0
+      → getD (recordsAt 0 ts ++ more) (10 * k + j) 0
+      ≡ getD (recordOf ((tokenAt ts k) .tag) (placeAt ts k) (length ((tokenAt ts k) .bytes))) j 0
   byte-at j m =
       List·getD-append (recordsAt 0 ts) more 0 (10 * k + j) (omega (arith, length-records ts 0))
       ∙ sym (getD-drop (10 * k) (recordsAt 0 ts) j 0)
@@ -79,15 +82,19 @@ module _ (ts : List Token) (more : List ℕ) (k : ℕ) (l : k < length ts) where
 
   pub place-is : placeAt ts k < 4294967296 → fourAt (recordsAt 0 ts ++ more) (10 * k + 2) ≡ placeAt ts k
   place-is m =
-      four-is (recordsAt 0 ts ++ more) (10 * k + 2) (placeAt ts k) m (byte-at 2 (omega arith)) (rw add-assoc (byte-at 3 (omega arith)))
-      (rw add-assoc (byte-at 4 (omega arith))) (rw add-assoc (byte-at 5 (omega arith)))
+      four-is (recordsAt 0 ts ++ more) (10 * k + 2) (placeAt ts k) m (byte-at 2 (omega arith))
+      (rw add-assoc (byte-at 3 (omega arith))) (rw add-assoc (byte-at 4 (omega arith))) (rw add-assoc (byte-at 5 (omega arith)))
 
-  pub length-is : length ((tokenAt ts k) .bytes) < 4294967296 → fourAt (recordsAt 0 ts ++ more) (10 * k + 6) ≡ length ((tokenAt ts k) .bytes)
+  pub length-is : length ((tokenAt ts k) .bytes) < 4294967296
+      → fourAt (recordsAt 0 ts ++ more) (10 * k + 6) ≡ length ((tokenAt ts k) .bytes)
   length-is m =
-      four-is (recordsAt 0 ts ++ more) (10 * k + 6) (length ((tokenAt ts k) .bytes)) m (byte-at 6 (omega arith)) (rw add-assoc (byte-at 7 (omega arith)))
-      (rw add-assoc (byte-at 8 (omega arith))) (rw add-assoc (byte-at 9 (omega arith)))
+      four-is (recordsAt 0 ts ++ more) (10 * k + 6) (length ((tokenAt ts k) .bytes)) m (byte-at 6 (omega arith))
+      (rw add-assoc (byte-at 7 (omega arith))) (rw add-assoc (byte-at 8 (omega arith))) (rw add-assoc (byte-at 9 (omega arith)))
 
 -- ---- an outcome
+
+abbrev OutcomeFits : LexOutcome → List ℕ → List ℕ → Type 0
+OutcomeFits o text out = LinesFit (o .answer) (o .records) (length text) out
 
 module _ (rules : List Rule) (text records : List ℕ) (small : length text ≤ maxText) where
   abbrev tokens : List Token
@@ -104,10 +111,11 @@ module _ (rules : List Rule) (text records : List ℕ) (small : length text ≤ 
       let p = place-is tokens (drop (10 * length tokens) records) k l (omega arith) in
       let q = length-is tokens (drop (10 * length tokens) records) k l (omega arith) in
       let t = tag-below tokens (drop (10 * length tokens) records) k l in
-      short-token k (twoAt filled (10 * k)) (fourAt filled (10 * k + 2)) (fourAt filled (10 * k + 6)) (omega arith) (omega arith) (omega arith) (omega arith)
+      short-token k (twoAt filled (10 * k)) (fourAt filled (10 * k + 2)) (fourAt filled (10 * k + 6))
+      (omega arith) (omega arith) (omega arith) (omega arith)
 
-  pub fit-accepted : (out : List ℕ) → length records ≡ recordBytes → outputBytes ≤ length out → length tokens ≤ recordCount records
-      → LinesFit ((lexAccepted (lex rules text) text records) .answer) ((lexAccepted (lex rules text) text records) .records) (length text) out
+  fit-accepted : (out : List ℕ) → length records ≡ recordBytes → outputBytes ≤ length out → length tokens ≤ recordCount records
+      → OutcomeFits (lexAccepted (lex rules text) text records) text out
   fit-accepted out size room few =
       let j = lex-lengths rules text in
       let place : ℕ = length text - length ((lex rules text) .rest) in (
@@ -124,30 +132,35 @@ module _ (rules : List Rule) (text records : List ℕ) (small : length text ≤ 
       )
 
 module _ (text records out : List ℕ) (size : length records ≡ recordBytes) (room : outputBytes ≤ length out) where
-  fit-rules : (rules : List Rule) → LinesFit ((lexRules rules text records) .answer) ((lexRules rules text records) .records) (length text) out
+  fit-rules : (rules : List Rule) → OutcomeFits (lexRules rules text records) text out
   unfolding lexRules
-  fit-rules rules = go (ltb maxText (length text)) refl (ltb (recordCount records) (length ((lex rules text) .tokens))) refl
+  fit-rules rules = go (ltb maxText (length text)) refl (ltb (recordCount records) count) refl
     where
-      go : (t : Bool) → ltb maxText (length text) ≡ t → (u : Bool) → ltb (recordCount records) (length ((lex rules text) .tokens)) ≡ u
-          → LinesFit ((if t (lexRefused 14 0 records) (if u (lexRefused 15 (length ((lex rules text) .tokens)) records) (lexAccepted (lex rules text) text records))) .answer)
-          ((if t (lexRefused 14 0 records) (if u (lexRefused 15 (length ((lex rules text) .tokens)) records) (lexAccepted (lex rules text) text records))) .records)
-          (length text) out
+      count : ℕ
+      count = length ((lex rules text) .tokens)
+
+      cut : LexOutcome
+      cut = lexAccepted (lex rules text) text records
+
+      go : (t : Bool) → ltb maxText (length text) ≡ t → (u : Bool) → ltb (recordCount records) count ≡ u
+          → OutcomeFits (if t (lexRefused 14 0 records) (if u (lexRefused 15 count records) cut)) text out
       go true e u f = omega arith
       go false e true f = omega arith
-      go false e false f = fit-accepted rules text records (ltb-false maxText (length text) e) out size room (ltb-false (recordCount records) _ f)
+      go false e false f = fit-accepted rules text records (ltb-false _ _ e) out size room (ltb-false _ _ f)
 
-  fit-reading : (o : Reading) → LinesFit ((lexReading o text records) .answer) ((lexReading o text records) .records) (length text) out
+  fit-reading : (o : Reading) → OutcomeFits (lexReading o text records) text out
   fit-reading (accepted rules) = fit-rules rules
   fit-reading (refused number place) = omega arith
 
   -- the lines of every outcome fit
-  pub fit-outcome : (book : List ℕ) → LinesFit ((lexOutcome book text records) .answer) ((lexOutcome book text records) .records) (length text) out
+  fit-outcome : (book : List ℕ) → OutcomeFits (lexOutcome book text records) text out
   unfolding lexOutcome
   fit-outcome book = fit-reading (readBook book)
 
 -- ---- the whole listing, of an answer and records that are those of the outcome
 
-module _ (book text records : List ℕ) {exit : List ℕ} {r : LexAnswer} (a : r ≡ (lexOutcome book text records) .answer) (b : exit ≡ (lexOutcome book text records) .records) where
+module _ (book text records : List ℕ) {exit : List ℕ} {r : LexAnswer}
+    (a : r ≡ (lexOutcome book text records) .answer) (b : exit ≡ (lexOutcome book text records) .records) where
   pub fit-answer : (out : List ℕ) → length records ≡ recordBytes → length out ≡ outputBytes → LinesFit r exit (length text) out
   fit-answer out size room = rw (a, b) (fit-outcome text records out size (omega arith) book)
 

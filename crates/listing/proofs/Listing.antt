@@ -20,7 +20,8 @@ lines-more : (records : List ℕ) (k : ℕ) → recordLines records (k + 1) ≡ 
 unfolding recordLines
 lines-more records k = rw add-one
 
-pub lines-within : (records : List ℕ) (k n : ℕ) → k < n → length (recordLines records k) + length (recordLine records k) ≤ length (recordLines records n)
+pub lines-within : (records : List ℕ) (k n : ℕ) → k < n
+    → length (recordLines records k) + length (recordLine records k) ≤ length (recordLines records n)
 unfolding recordLines
 lines-within records k zero l = absurd (omega arith)
 lines-within records k (suc n) l = go (ltb k n) refl (lines-within records k n)
@@ -28,7 +29,8 @@ lines-within records k (suc n) l = go (ltb k n) refl (lines-within records k n)
     both : length (recordLines records n ++ recordLine records n) ≡ length (recordLines records n) + length (recordLine records n)
     both = length-append (recordLines records n) (recordLine records n)
 
-    go : (t : Bool) → ltb k n ≡ t → (k < n → length (recordLines records k) + length (recordLine records k) ≤ length (recordLines records n))
+    go : (t : Bool) → ltb k n ≡ t
+        → (k < n → length (recordLines records k) + length (recordLine records k) ≤ length (recordLines records n))
         → length (recordLines records k) + length (recordLine records k) ≤ length (recordLines records n ++ recordLine records n)
     go true e h = omega (arith, h (ltb-true k n e), both)
     go false e h =
@@ -48,7 +50,9 @@ going-start entry records n = record { within = omega arith; same = refl; put = 
 
 module _ {entry records out : List ℕ} {n at k : ℕ} (g : Going entry records n out at k) (r : Room 0 (recordLines records n) entry) where
   more : k < n → Room 0 (recordLines records k ++ recordLine records k) entry
-  more l = record { room = omega (arith, lines-within records k n l, length-append (recordLines records k) (recordLine records k), r .room) }
+  more l = record {
+    room = omega (arith, lines-within records k n l, length-append (recordLines records k) (recordLine records k), r .room);
+  }
 
   pub going-room : k < n → Room at (recordLine records k) out
   going-room l = room-second (g .put) (g .same) (more l)
@@ -76,7 +80,8 @@ module _ {a : LexAnswer} {tokens rest : ℕ} (e : a ≡ Lexed tokens rest) (reco
   puts-lexed {out} {after} {end} p = subst (λ (x : LexAnswer). Puts out 0 (linesOf x records len) end after) (sym e) p
 
 module _ {a : LexAnswer} {f : Refusal} (e : a ≡ Refused f) (records : List ℕ) (len : ℕ) where
-  pub room-refused : {out : List ℕ} → LinesFit a records len out → f .number < 256 → f .place < 18446744073709551616 → Room 0 (refusedLine (f .number) (f .place)) out
+  pub room-refused : {out : List ℕ} → LinesFit a records len out → f .number < 256 → f .place < 18446744073709551616
+      → Room 0 (refusedLine (f .number) (f .place)) out
   unfolding refusedLine lastTwo
   room-refused {out} t l m =
       let room : refusedBytes ≤ length out = subst (λ (x : LexAnswer). LinesFit x records len out) e t in
@@ -93,5 +98,6 @@ module _ {a : LexAnswer} {f : Refusal} (e : a ≡ Refused f) (records : List ℕ
         );
       }
 
-  pub puts-refused : {out after : List ℕ} {end : ℕ} → Puts out 0 (refusedLine (f .number) (f .place)) end after → Puts out 0 (linesOf a records len) end after
+  pub puts-refused : {out after : List ℕ} {end : ℕ} → Puts out 0 (refusedLine (f .number) (f .place)) end after
+      → Puts out 0 (linesOf a records len) end after
   puts-refused {out} {after} {end} p = subst (λ (x : LexAnswer). Puts out 0 (linesOf x records len) end after) (sym e) p

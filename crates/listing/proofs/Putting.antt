@@ -24,7 +24,8 @@ pub puts-byte : (entry : List ℕ) (at byte : ℕ) → Room at (byte ∷ []) ent
 puts-byte entry at byte l =
     record { behind = refl; written = rw (set-split entry at byte (omega (arith, l .room)), append-snoc, add-one) }
 
-module _ {entry middle exit xs ys : List ℕ} {at m end : ℕ} (p : Puts entry at xs m middle) (q : Puts middle m ys end exit) (r : Room at xs entry) where
+module _ {entry middle exit xs ys : List ℕ} {at m end : ℕ}
+    (p : Puts entry at xs m middle) (q : Puts middle m ys end exit) (r : Room at xs entry) where
   head-length : length (take at entry ++ xs) ≡ at + length xs
   head-length =
       let l : length (take at entry) ≡ at = length-take-le at entry (omega (arith, r .room)) in
@@ -58,7 +59,8 @@ module _ {entry middle exit xs ys : List ℕ} {at m end : ℕ} (p : Puts entry a
 pub room-first : {at : ℕ} {xs out : List ℕ} (ys : List ℕ) → Room at (xs ++ ys) out → Room at xs out
 room-first {at} {xs} {out} ys r = record { room = omega (arith, length-append xs ys, r .room) }
 
-pub room-second : {entry middle xs ys : List ℕ} {at m : ℕ} → Puts entry at xs m middle → length middle ≡ length entry → Room at (xs ++ ys) entry
+pub room-second : {entry middle xs ys : List ℕ} {at m : ℕ} → Puts entry at xs m middle → length middle ≡ length entry
+    → Room at (xs ++ ys) entry
     → Room m ys middle
 room-second {entry} {middle} {xs} {ys} p e r = record { room = omega (arith, length-append xs ys, p .behind, r .room) }
 
@@ -71,7 +73,8 @@ decimal-fuel (suc f) zero n p q = absurd (omega arith)
 decimal-fuel (suc f) (suc g) n p q = go (ltb n 10) refl (decimal-fuel f g (n / 10))
   where
     go : (t : Bool) → ltb n 10 ≡ t → (n / 10 < f → n / 10 < g → decimalFor f (n / 10) ≡ decimalFor g (n / 10))
-        → if t ((48 + n) ∷ []) (decimalFor f (n / 10) ++ ((48 + n % 10) ∷ [])) ≡ if t ((48 + n) ∷ []) (decimalFor g (n / 10) ++ ((48 + n % 10) ∷ []))
+        → if t ((48 + n) ∷ []) (decimalFor f (n / 10) ++ ((48 + n % 10) ∷ []))
+        ≡ if t ((48 + n) ∷ []) (decimalFor g (n / 10) ++ ((48 + n % 10) ∷ []))
     go true e h = refl
     go false e h = let l : 10 ≤ n = ltb-false n 10 e in rw (h (omega arith) (omega arith))
 
@@ -81,7 +84,31 @@ decimal-digit n l = rw (lt-ltb n 10 l)
 
 pub decimal-more : (n : ℕ) → 10 ≤ n → decimal n ≡ decimal (n / 10) ++ ((48 + n % 10) ∷ [])
 unfolding decimal decimalFor
-decimal-more n l = rw (le-ltb n 10 l) (ap (λ (ds : List ℕ). ds ++ ((48 + n % 10) ∷ [])) (decimal-fuel n (suc (n / 10)) (n / 10) (omega arith) (omega arith)))
+decimal-more n l =
+    let e = decimal-fuel n (suc (n / 10)) (n / 10) (omega arith) (omega arith) in
+    rw (le-ltb n 10 l) (ap (λ (ds : List ℕ). ds ++ ((48 + n % 10) ∷ [])) e)
+
+-- one digit, and one more digit
+module _ {at : ℕ} {entry : List ℕ} {n : ℕ} (l : n < 10) where
+  pub room-digit : Room at (decimal n) entry → Room at ((48 + n) ∷ []) entry
+  room-digit r = rw (decimal-digit n l) at r
+
+  pub puts-digit : {end : ℕ} {exit : List ℕ} → Puts entry at ((48 + n) ∷ []) end exit → Puts entry at (decimal n) end exit
+  puts-digit p = rw (decimal-digit n l) p
+
+module _ {at : ℕ} {entry : List ℕ} {n : ℕ} (l : 10 ≤ n) (r : Room at (decimal n) entry) where
+  room-both : Room at (decimal (n / 10) ++ ((48 + n % 10) ∷ [])) entry
+  room-both = rw (decimal-more n l) at r
+
+  pub room-tenth : Room at (decimal (n / 10)) entry
+  room-tenth = room-first _ room-both
+
+  module _ {m : ℕ} {middle : List ℕ} (p : Puts entry at (decimal (n / 10)) m middle) where
+    pub room-last : length middle ≡ length entry → Room m ((48 + n % 10) ∷ []) middle
+    room-last e = room-second p e room-both
+
+    pub puts-last : {end : ℕ} {exit : List ℕ} → Puts middle m ((48 + n % 10) ∷ []) end exit → Puts entry at (decimal n) end exit
+    puts-last q = rw (decimal-more n l) (puts-then p q room-tenth)
 
 pub length-digit : (n : ℕ) → n < 10 → length (decimal n) ≡ 1
 length-digit n l = ap length (decimal-digit n l)

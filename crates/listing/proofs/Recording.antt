@@ -15,5 +15,6 @@ module _ (records : List ℕ) (k : ℕ) {r : TokenRecord} (e : r ≡ recordAt re
   pub room-record : {at : ℕ} {out : List ℕ} → Room at (recordLine records k) out → Room at (tokenLine k (r .tag) (r .place) (r .len)) out
   room-record {at} {out} h = subst (λ (l : List ℕ). Room at l out) line-of h
 
-  pub puts-record : {at next : ℕ} {out after : List ℕ} → Puts out at (tokenLine k (r .tag) (r .place) (r .len)) next after → Puts out at (recordLine records k) next after
+  pub puts-record : {at next : ℕ} {out after : List ℕ} → Puts out at (tokenLine k (r .tag) (r .place) (r .len)) next after
+      → Puts out at (recordLine records k) next after
   puts-record {at} {next} {out} {after} p = subst (λ (l : List ℕ). Puts out at l next after) (sym line-of) p

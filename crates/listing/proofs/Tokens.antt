@@ -32,24 +32,30 @@ join-snoc [] t = append-nil t.bytes
 join-snoc (u ∷ ts) t = rw (join-snoc ts t, append-assoc)
 
 lines-snoc : (number place : ℕ) (ts : List Token) (t : Token)
-    → tokenLines number place (ts ++ (t ∷ [])) ≡ tokenLines number place ts ++ tokenLine (number + length ts) t.tag (place + length (join ts)) (length t.bytes)
+    → tokenLines number place (ts ++ (t ∷ []))
+    ≡ tokenLines number place ts ++ tokenLine (number + length ts) t.tag (place + length (join ts)) (length t.bytes)
 unfolding tokenLines
 lines-snoc number place [] t = rw (append-nil, add-zero number, add-zero place)
 lines-snoc number place (u ∷ ts) t =
     let a : number + 1 + length ts ≡ number + suc (length ts) = omega arith in
-    let b : place + length u.bytes + length (join ts) ≡ place + length (u.bytes ++ join ts) = omega (arith, length-append u.bytes (join ts)) in
+    let l = length-append u.bytes (join ts) in
+    let b : place + length u.bytes + length (join ts) ≡ place + length (u.bytes ++ join ts) = omega arith in
     rw (lines-snoc (number + 1) (place + length u.bytes) ts t, a, b, append-assoc)
 
 -- ---- the records of tokens
 
-module _ (ts : List Token) (more : List ℕ) (small : length (join ts) < 4294967296) (tags : (k : ℕ) → k < length ts → (tokenAt ts k) .tag < 65536) where
+module _ (ts : List Token) (more : List ℕ) (small : length (join ts) < 4294967296)
+    (tags : (k : ℕ) → k < length ts → (tokenAt ts k) .tag < 65536) where
   abbrev filled : List ℕ
   filled = recordsAt 0 ts ++ more
 
   tag-is : (k : ℕ) → k < length ts → twoAt filled (10 * k) ≡ (tokenAt ts k) .tag
-  tag-is k l = rw (rw add-zero at (byte-at ts more k l 0 (omega arith)), byte-at ts more k l 1 (omega arith)) (two-value ((tokenAt ts k) .tag) (tags k l))
+  tag-is k l =
+      rw (rw add-zero at (byte-at ts more k l 0 (omega arith)), byte-at ts more k l 1 (omega arith))
+      (two-value ((tokenAt ts k) .tag) (tags k l))
 
-  line-is : (k : ℕ) → k < length ts → recordLine filled k ≡ tokenLine k ((tokenAt ts k) .tag) (placeAt ts k) (length ((tokenAt ts k) .bytes))
+  line-is : (k : ℕ) → k < length ts
+      → recordLine filled k ≡ tokenLine k ((tokenAt ts k) .tag) (placeAt ts k) (length ((tokenAt ts k) .bytes))
   unfolding recordLine recordAt
   line-is k l =
       let w = laid-within ts k l in
@@ -62,7 +68,13 @@ module _ (ts : List Token) (more : List ℕ) (small : length (join ts) < 4294967
       let n : length (take k ts) ≡ k = length-take-le k ts (omega arith) in
       ap (λ (x : List ℕ). x ++ recordLine filled k) (lines-are k (omega arith))
       ∙ ap (λ (x : List ℕ). tokenLines 0 0 (take k ts) ++ x) (line-is k (omega arith))
-      ∙ sym (rw (take-suc ts k (tokenAt [] 0) (omega arith)) (rw (lines-snoc 0 0 (take k ts) (tokenAt ts k), n, zero-add k, zero-add (placeAt ts k))))
+      ∙ sym (rw (
+        take-suc ts k (tokenAt [] 0) (omega arith),
+        lines-snoc 0 0 (take k ts) (tokenAt ts k),
+        n,
+        zero-add k,
+        zero-add (placeAt ts k),
+      ))
 
   pub token-lines : recordLines filled (length ts) ≡ tokenLines 0 0 ts
   token-lines = lines-are (length ts) (omega arith) ∙ rw take-length
@@ -85,7 +97,8 @@ all-tags : (rules : List Rule) → All ValidRule rules → All (λ (r : Rule). r
 all-tags [] h = tt
 all-tags (r ∷ rs) (v, h) = (v .tag-below, all-tags rs h)
 
-tags-proceed : (rules : List Rule) (text : List ℕ) (o : Option Found) → choose rules text ≡ o → All (λ (r : Rule). r.tag < 65536) rules → (go : List ℕ → Lexed)
+tags-proceed : (rules : List Rule) (text : List ℕ) (o : Option Found) → choose rules text ≡ o → All (λ (r : Rule). r.tag < 65536) rules
+    → (go : List ℕ → Lexed)
     → ((x : List ℕ) → All TagBelow ((go x) .tokens)) → All TagBelow ((proceed o text go) .tokens)
 tags-proceed rules text none e h go ih = tt
 tags-proceed rules text (some f) e h go ih =
@@ -93,7 +106,8 @@ tags-proceed rules text (some f) e h go ih =
     let p = all-at (λ (r : Rule). r.tag < 65536) c.before c.rule c.behind (subst (All (λ (r : Rule). r.tag < 65536)) c.splits h) in
     (rw c.tagged at p, ih f.rest)
 
-tagsFor : (rules : List Rule) → All (λ (r : Rule). r.tag < 65536) rules → (n : ℕ) (text : List ℕ) → All TagBelow ((lexFor n rules text) .tokens)
+tagsFor : (rules : List Rule) → All (λ (r : Rule). r.tag < 65536) rules → (n : ℕ) (text : List ℕ)
+    → All TagBelow ((lexFor n rules text) .tokens)
 unfolding lexFor
 tagsFor rules h zero text = tt
 tagsFor rules h (suc n) text = tags-proceed rules text _ refl h _ (tagsFor rules h n)
@@ -108,7 +122,8 @@ lex-tags rules h text = tagsFor rules h (length text) text
 pub listing-lexed : (book text records : List ℕ) (rules : List Rule) → ((i : ℕ) → byteAt book i < 256) → readBook book ≡ accepted rules
     → length text ≤ maxText → length ((lex rules text) .tokens) ≤ recordCount records
     → listing book text records
-    ≡ tokenLines 0 0 ((lex rules text) .tokens) ++ restLine (length text - length ((lex rules text) .rest)) (length ((lex rules text) .rest))
+    ≡ tokenLines 0 0 ((lex rules text) .tokens)
+    ++ restLine (length text - length ((lex rules text) .rest)) (length ((lex rules text) .rest))
 unfolding listing lexOutcome lexRules
 listing-lexed book text records rules byte e small few =
     let j = lex-lengths rules text in

@@ -1,4 +1,5 @@
--- What the layers of the code ask and answer between themselves. Nobody needs to believe it: the operations' contracts do not rest on it.
+-- What the functions of this crate ask and answer between themselves. Nobody needs to believe it: of these a caller of `list` reads only
+-- `outputBytes`, the size of the buffer that it lends.
 use mathlib.Core.Path.{_≡_}
 use mathlib.Core.List.{List, _++_}
 use Prim.Native.Nat.{ℕ, _+_, _≤_, _-_, _*_}
@@ -7,7 +8,7 @@ use Rattle.answer.specs.declared.LexAnswer.{LexAnswer}
 use Rattle.answer.specs.declared.LexAnswer.the-variants.{Lexed, Refused}
 use Rattle.listing.specs.Lines.{restLine, recordLines}
 
--- ---- What writing a text into a buffer asks and does.
+-- ---- writing a text into a buffer
 
 -- the bytes from `at` on have room for `text`
 pub record Room (at : ℕ) (text out : List ℕ) : Type 0 where
@@ -17,6 +18,8 @@ pub record Room (at : ℕ) (text out : List ℕ) : Type 0 where
 pub record Puts (entry : List ℕ) (at : ℕ) (text : List ℕ) (end : ℕ) (exit : List ℕ) : Type 0 where
   pub behind : end ≡ at + length text
   pub written : exit ≡ take at entry ++ text ++ drop (at + length text) entry
+
+-- ---- the lines of an outcome
 
 -- bytes that the lines never pass: 24 for each record, and 24 for the last line
 abbrev pub outputBytes : ℕ

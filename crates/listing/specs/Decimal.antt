@@ -1,4 +1,4 @@
--- Numbers in decimal, as bytes in ASCII.
+-- Numbers in decimal, as the bytes of their digits in ASCII, and the fields of a line that are made of them.
 use mathlib.Core.List.{List, [], _∷_, _++_}
 use Prim.Native.Nat.{ℕ, zero, suc, _+_, _/_, _%_}
 use lib.Dec.{ltb}
@@ -17,6 +17,7 @@ decimal n = decimalFor (suc n) n
 abbrev pub field : ℕ → ℕ → List ℕ
 field n after = decimal n ++ (after ∷ [])
 
+-- the bytes behind a number: a blank within a line, a newline at its end
 abbrev pub blank : ℕ
 blank = 32
 

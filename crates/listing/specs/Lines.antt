@@ -1,4 +1,5 @@
--- "in decimal, a line per token (number, tag, place, length)"
+-- What the program cutlist prints, as bytes in ASCII: "in decimal, a line per token (number, tag, place, length) and last "rest", its
+-- place, its length"; "a refusal prints one line alone, "refused", number, place".
 use mathlib.Core.List.{List, [], _∷_, _++_}
 use Prim.Native.Nat.{ℕ, _+_, zero, suc, _-_}
 use lib.ListN.{length}
@@ -9,22 +10,14 @@ use Rattle.record.specs.Tokens.{recordAt}
 use Rattle.lexer.specs.Outcome.{lexOutcome}
 use Rattle.listing.specs.Decimal.{field, blank, lastTwo}
 
+-- ---- lines
+
 unfoldable pub tokenLine : ℕ → ℕ → ℕ → ℕ → List ℕ
 tokenLine number tag place len = field number blank ++ field tag blank ++ lastTwo place len
 
--- the lines of tokens that lie one behind the other, the first of them at `place`
-unfoldable pub tokenLines : ℕ → ℕ → List Token → List ℕ
-tokenLines number place [] = []
-tokenLines number place (t ∷ ts) = tokenLine number t.tag place (length t.bytes) ++ tokenLines (number + 1) (place + length t.bytes) ts
-
--- the line of record number k
-unfoldable pub recordLine : List ℕ → ℕ → List ℕ
-recordLine records k = tokenLine k ((recordAt records k) .tag) ((recordAt records k) .place) ((recordAt records k) .len)
-
--- ---- What the program cutlist prints: "in decimal, a line per token (number, tag, place, length) and last "rest", its place, its length";
--- "a refusal prints one line alone, "refused", number, place". Text is bytes in ASCII.
-
--- ---- lines
+-- a word and the two numbers behind it
+abbrev pub wordLine : List ℕ → ℕ → ℕ → List ℕ
+wordLine word a b = word ++ lastTwo a b
 
 -- "rest " and "refused "
 abbrev pub restWord : List ℕ
@@ -34,12 +27,16 @@ abbrev pub refusedWord : List ℕ
 refusedWord = 114 ∷ 101 ∷ 102 ∷ 117 ∷ 115 ∷ 101 ∷ 100 ∷ blank ∷ []
 
 unfoldable pub restLine : ℕ → ℕ → List ℕ
-restLine place len = restWord ++ lastTwo place len
+restLine place len = wordLine restWord place len
 
 unfoldable pub refusedLine : ℕ → ℕ → List ℕ
-refusedLine number place = refusedWord ++ lastTwo number place
+refusedLine number place = wordLine refusedWord number place
 
 -- ---- an outcome of lexing
+
+-- the line of record number k
+unfoldable pub recordLine : List ℕ → ℕ → List ℕ
+recordLine records k = tokenLine k ((recordAt records k) .tag) ((recordAt records k) .place) ((recordAt records k) .len)
 
 -- the lines of the first n records
 unfoldable pub recordLines : List ℕ → ℕ → List ℕ
@@ -60,4 +57,10 @@ unfoldable pub listing : List ℕ → List ℕ → List ℕ → List ℕ
 listing book text records =
     linesOf ((lexOutcome book text records) .answer) ((lexOutcome book text records) .records) (length text)
 
--- ---- room
+-- ---- the tokens of a cut
+
+-- The lines of tokens that lie one behind the other, the first of them at `place`. Of an accepted cut these are the lines of its records
+-- (`listing-lexed` of proofs/Tokens.antt).
+unfoldable pub tokenLines : ℕ → ℕ → List Token → List ℕ
+tokenLines number place [] = []
+tokenLines number place (t ∷ ts) = tokenLine number t.tag place (length t.bytes) ++ tokenLines (number + 1) (place + length t.bytes) ts

@@ -1,4 +1,5 @@
-// Bytes and numbers in decimal, written into a lent buffer. Each `put` writes from `at` on and answers the place behind what it wrote.
+// Bytes and numbers in decimal, written into a lent buffer. Each `put` writes from `at` on and answers the place behind what it
+// wrote.
 ghost use mathlib.Core.List.{_∷_, []};
 ghost use Rattle.listing.specs.Decimal.{decimal, field, lastTwo};
 ghost use Rattle.listing.specs.Contracts.{Room, Puts};

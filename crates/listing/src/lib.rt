@@ -1,4 +1,5 @@
-// The lines of the program cutlist, written into a lent buffer.
+// What the program cutlist prints of a book and a text: `list` cuts the text and writes the lines of the outcome into a lent buffer.
+// `digits` writes numbers in decimal, `lines` a token's line.
 pub mod digits;
 pub mod lines;
 
@@ -9,7 +10,7 @@ ghost use Prim.Native.Nat.{_*_, _≤_};
 ghost use lib.ListN.{length, drop};
 ghost use Rattle.lexer.specs.Outcome.{lexOutcome};
 ghost use Rattle.listing.specs.Contracts.{Room, Puts, outputBytes, LinesFit};
-ghost use Rattle.listing.specs.Lines.{restLine, refusedLine, recordLines, recordBytes, linesOf, listing};
+ghost use Rattle.listing.specs.Lines.{wordLine, recordLines, recordBytes, linesOf, listing};
 
 // The bytes of the 6,000 records that are lent to `list`, and of the output, which no listing passes.
 pub const RECORD_BYTES: usize = 60000;
@@ -30,20 +31,13 @@ fn put_word(out: &mut [u8], at: usize, word: &[u8]) -> usize
     at + i
 }
 
-fn put_rest(out: &mut [u8], at: usize, place: usize, len: usize) -> usize
-    requires { ⌜ Room at (restLine place len) (now out) ⌝ }
-    ensures { λ r. ⌜ Puts (now (out .entry)) at (restLine place len) r (now (out .exit)) ⌝ }
+// A word and the two numbers behind it.
+fn put_line(out: &mut [u8], at: usize, word: &[u8], a: usize, b: usize) -> usize
+    requires { ⌜ Room at (wordLine (now word) a b) (now out) ⌝ }
+    ensures { λ r. ⌜ Puts (now (out .entry)) at (wordLine (now (word .entry)) a b) r (now (out .exit)) ⌝ }
 {
-    let next = put_word(out, at, b"rest ");
-    crate::digits::put_last_two(out, next, place, len)
-}
-
-fn put_refused(out: &mut [u8], at: usize, number: usize, place: usize) -> usize
-    requires { ⌜ Room at (refusedLine number place) (now out) ⌝ }
-    ensures { λ r. ⌜ Puts (now (out .entry)) at (refusedLine number place) r (now (out .exit)) ⌝ }
-{
-    let next = put_word(out, at, b"refused ");
-    crate::digits::put_last_two(out, next, number, place)
+    let next = put_word(out, at, word);
+    crate::digits::put_last_two(out, next, a, b)
 }
 
 // The lines of the first `n` records, from the start of `out`.
@@ -69,9 +63,11 @@ fn put_lines(out: &mut [u8], answer: LexAnswer, records: &[u8], len: usize) -> u
     match answer {
         LexAnswer::Lexed { tokens, rest } => {
             let at = put_records(out, records, tokens);
-            put_rest(out, at, rest, len - rest)
+            put_line(out, at, b"rest ", rest, len - rest)
         }
-        LexAnswer::Refused(refusal) => put_refused(out, 0, refusal.number as usize, refusal.place),
+        LexAnswer::Refused(refusal) => {
+            put_line(out, 0, b"refused ", refusal.number as usize, refusal.place)
+        }
     }
 }
 
@@ -81,7 +77,8 @@ pub fn list(book: &[u8], text: &[u8], records: &mut [u8], out: &mut [u8]) -> usi
     requires { ⌜ (length (now records) ≡ recordBytes) × (length (now out) ≡ outputBytes) ⌝ }
     ensures { λ r. ⌜ r ≡ length (listing (now (book .entry)) (now (text .entry)) (now (records .entry))) ⌝ }
     ensures { λ r. ⌜ now (records .exit) ≡ (lexOutcome (now (book .entry)) (now (text .entry)) (now (records .entry))) .records ⌝ }
-    ensures { λ r. ⌜ now (out .exit) ≡ listing (now (book .entry)) (now (text .entry)) (now (records .entry)) ++ drop r (now (out .entry)) ⌝ }
+    ensures { λ r. ⌜ now (out .exit)
+        ≡ listing (now (book .entry)) (now (text .entry)) (now (records .entry)) ++ drop r (now (out .entry)) ⌝ }
 {
     let answer = lexer::lex(book, text, records);
     put_lines(out, answer, records, text.len())

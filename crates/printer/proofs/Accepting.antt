@@ -26,7 +26,7 @@ use Rattle.record.specs.Contracts.{InPool}
 use Rattle.token_list.specs.Faults.{aloneIn, faultOf}
 use Rattle.token_list.specs.Checks.{refuse, firstFault, firstExtended}
 use Rattle.token_list.proofs.Alone.{alone-first, first-alone}
-use Rattle.token_list.proofs.Faulting.{fault-none, faultless}
+use Rattle.token_list.proofs.Faulting.{fault-none, fine}
 use Rattle.token_list.proofs.Passes.{faultless-front}
 use Rattle.printer.specs.Outcome.{PrintOutcome, printAccepted, refusedIf, unless, printChecked, printRules, printReading, printOutcome}
 use Rattle.answer.specs.declared.PrintAnswer.the-variants as print
@@ -121,7 +121,7 @@ unfolding tokensIn
 faultless-alone rules pool [] k e = tt
 faultless-alone rules pool (r ∷ rs) k e =
     let f = faultless-front (faultOf rules pool) r rs k e in
-    (alone-first rules (r .tag) (bytesIn pool r) (faultless rules pool r (f .0) .alone), faultless-alone rules pool rs (suc k) (f .1))
+    (alone-first rules (r .tag) (bytesIn pool r) (fine rules pool r (f .0) .alone), faultless-alone rules pool rs (suc k) (f .1))
 
 apart-front : (rules : List Rule) (t : Token) (ts : List Token) (k : ℕ) → firstExtended rules (t ∷ ts) k ≡ none
     → (extends rules t.bytes (join ts) ≡ false) × (firstExtended rules ts (suc k) ≡ none)

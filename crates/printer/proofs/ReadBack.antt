@@ -8,14 +8,16 @@ use native.Mathlib.Omega.{arith}
 use native.Mathlib.Nat.{add-zero, zero-add}
 use lib.ListN.{length, getD, take, drop, length-append}
 use lib.Seq.{getD-take, getD-drop}
+use Rattle.big_endian.specs.Numbers.{twoAt, fourAt}
+use Rattle.big_endian.proofs.Numbers.{two-value, four-value}
 use Rattle.automaton.specs.Choice.{if, All}
 use Rattle.automaton.specs.Rule.{Rule, matches}
 use Rattle.book.specs.Limits.{maxText}
 use Rattle.longest_match.specs.Lexer.{Token, firstMatch, join}
 use Rattle.longest_match.proofs.First.{nothing}
 use Rattle.record.specs.Records.{recordCount, recordOf, recordsAt}
-use Rattle.record.proofs.Records.{length-records, tokenAt, placeAt, records-at, token-laid, laid-within, two-value, four-value}
-use Rattle.record.specs.Tokens.{twoAt, fourAt, recordAt, recordsFrom, recordsOf, tokenIn, tokensIn, tokensOf}
+use Rattle.record.proofs.Records.{length-records, tokenAt, placeAt, records-at, token-laid, laid-within}
+use Rattle.record.specs.Tokens.{recordAt, recordsFrom, recordsOf, tokenIn, tokensIn, tokensOf}
 use Rattle.record.specs.Contracts.{InPool}
 
 -- ---- the tokens by their numbers

@@ -10,18 +10,19 @@ use lib.ListN.{length, take}
 use lib.Seq.{take-append-seam}
 use borrow.Author.Tests.{lt-ltb, le-ltb}
 use Rattle.answer.specs.declared.Refusal.{Refusal}
+use Rattle.automaton.specs.Choice.{All}
 use Rattle.automaton.specs.Rule.{Rule}
 use Rattle.book.specs.Limits.{maxText}
 use Rattle.longest_match.specs.Lexer.{or, join}
 use Rattle.record.specs.Records.{recordCount}
 use Rattle.record.specs.Tokens.{recordsOf, tokensOf}
+use Rattle.record.specs.Contracts.{InPool}
 use Rattle.token_list.specs.Faults.{faultOf}
 use Rattle.token_list.specs.Checks.{refuse, firstFault, firstExtended}
-use Rattle.token_list.specs.Contracts.{checkedOf, Fitting, Joined, Spanned, Spans, Spread, Faultless, ReadsBack}
+use Rattle.token_list.specs.Contracts.{checkedOf, Fitting, Joined, Spanned, Spread, Faultless, ReadsBack}
 use Rattle.token_list.proofs.Passes.{faultless-pool}
 use Rattle.printer.specs.Contracts.{trouble, Clean, Rehearses}
 use Rattle.token_list.specs.declared.Checked.the-variants as checked
-use Rattle.token_list.specs.declared.readback.Extent.the-variants as extent
 use Rattle.printer.specs.declared.rehearsal.Rehearsed.{Rehearsed}
 use Rattle.printer.specs.declared.rehearsal.Rehearsed.the-variants as rehearsed
 
@@ -71,10 +72,10 @@ module _ (rules : List Rule) (records pool scratch : List ℕ) where
         wrong = λ g e n. let y : f ≡ g = cc in t n ∙ ap some y;
       }
 
-  pub rehearses-beyond : Spans records pool extent.Beyond → {r : Rehearsed} → r ≡ rehearsed.Wrong (record { number = 20; place = 0 })
+  pub rehearses-beyond : (All (InPool pool) (recordsOf records) → maxText < length (join (tokensOf records pool))) → {r : Rehearsed} → r ≡ rehearsed.Wrong (record { number = 20; place = 0 })
       → Rehearses rules records pool scratch r
   rehearses-beyond s = rehearses-wrong (record { number = 20; place = 0 })
-      (λ f. trouble-long rules records pool f (s .beyond refl (faultless-pool rules pool (recordsOf records) 0 f)))
+      (λ f. trouble-long rules records pool f (s (faultless-pool rules pool (recordsOf records) 0 f)))
 
   module _ {n k : ℕ} (s : Spanned records pool n) (b : ReadsBack rules records pool k) where
     pub rehearses-on : k < recordCount records → {r : Rehearsed} → r ≡ rehearsed.Wrong (record { number = 21; place = k })

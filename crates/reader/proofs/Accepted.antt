@@ -15,8 +15,8 @@ use Rattle.command.specs.declared.Decoded.{Decoded}
 use Rattle.command.specs.Commands.{byteAt, pairAt, decode, commandAt, placed, operandsOf}
 use Rattle.book.specs.Limits.{maxBytes}
 use Rattle.book.specs.Draft.{Draft, between, Verdict, goes, accepts, refuses, apply}
-use Rattle.book.specs.Valid.{Valid, Fine}
-use Rattle.book.specs.Contracts.{standsInside, adds}
+use Rattle.book.specs.Valid.{Valid}
+use Rattle.book.specs.Contracts.{Fine, standsInside, adds}
 use Rattle.book.proofs.Fine.{InRange, Good, fine-start, apply-good}
 use Rattle.reader.specs.Reading.{Reading, accepted, refused, goOn, takeIn, readFrom, readBook}
 use Rattle.command.specs.declared.Decoded.the-variants as decoded
@@ -50,11 +50,14 @@ module _ (P : ℕ → Type 0) (code : ℕ) where
   by-code p1 p2 p3 p4 p5 p6 p7 p8 other =
       at-code 1 (eqb code 1) refl p1 (λ n1. at-code 2 (eqb code 2) refl p2 (λ n2. at-code 3 (eqb code 3) refl p3 (λ n3.
       at-code 4 (eqb code 4) refl p4 (λ n4. at-code 5 (eqb code 5) refl p5 (λ n5. at-code 6 (eqb code 6) refl p6 (λ n6.
-      at-code 7 (eqb code 7) refl p7 (λ n7. at-code 8 (eqb code 8) refl p8 (λ n8. other (λ l h. past (up (up (up (up (up (up (up (up l n1) n2) n3) n4) n5) n6) n7) n8) h)))))))))
+      at-code 7 (eqb code 7) refl p7 (λ n7. at-code 8 (eqb code 8) refl p8 (λ n8.
+      other (λ l h. past (up (up (up (up (up (up (up (up l n1) n2) n3) n4) n5) n6) n7) n8) h)))))))))
 
 not-placed : (code : ℕ) (inside : Bool) → (1 ≤ code → code ≤ 8 → ⊥) → placed code inside ≡ false
 unfolding placed
-not-placed code inside out = rw (ne-eqb code 1 (λ e. out (omega arith) (omega arith)), ne-eqb code 8 (λ e. out (omega arith) (omega arith))) (go (leb 2 code) refl (leb code 7) refl)
+not-placed code inside out =
+    rw (ne-eqb code 1 (λ e. out (omega arith) (omega arith)), ne-eqb code 8 (λ e. out (omega arith) (omega arith)))
+    (go (leb 2 code) refl (leb code 7) refl)
   where
     go : (a : Bool) → leb 2 code ≡ a → (b : Bool) → leb code 7 ≡ b → if (a && b) inside false ≡ false
     go true e true f = let l : 2 ≤ code = leb-true _ _ e in let h : code ≤ 7 = leb-true _ _ f in absurd (out (omega arith) (omega arith))
@@ -69,42 +72,54 @@ module _ (bytes : List ℕ) (at : ℕ) (inside : Bool) (byte : (i : ℕ) → byt
   pair-below : (i : ℕ) → pairAt bytes i < 65536
   pair-below i = omega (arith, byte i, byte (i + 1))
 
-  decoded-found : (code : ℕ) → placed code inside ≡ true → at + 1 + operandsOf code ≤ length bytes
+  -- where a command of this code may stand and its operands are there, it is found
+  abbrev Decodes : ℕ → Type 0
+  Decodes code = placed code inside ≡ true → at + 1 + operandsOf code ≤ length bytes
       → Commanded bytes at inside (decode bytes at code) (at + 1 + operandsOf code)
+
+  decoded-found : (code : ℕ) → Decodes code
   unfolding placed operandsOf decode
   decoded-found code =
-      by-code (λ (k : ℕ). placed k inside ≡ true → at + 1 + operandsOf k ≤ length bytes → Commanded bytes at inside (decode bytes at k) (at + 1 + operandsOf k)) code
-      (λ e l. record { stands = closed-place inside e; ranged = pair-below (at + 1); further = omega arith; wide = omega arith; within = l })
-      (λ e l. record { stands = sym e; ranged = byte (at + 1); further = omega arith; wide = omega arith; within = l })
-      (λ e l. record { stands = sym e; ranged = byte (at + 1); further = omega arith; wide = omega arith; within = l })
-      (λ e l. record { stands = sym e; ranged = byte (at + 1); further = omega arith; wide = omega arith; within = l })
-      (λ e l. record { stands = sym e; ranged = (byte (at + 1), byte (at + 2), byte (at + 3)); further = omega arith; wide = omega arith; within = l })
-      (λ e l. record { stands = sym e; ranged = (byte (at + 1), byte (at + 3), byte (at + 4)); further = omega arith; wide = omega arith; within = l })
-      (λ e l. record { stands = sym e; ranged = tt; further = omega arith; wide = omega arith; within = l })
-      (λ e l. record { stands = closed-place inside e; ranged = tt; further = omega arith; wide = omega arith; within = l })
+      by-code Decodes code
+      (λ e. found _ (closed-place inside e) (pair-below (at + 1)) (omega arith) (omega arith))
+      (λ e. found _ (sym e) (byte (at + 1)) (omega arith) (omega arith))
+      (λ e. found _ (sym e) (byte (at + 1)) (omega arith) (omega arith))
+      (λ e. found _ (sym e) (byte (at + 1)) (omega arith) (omega arith))
+      (λ e. found _ (sym e) (byte (at + 1), byte (at + 2), byte (at + 3)) (omega arith) (omega arith))
+      (λ e. found _ (sym e) (byte (at + 1), byte (at + 3), byte (at + 4)) (omega arith) (omega arith))
+      (λ e. found _ (sym e) tt (omega arith) (omega arith))
+      (λ e. found _ (closed-place inside e) tt (omega arith) (omega arith))
       (λ out e l. clash e (not-placed code inside out))
+    where
+      found : (c : Command) {next : ℕ} → standsInside c ≡ inside → InRange c → at < next → at + 4 * adds c ≤ next → next ≤ length bytes
+          → Commanded bytes at inside c next
+      found c s r f w l = record { stands = s; ranged = r; further = f; wide = w; within = l }
 
   pub command-found : Found bytes at inside (commandAt bytes at inside)
   unfolding commandAt
-  command-found = go (placed (byteAt bytes at) inside) refl (leb (at + 1 + operandsOf (byteAt bytes at)) (length bytes)) refl
+  command-found =
+      go (byteAt bytes at) (placed (byteAt bytes at) inside) refl (leb (at + 1 + operandsOf (byteAt bytes at)) (length bytes)) refl
     where
-      go : (p : Bool) → placed (byteAt bytes at) inside ≡ p → (l : Bool) → leb (at + 1 + operandsOf (byteAt bytes at)) (length bytes) ≡ l
-          → Found bytes at inside (if p (if l (decoded.Command (decode bytes at (byteAt bytes at)) (record { at = at + 1 + operandsOf (byteAt bytes at) })) decoded.CutOff) decoded.Misplaced)
-      go true e true h = decoded-found (byteAt bytes at) e (leb-true _ _ h)
-      go true e false h = tt
-      go false e l h = tt
+      go : (code : ℕ) (p : Bool) → placed code inside ≡ p → (l : Bool) → leb (at + 1 + operandsOf code) (length bytes) ≡ l
+          → Found bytes at inside
+          (if p (if l (decoded.Command (decode bytes at code) (record { at = at + 1 + operandsOf code })) decoded.CutOff) decoded.Misplaced)
+      go code true e true h = decoded-found code e (leb-true _ _ h)
+      go code true e false h = tt
+      go code false e l h = tt
 
 abbrev GoodReading : Reading → Type 0
 GoodReading (accepted rules) = Valid rules
 GoodReading (refused number place) = Unit {0}
 
-read-good : (n : ℕ) (bytes : List ℕ) (at : ℕ) (d : Draft) → ((i : ℕ) → byteAt bytes i < 256) → Fine d → GoodReading (readFrom n bytes at d)
+read-good : (n : ℕ) (bytes : List ℕ) (at : ℕ) (d : Draft) → ((i : ℕ) → byteAt bytes i < 256) → Fine d
+    → GoodReading (readFrom n bytes at d)
 unfolding readFrom
 read-good zero bytes at d byte f = tt
 read-good (suc n) bytes at d byte f =
     go (ltb at (length bytes)) (commandAt bytes at d.inside) (command-found bytes at d.inside byte) (λ m e g. read-good n bytes m e byte g)
   where
-    verdict : (v : Verdict) (m : ℕ) → ((e : Draft) → Fine e → GoodReading (readFrom n bytes m e)) → Good v → GoodReading (goOn v (readFrom n bytes m))
+    verdict : (v : Verdict) (m : ℕ) → ((e : Draft) → Fine e → GoodReading (readFrom n bytes m e)) → Good v
+        → GoodReading (goOn v (readFrom n bytes m))
     verdict (goes e) m ih g = ih e g
     verdict (accepts rules) m ih g = g
     verdict (refuses number place) m ih g = tt
@@ -122,7 +137,8 @@ read-good (suc n) bytes at d byte f =
     go false c h ih = tt
 
 -- Every accepted book is valid.
-pub accepted-valid : (bytes : List ℕ) (rules : List Rule) → ((i : ℕ) → byteAt bytes i < 256) → readBook bytes ≡ accepted rules → Valid rules
+pub accepted-valid : (bytes : List ℕ) (rules : List Rule) → ((i : ℕ) → byteAt bytes i < 256)
+    → readBook bytes ≡ accepted rules → Valid rules
 unfolding readBook
 accepted-valid bytes rules byte e = subst GoodReading e (go (ltb maxBytes (length bytes)))
   where

@@ -1,3 +1,3 @@
--- What the proofs of this crate share, and the laws for the layers above.
+-- `Accepted`: every accepted book is valid; `Loading`: the loop of `load`.
 pub mod Accepted
 pub mod Loading

@@ -5,7 +5,6 @@ use Prim.Native.Nat.{ℕ, zero, suc, _+_, _*_, _<_, _≤_}
 use native.Mathlib.Omega.{arith}
 use lib.ListN.{length}
 use borrow.Author.Tests.{lt-ltb, le-ltb}
-use Rattle.answer.specs.declared.Refusal.{Refusal}
 use Rattle.answer.specs.declared.BookAnswer.{BookAnswer}
 use Rattle.automaton.specs.Rule.{Rule, overlaps}
 use Rattle.automaton.specs.Contracts.{Tables}
@@ -18,9 +17,10 @@ use Rattle.book.specs.declared.Progress.{Progress}
 use Rattle.book.specs.declared.Progress.the-variants.{On, Done, Refused}
 use Rattle.book.specs.Limits.{maxBytes}
 use Rattle.book.specs.Draft.{Draft, between, Verdict, goes, accepts, refuses, apply}
-use Rattle.book.specs.Contracts.{idle, edgeCount, Represents, Follows, Takes, standsInside, adds, Fresh}
+use Rattle.book.specs.Contracts.{idle, edgeCount, Represents, Follows, Takes, adds, Fresh}
 use Rattle.book.proofs.Fine.{fine-start}
 use Rattle.book.proofs.Filling.{stored-fresh}
+use Rattle.book.proofs.Steps.{inside-is}
 use Rattle.reader.specs.Reading.{accepted, refused, goOn, takeIn, readFrom, readBook, answer}
 use Rattle.reader.specs.Contracts.{Loaded}
 use Rattle.reader.proofs.Accepted.{Commanded, Found, command-found}
@@ -37,8 +37,8 @@ loaded-refused e q =
       tables = λ rules z. let y : _≡_ {A = ℕ} 0 1 = cc in absurd (omega arith);
     }
 
-loaded-accepted : {bytes hs ss es : List ℕ} {k : ℕ} {rules : List Rule} → readBook bytes ≡ accepted rules → k ≡ length rules → Tables hs ss es rules
-    → Loaded bytes (answers.Accepted k) hs ss es
+loaded-accepted : {bytes hs ss es : List ℕ} {k : ℕ} {rules : List Rule} → readBook bytes ≡ accepted rules
+    → k ≡ length rules → Tables hs ss es rules → Loaded bytes (answers.Accepted k) hs ss es
 loaded-accepted {bytes} {hs} {ss} {es} {k} {rules} e q t =
     record {
       answered = ap answers.Accepted q ∙ ap answer (sym e);
@@ -61,25 +61,15 @@ pub record Going (bytes hs ss es : List ℕ) (at : ℕ) (b : Book) : Type 0 wher
   pub few : 4 * b .edges ≤ at
   pub short : length bytes ≤ maxBytes
 
-pub going-start : {bytes hs ss es : List ℕ} {b : Book} {at : ℕ} → Fresh hs ss es → length bytes ≤ maxBytes → b ≡ idle 0 0 → at ≡ 0 → Going bytes hs ss es at b
+pub going-start : {bytes hs ss es : List ℕ} {b : Book} {at : ℕ} → Fresh hs ss es → length bytes ≤ maxBytes
+    → b ≡ idle 0 0 → at ≡ 0 → Going bytes hs ss es at b
 unfolding readBook overlaps
 going-start {bytes} f l e z =
     rw (e, z)
     (record {
       draft = between [];
       steps = length bytes;
-      holds = record {
-        fine = fine-start;
-        stored = stored-fresh f;
-        rules = refl;
-        inside = refl;
-        tag = refl;
-        kind = refl;
-        start = refl;
-        error = refl;
-        count = refl;
-        overlap = refl;
-      };
+      holds = record { fine = fine-start; stored = stored-fresh f; same = refl };
       enough = omega arith;
       same = rw (le-ltb _ _ l);
       few = omega arith;
@@ -92,7 +82,8 @@ unfolding readFrom
 read-stops zero bytes at d l = refl
 read-stops (suc n) bytes at d l = rw (le-ltb _ _ l)
 
-pub going-stops : {bytes hs ss es : List ℕ} {at : ℕ} {b : Book} → Going bytes hs ss es at b → length bytes ≤ at → readBook bytes ≡ refused 2 (length bytes)
+pub going-stops : {bytes hs ss es : List ℕ} {at : ℕ} {b : Book} → Going bytes hs ss es at b → length bytes ≤ at
+    → readBook bytes ≡ refused 2 (length bytes)
 going-stops {bytes} g l = g .same ∙ read-stops (g .steps) bytes _ (g .draft) l
 
 -- one step more is taken, as `takeIn` says of what stands there
@@ -101,61 +92,61 @@ pub record Taking (bytes : List ℕ) (at : ℕ) (d : Draft) (c : Decoded) : Type
   pub enough : length bytes ≤ at + 1 + steps
   pub same : readBook bytes ≡ takeIn c d at (length bytes) (readFrom steps bytes)
 
-read-takes : (n : ℕ) (bytes : List ℕ) (at : ℕ) (d : Draft) (c : Decoded) → length bytes ≤ at + n → at < length bytes → commandAt bytes at d.inside ≡ c
-    → readBook bytes ≡ readFrom n bytes at d → Taking bytes at d c
+read-takes : (n : ℕ) (bytes : List ℕ) (at : ℕ) (d : Draft) (c : Decoded) → length bytes ≤ at + n → at < length bytes
+    → commandAt bytes at d.inside ≡ c → readBook bytes ≡ readFrom n bytes at d → Taking bytes at d c
 unfolding readFrom
 read-takes zero bytes at d c e l q s = absurd (omega arith)
 read-takes (suc n) bytes at d c e l q s = record { steps = n; enough = omega arith; same = s ∙ rw (lt-ltb _ _ l, q) }
 
-module _ {bytes hs ss es : List ℕ} {at : ℕ} {b : Book} (g : Going bytes hs ss es at b) (more : at < length bytes) where
-  pub going-takes : (c : Decoded) → c ≡ commandAt bytes at (b .inside) → Taking bytes at (g .draft) c
-  going-takes c e = read-takes (g .steps) bytes at (g .draft) c (g .enough) more (ap (commandAt bytes at) (sym (g .holds .inside)) ∙ sym e) (g .same)
+pub going-takes : {bytes hs ss es : List ℕ} {at : ℕ} {b : Book} (g : Going bytes hs ss es at b) → at < length bytes
+    → (c : Decoded) → c ≡ commandAt bytes at (b .inside) → Taking bytes at (g .draft) c
+going-takes {bytes} {at = at} g more c e =
+    read-takes (g .steps) bytes at (g .draft) c (g .enough) more (ap (commandAt bytes at) (sym (inside-is (g .holds))) ∙ sym e) (g .same)
 
-  module _ (byte : (i : ℕ) → byteAt bytes i < 256) (c : Command) (cursor : Cursor) (found : decoded.Command c cursor ≡ commandAt bytes at (b .inside)) where
-    pub commanded : Commanded bytes at (b .inside) c (cursor .at)
-    commanded = subst (Found bytes at (b .inside)) (sym found) (command-found bytes at (b .inside) byte)
+-- ---- a command
 
-    pub edges-left : b .edges < edgeCount
-    edges-left = let h = g .few in let l = g .short in omega arith
+-- the command c stands at `at`, and the cursor is then past it
+pub record Here (bytes hs ss es : List ℕ) (at : ℕ) (b : Book) (c : Command) (cursor : Cursor) : Type 0 where
+  pub going : Going bytes hs ss es at b
+  pub more : at < length bytes
+  pub byte : (i : ℕ) → byteAt bytes i < 256
+  pub found : decoded.Command c cursor ≡ commandAt bytes at (b .inside)
 
-    stands : g .draft .inside ≡ standsInside c
-    stands = sym (g .holds .inside) ∙ sym (commanded .stands)
+-- what its outcome says of the book: reading goes on, or the book is answered
+abbrev pub Leaves : List ℕ → List ℕ → List ℕ → List ℕ → ℕ → Progress → Type 0
+Leaves bytes hs ss es at (On b) = Going bytes hs ss es at b
+Leaves bytes hs ss es at (Done k) = Loaded bytes (answers.Accepted k) hs ss es
+Leaves bytes hs ss es at (Refused f) = Loaded bytes (answers.Refused f) hs ss es
 
-    module _ (r : Progress) (hs₁ ss₁ es₁ : List ℕ) (taken : Takes b c at (length bytes) r hs ss es hs₁ ss₁ es₁) where
-      follows : Follows (apply (g .draft) c at (length bytes)) r hs₁ ss₁ es₁ (b .edges + adds c)
-      follows = taken (g .draft) (g .holds) stands
+module _ {bytes hs ss es : List ℕ} {at : ℕ} {b : Book} {c : Command} {cursor : Cursor} (k : Here bytes hs ss es at b c cursor) where
+  pub commanded : Commanded bytes at (b .inside) c (cursor .at)
+  commanded = subst (Found bytes at (b .inside)) (sym (k .found)) (command-found bytes at (b .inside) (k .byte))
 
-      proceeds : readBook bytes ≡ goOn (apply (g .draft) c at (length bytes)) (readFrom (going-takes (decoded.Command c cursor) found .steps) bytes (cursor .at))
-      proceeds = going-takes (decoded.Command c cursor) found .same
+  pub edges-left : b .edges < edgeCount
+  edges-left = let h = k .going .few in let l = k .going .short in let m = k .more in omega arith
 
-      pub going-on : (b₁ : Book) → r ≡ On b₁ → Going bytes hs₁ ss₁ es₁ (cursor .at) b₁
-      going-on b₁ e = go (apply (g .draft) c at (length bytes)) proceeds (rw e at follows)
-        where
-          go : (v : Verdict) → readBook bytes ≡ goOn v (readFrom (going-takes (decoded.Command c cursor) found .steps) bytes (cursor .at))
-              → Follows v (On b₁) hs₁ ss₁ es₁ (b .edges + adds c) → Going bytes hs₁ ss₁ es₁ (cursor .at) b₁
-          go (goes d) p (h, n) =
-              let k = commanded .further in
-              let w = commanded .wide in
-              let t = going-takes (decoded.Command c cursor) found .enough in
-              let f = g .few in
-              record { draft = d; steps = going-takes (decoded.Command c cursor) found .steps; holds = h; enough = omega arith; same = p; few = omega arith; short = g .short }
-          go (accepts rules) p h = absurd h
-          go (refuses number place) p h = absurd h
+  taking : Taking bytes at (k .going .draft) (decoded.Command c cursor)
+  taking = going-takes (k .going) (k .more) (decoded.Command c cursor) (k .found)
 
-      pub going-done : (k : ℕ) → r ≡ Done k → Loaded bytes (answers.Accepted k) hs₁ ss₁ es₁
-      going-done k e = go (apply (g .draft) c at (length bytes)) proceeds (rw e at follows)
-        where
-          go : (v : Verdict) → readBook bytes ≡ goOn v (readFrom (going-takes (decoded.Command c cursor) found .steps) bytes (cursor .at))
-              → Follows v (Done k) hs₁ ss₁ es₁ (b .edges + adds c) → Loaded bytes (answers.Accepted k) hs₁ ss₁ es₁
-          go (goes d) p h = absurd h
-          go (accepts rules) p (q, t) = loaded-accepted p q t
-          go (refuses number place) p h = absurd h
-
-      pub going-refused : (f : Refusal) → r ≡ Refused f → Loaded bytes (answers.Refused f) hs₁ ss₁ es₁
-      going-refused f e = go (apply (g .draft) c at (length bytes)) proceeds (rw e at follows)
-        where
-          go : (v : Verdict) → readBook bytes ≡ goOn v (readFrom (going-takes (decoded.Command c cursor) found .steps) bytes (cursor .at))
-              → Follows v (Refused f) hs₁ ss₁ es₁ (b .edges + adds c) → Loaded bytes (answers.Refused f) hs₁ ss₁ es₁
-          go (goes d) p h = absurd h
-          go (accepts rules) p h = absurd h
-          go (refuses number place) p h = loaded-refused p (ap answers.Refused h)
+  pub taken-in : {r s : Progress} (hs₁ ss₁ es₁ : List ℕ) → Takes b c at (length bytes) r hs ss es hs₁ ss₁ es₁ → r ≡ s
+      → Leaves bytes hs₁ ss₁ es₁ (cursor .at) s
+  taken-in {s = s} hs₁ ss₁ es₁ taken e =
+      go (apply (k .going .draft) c at (length bytes)) s (taking .same)
+      (rw e at (taken (k .going .draft) (k .going .holds) (sym (inside-is (k .going .holds)) ∙ sym (commanded .stands))))
+    where
+      go : (v : Verdict) (p : Progress) → readBook bytes ≡ goOn v (readFrom (taking .steps) bytes (cursor .at))
+          → Follows v p hs₁ ss₁ es₁ (b .edges + adds c) → Leaves bytes hs₁ ss₁ es₁ (cursor .at) p
+      go (goes d) (On b₁) q (h, n) =
+          let f = commanded .further in
+          let w = commanded .wide in
+          let t = taking .enough in
+          let l = k .going .few in
+          record { draft = d; steps = taking .steps; holds = h; enough = omega arith; same = q; few = omega arith; short = k .going .short }
+      go (goes d) (Done n) q h = absurd h
+      go (goes d) (Refused f) q h = absurd h
+      go (accepts rules) (On b₁) q h = absurd h
+      go (accepts rules) (Done n) q (h, t) = loaded-accepted q h t
+      go (accepts rules) (Refused f) q h = absurd h
+      go (refuses number place) (On b₁) q h = absurd h
+      go (refuses number place) (Done n) q h = absurd h
+      go (refuses number place) (Refused f) q h = loaded-refused q (ap answers.Refused h)

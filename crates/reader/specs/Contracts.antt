@@ -7,9 +7,8 @@ use Rattle.automaton.specs.Rule.{Rule}
 use Rattle.automaton.specs.Contracts.{Tables}
 use Rattle.reader.specs.Reading.{accepted, readBook, answer}
 
--- ---- What reading a book leaves in the tables.
-
--- what reading leaves: the answer, and tables that hold the rules of an accepted book
+-- What reading a book leaves: the answer that is defined, and tables that hold the rules of an accepted book. Of the tables of a
+-- refused book nothing is said.
 pub record Loaded (bytes : List ℕ) (r : BookAnswer) (hs ss es : List ℕ) : Type 0 where
   pub answered : r ≡ answer (readBook bytes)
   pub tables : (rules : List Rule) → readBook bytes ≡ accepted rules → Tables hs ss es rules

@@ -1,3 +1,3 @@
--- The definitions of this crate.
+-- `Reading`: what reading a book comes to; `Contracts`: what it leaves in the tables.
 pub mod Reading
 pub mod Contracts

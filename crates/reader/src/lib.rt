@@ -1,4 +1,5 @@
-// The rule book: the reader that checks it and fills the tables of its rules.
+// The reader of rule books: `read` answers the number of rules or the refusal; `load_arrays` fills the tables too, for the crates
+// that use the rules.
 use answer::BookAnswer;
 use answer::Refusal;
 use book::Book;
@@ -18,15 +19,15 @@ fn load(book: &[u8], headers: &mut [u64], states: &mut [u16], edges: &mut [u64])
 {
     let len = book.len();
     if Book::BYTES < len {
-        return refused(Refusal::BOOK_TOO_LONG, 0);
+        return BookAnswer::refused(Refusal::BOOK_TOO_LONG, 0);
     }
     let mut cursor = Cursor::new();
     let mut state = Book::new();
     while cursor.at < len {
         let at = cursor.at;
         match cursor.command(book, state.inside) {
-            Decoded::Misplaced => return refused(Refusal::MISPLACED, at),
-            Decoded::CutOff => return refused(Refusal::CUT_OFF, at),
+            Decoded::Misplaced => return BookAnswer::refused(Refusal::MISPLACED, at),
+            Decoded::CutOff => return BookAnswer::refused(Refusal::CUT_OFF, at),
             Decoded::Command(command, next) => match book::applying::apply(
                 state,
                 command,
@@ -45,13 +46,7 @@ fn load(book: &[u8], headers: &mut [u64], states: &mut [u16], edges: &mut [u64])
             },
         }
     }
-    refused(Refusal::CUT_OFF, len)
-}
-
-fn refused(number: u8, place: usize) -> BookAnswer
-    ensures { λ r. ⌜ r ≡ BookAnswer.Refused (record { number = number; place = place }) ⌝ }
-{
-    BookAnswer::Refused(Refusal { number, place })
+    BookAnswer::refused(Refusal::CUT_OFF, len)
 }
 
 // The same over whole arrays, as a caller has them.

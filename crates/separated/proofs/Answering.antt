@@ -17,10 +17,8 @@ use Rattle.automaton.specs.Rule.{Rule}
 use Rattle.book.specs.Limits.{maxText}
 use Rattle.reader.specs.Contracts.{Loaded}
 use Rattle.longest_match.specs.Contracts.{Holds}
-use Rattle.longest_match.specs.Lexer.{Alone}
 use Rattle.record.specs.declared.TokenRecord.{TokenRecord}
-use Rattle.record.specs.Contracts.{InPool}
-use Rattle.record.specs.Tokens.{recordsOf, tokenIn}
+use Rattle.record.specs.Tokens.{recordsOf}
 use Rattle.lexer.proofs.Outcomes.{loaded-rules, loaded-refused}
 use Rattle.output.specs.Contracts.{WritesOut, Stands}
 use Rattle.output.specs.declared.Placed.{Placed}
@@ -32,9 +30,8 @@ use Rattle.spacing.specs.Contracts.{Spaceable}
 use Rattle.separated.specs.Refusals.{separatedRefusal}
 use Rattle.separated.specs.Contracts.{checkedOf, Passed}
 use Rattle.separated.specs.Outcome.{writing, separatedRules, separatedOutcome}
-use Rattle.separated.specs.Claims.{FitPlain}
 use Rattle.separated.proofs.Sides.{all-map}
-use Rattle.separated.proofs.Unrefused.{Passes, passes}
+use Rattle.separated.proofs.Unrefused.{CallPasses, passes}
 use Rattle.answer.specs.declared.BookAnswer.the-variants as book
 use Rattle.answer.specs.declared.PrintAnswer.the-variants as print
 use Rattle.separated.specs.declared.checks.Checked.the-variants as checked
@@ -43,23 +40,27 @@ use Rattle.output.specs.declared.Placed.the-variants as placed
 -- ---- what is written
 
 module _ (bytes out : List ℕ) where
-  pub answered-long : maxText < length bytes → {r : PrintAnswer} → r ≡ print.Refused (record { number = 20; place = 0 }) → PrintAnswered (writing bytes out) r out
+  pub answered-long : maxText < length bytes → {r : PrintAnswer} → r ≡ print.Refused (record { number = 20; place = 0 })
+      → PrintAnswered (writing bytes out) r out
   unfolding writing refusedIf
   answered-long l a = rw (lt-ltb _ _ l) (record { answer = a; out = refl })
 
   module _ {total : ℕ} (e : total ≡ length bytes) (short : total ≤ maxText) where
-    answered-short : length out < total → {r : PrintAnswer} → r ≡ print.Refused (record { number = 22; place = total }) → PrintAnswered (writing bytes out) r out
+    answered-short : length out < total → {r : PrintAnswer} → r ≡ print.Refused (record { number = 22; place = total })
+        → PrintAnswered (writing bytes out) r out
     unfolding writing refusedIf
     answered-short l a = rw (← e, le-ltb _ _ short, lt-ltb _ _ l) (record { answer = a; out = refl })
 
-    answered-printed : total ≤ length out → {exit : List ℕ} → exit ≡ paste out 0 bytes total → PrintAnswered (writing bytes out) (print.Printed total) exit
+    answered-printed : total ≤ length out → {exit : List ℕ} → exit ≡ paste out 0 bytes total
+        → PrintAnswered (writing bytes out) (print.Printed total) exit
     unfolding writing refusedIf
     answered-printed l p =
         let t : take total bytes ≡ bytes = rw e (take-length bytes) in
         rw (← e, le-ltb _ _ short, le-ltb _ _ l) (record { answer = refl; out = p ∙ rw (t, zero-add) })
 
 -- what `write` makes of the bytes of a scratch from `at` on
-pub answered-written : (scratch : List ℕ) (at : ℕ) (out : List ℕ) {total : ℕ} {r : PrintAnswer} {exit : List ℕ} → total ≡ length (drop at scratch) → total ≤ maxText
+pub answered-written : (scratch : List ℕ) (at : ℕ) (out : List ℕ) {total : ℕ} {r : PrintAnswer} {exit : List ℕ}
+    → total ≡ length (drop at scratch) → total ≤ maxText
     → WritesOut scratch at total out r exit → PrintAnswered (writing (drop at scratch) out) r exit
 answered-written scratch at out {total} {r} {exit} e short h = go (ltb (length out) total) refl
   where
@@ -81,10 +82,12 @@ module _ (scratch : List ℕ) (size : length scratch ≡ maxText) where
 
 module _ (rules : List Rule) (sep : TokenRecord) (mode : ℕ) (records pool : List ℕ) where
   -- no refusal, where the checks pass
-  pub unrefused : checked.Passed ≡ checkedOf (separatedRefusal rules sep mode records pool) → separatedRefusal rules sep mode records pool ≡ none
+  pub unrefused : checked.Passed ≡ checkedOf (separatedRefusal rules sep mode records pool)
+      → separatedRefusal rules sep mode records pool ≡ none
   unrefused e = go (separatedRefusal rules sep mode records pool) refl e
     where
-      go : (o : Option Refusal) → separatedRefusal rules sep mode records pool ≡ o → checked.Passed ≡ checkedOf o → separatedRefusal rules sep mode records pool ≡ none
+      go : (o : Option Refusal) → separatedRefusal rules sep mode records pool ≡ o → checked.Passed ≡ checkedOf o
+          → separatedRefusal rules sep mode records pool ≡ none
       go none q z = q
       go (some f) q z = let y : _≡_ {A = ℕ} 0 1 = cc in absurd (omega arith)
 
@@ -100,7 +103,8 @@ module _ (rules : List Rule) (sep : TokenRecord) (mode : ℕ) (records pool : Li
         go (some g) q z = let y : f ≡ g = cc in rw q (record { answer = ap print.Refused y; out = refl })
 
     pub answered-passed : {r : PrintAnswer} {exit : List ℕ} → checked.Passed ≡ checkedOf (separatedRefusal rules sep mode records pool)
-        → PrintAnswered (writing (spelled rules sep mode records pool) out) r exit → PrintAnswered (separatedRules rules sep mode records pool out) r exit
+        → PrintAnswered (writing (spelled rules sep mode records pool) out) r exit
+        → PrintAnswered (separatedRules rules sep mode records pool out) r exit
     unfolding separatedRules unless
     answered-passed e a = rw (unrefused e) a
 
@@ -114,22 +118,24 @@ module _ {bytes hs ss es : List ℕ} {b : BookAnswer} {n : ℕ} (l : Loaded byte
   answered-book sep mode records pool out exit r h = let k = loaded-rules l a in rw (k .1 .0) (h (k .0) (k .1 .1))
 
 module _ {bytes hs ss es : List ℕ} {b : BookAnswer} {f : Refusal} (l : Loaded bytes b hs ss es) (a : b ≡ book.Refused f) where
-  pub answered-refused : (sep : TokenRecord) (mode : ℕ) (records pool out : List ℕ) → PrintAnswered (separatedOutcome bytes sep mode records pool out) (print.Refused f) out
+  pub answered-refused : (sep : TokenRecord) (mode : ℕ) (records pool out : List ℕ)
+      → PrintAnswered (separatedOutcome bytes sep mode records pool out) (print.Refused f) out
   unfolding separatedOutcome
   answered-refused sep mode records pool out = rw (loaded-refused l a) (record { answer = refl; out = refl })
 
 -- ---- what is put together
 
 -- a call that is not refused can be put together
-pub passed-spaceable : {hs ss es : List ℕ} {n : ℕ} {sep : TokenRecord} {mode : ℕ} {records pool : List ℕ} → Passed hs ss es n sep mode records pool
+pub passed-spaceable : {hs ss es : List ℕ} {n : ℕ} {sep : TokenRecord} {mode : ℕ} {records pool : List ℕ}
+    → Passed hs ss es n sep mode records pool
     → Spaceable hs ss es n sep records pool
 passed-spaceable {hs} {ss} {es} {n} {sep} {mode} {records} {pool} p =
     record {
       held = p .held;
-      separator = record { in-pool = fine (p .held .holds) .separator .fit .not-17 };
-      inside = all-map (FitPlain (p .held .rules) pool) (InPool pool) (λ r f. record { in-pool = f .fit .not-17 }) (recordsOf records) (fine (p .held .holds) .tokens);
-      alone = λ rules h. all-map (FitPlain rules pool) (λ (r : TokenRecord). Alone rules (tokenIn pool r)) (λ r f. alone-first rules (r .tag) _ (f .fit .not-19)) (recordsOf records) (fine h .tokens);
+      separator = record { in-pool = fine (p .held .holds) .separator .faultless .in-pool };
+      inside = all-map _ _ (λ r t. record { in-pool = t .faultless .in-pool }) (recordsOf records) (fine (p .held .holds) .tokens);
+      alone = λ rules h. all-map _ _ (λ r t. alone-first rules (r .tag) _ (t .faultless .alone)) (recordsOf records) (fine h .tokens);
     }
   where
-    fine : {rules : List Rule} → Holds hs ss es n rules → Passes rules sep mode records pool
+    fine : {rules : List Rule} → Holds hs ss es n rules → CallPasses rules sep mode records pool
     fine {rules} h = passes rules sep mode records pool (p .unrefused rules h)

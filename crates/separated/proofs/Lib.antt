@@ -1,7 +1,7 @@
--- What the proofs of this crate share, and the laws for the layers above.
+-- What the code answers is the outcome (Checking, Answering), which calls are accepted (Unrefused), and what is written is cut back into
+-- the list (Sides, RoundTrip).
 pub mod Checking
 pub mod Sides
-pub mod RoundTrip
 pub mod Unrefused
+pub mod RoundTrip
 pub mod Answering
-pub mod Claims

@@ -1,17 +1,16 @@
 -- Where no byte is used by both kinds of rules, each byte of a token is on the side of the token's kind. Assumes nothing.
 use mathlib.Core.Path.{_≡_, refl, sym, subst}
 use mathlib.Core.Bool.{Bool, true, false, _&&_}
-use mathlib.Core.Option.{none, some}
+use mathlib.Core.Option.{none}
 use mathlib.Core.List.{List, [], _∷_, _++_}
 use Prim.Native.Nat.{ℕ, _≤_, _<_}
 use native.Mathlib.Omega.{arith}
-use lib.Dec.{leb, eqb}
-use borrow.Author.Tests.{eqb-true, eqb-false, eq-eqb, ne-eqb, leb-true}
-use Rattle.automaton.specs.Choice.{if, All, any, among}
-use Rattle.automaton.specs.Rule.{Transition, Rule, covers, target, step, walk, matches, used, Ranged, Sound, stateCount}
-use Rattle.automaton.proofs.Tests.{clash, or-none, or-true, and-true}
-use Rattle.automaton.proofs.Walks.{target-stays}
-use Rattle.automaton.proofs.Used.{uses-all}
+use lib.Dec.{eqb}
+use borrow.Author.Tests.{eqb-true, eqb-false, eq-eqb, ne-eqb}
+use Rattle.automaton.specs.Choice.{All, any}
+use Rattle.automaton.specs.Rule.{Rule, used, Sound, stateCount}
+use Rattle.automaton.proofs.Tests.{clash, or-none, or-true}
+use Rattle.automaton.proofs.Used.{uses-all, used-byte}
 use Rattle.book.specs.Valid.{ValidRule, Distinct, ValidRules}
 use Rattle.longest_match.specs.Lexer.{Token, isSome, firstMatch, Alone}
 use Rattle.longest_match.proofs.First.{some-of, Earliest, earliest, nothing-empty}
@@ -28,46 +27,9 @@ pub all-map : {A : Type 0} (P Q : A → Type 0) → ((a : A) → P a → Q a) �
 all-map P Q f [] h = tt
 all-map P Q f (x ∷ xs) (p, h) = (f x p, all-map P Q f xs h)
 
-all-both : {A : Type 0} (P Q R : A → Type 0) → ((a : A) → P a → Q a → R a) → (xs : List A) → All P xs → All Q xs → All R xs
-all-both P Q R f [] h g = tt
-all-both P Q R f (x ∷ xs) (p, h) (q, g) = (f x p q, all-both P Q R f xs h g)
-
 any-middle : {A : Type 0} (f : A → Bool) (xs : List A) (x : A) (ys : List A) → f x ≡ true → any f (xs ++ x ∷ ys) ≡ true
 any-middle f [] x ys e = rw e
 any-middle f (y ∷ xs) x ys e = rw (any-middle f xs x ys e, or-true)
-
--- ---- what a rule matches are bytes
-
-target-byte : (n : ℕ) (ts : List Transition) (s b error : ℕ) → All (Ranged n) ts → eqb (target ts s b error) error ≡ false → b < 256
-unfolding target
-target-byte n [] s b error h e = clash (eq-eqb error error refl) e
-target-byte n (t ∷ ts) s b error (r, h) e = go (eqb t.from s && covers t b) refl (target-byte n ts s b error h) e
-  where
-    go : (c : Bool) → eqb t.from s && covers t b ≡ c → (eqb (target ts s b error) error ≡ false → b < 256)
-        → eqb (if c t.to (target ts s b error)) error ≡ false → b < 256
-    go true q ih z =
-        let l : b ≤ t.high = leb-true b t.high ((and-true (leb t.low b) _ ((and-true (eqb t.from s) (covers t b) q) .1)) .1) in
-        omega (arith, r .byte)
-    go false q ih z = ih z
-
-module _ {n : ℕ} (r : Rule) (h : Sound n r) where
-  walk-stays : (w : List ℕ) → walk r r.error w ≡ r.error
-  unfolding walk
-  walk-stays [] = refl
-  walk-stays (b ∷ w) = rw (target-stays r.error b r.transitions (h .stays)) (walk-stays w)
-
-  walk-bytes : (s : ℕ) (w : List ℕ) → among (walk r s w) r.finals ≡ true → All (λ (b : ℕ). b < 256) w
-  unfolding walk
-  walk-bytes s [] e = tt
-  walk-bytes s (b ∷ w) e = (go (eqb (step r s b) r.error) refl, walk-bytes (step r s b) w e)
-    where
-      go : (c : Bool) → eqb (step r s b) r.error ≡ c → b < 256
-      go true q = let z : step r s b ≡ r.error = eqb-true _ _ q in clash e (rw (z, walk-stays w) (h .fails))
-      go false q = target-byte n r.transitions s b r.error (h .ranged) q
-
-  matched-bytes : (w : List ℕ) → matches r w ≡ true → All (λ (b : ℕ). b < 256) w
-  unfolding matches
-  matched-bytes w e = walk-bytes r.start w e
 
 -- ---- sides
 
@@ -129,9 +91,8 @@ module _ {rules : List Rule} (v : ValidRules rules) where
     rule-side : All (Side rules (eqb f.rule.kind separatorKind)) w
     unfolding usedByKind
     rule-side =
-        all-both (λ (b : ℕ). used f.rule b ≡ true) (λ (b : ℕ). b < 256) (Side rules (eqb f.rule.kind separatorKind))
-        (λ b u l. record { byte = l; uses = uses b u }) w
-        (uses-all f.rule (valid .sound) w f.matched) (matched-bytes f.rule (valid .sound) w f.matched)
+        all-map (λ (b : ℕ). used f.rule b ≡ true) (Side rules (eqb f.rule.kind separatorKind))
+        (λ b u. record { byte = used-byte f.rule (valid .sound) b u; uses = uses b u }) w (uses-all f.rule (valid .sound) w f.matched)
       where
         uses : (b : ℕ) → used f.rule b ≡ true → usedByKind (kindOn (eqb f.rule.kind separatorKind)) rules b ≡ true
         uses b u =

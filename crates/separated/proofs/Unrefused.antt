@@ -1,6 +1,6 @@
--- The outcome is an acceptance exactly where no refusal applies. Assumes nothing.
+-- A call is accepted exactly where it passes the checks and its bytes are few enough for 20 and 22. Assumes nothing.
 use mathlib.Core.Path.{_≡_, refl, ap}
-use mathlib.Core.Bool.{Bool, true, false, not, _&&_}
+use mathlib.Core.Bool.{Bool, true, false, not}
 use mathlib.Core.Option.{Option, none, some}
 use mathlib.Core.List.{List, [], _∷_}
 use Prim.Native.Nat.{ℕ, zero, suc, _+_, _≤_, _<_}
@@ -13,6 +13,7 @@ use Rattle.automaton.specs.Choice.{if, All}
 use Rattle.automaton.specs.Rule.{Rule}
 use Rattle.automaton.proofs.Tests.{clash}
 use Rattle.book.specs.Limits.{maxText, maxTokens}
+use Rattle.reader.specs.Reading.{accepted, readBook}
 use Rattle.longest_match.specs.Lexer.{or}
 use Rattle.longest_match.proofs.First.{nothing}
 use Rattle.record.specs.Records.{recordCount}
@@ -20,14 +21,13 @@ use Rattle.record.specs.declared.TokenRecord.{TokenRecord}
 use Rattle.record.specs.Tokens.{recordsOf}
 use Rattle.token_list.specs.Faults.{faultOf}
 use Rattle.token_list.specs.Checks.{refuse, firstFault}
-use Rattle.token_list.proofs.Faulting.{faultless, fault-none}
+use Rattle.token_list.proofs.Faulting.{Faultless, faultless, fault-none}
 use Rattle.printer.specs.Outcome.{PrintOutcome, printAccepted, refusedIf, unless}
-use Rattle.used_bytes.specs.Kinds.{plainKind, separatorKind, separates}
-use Rattle.used_bytes.specs.Bytes.{lowestFrom, usedByKind, shared, sharedByte}
+use Rattle.used_bytes.specs.Kinds.{separates}
+use Rattle.used_bytes.specs.Bytes.{lowestFrom, shared, sharedByte}
 use Rattle.spacing.specs.Separators.{spelled}
 use Rattle.separated.specs.Refusals.{orElse, separatorFault, plainFault, sharing, listRefusal, separatedRefusal}
-use Rattle.separated.specs.Outcome.{writing, separatedRules}
-use Rattle.separated.specs.Claims.{Fit, FitSeparator, FitPlain, Unrefused}
+use Rattle.separated.specs.Outcome.{writing, separatedRules, separatedOutcome}
 use Rattle.separated.proofs.Sides.{all-map}
 use Rattle.answer.specs.declared.PrintAnswer.the-variants as answer
 
@@ -58,19 +58,6 @@ pub shared-none : (rules : List Rule) → ((b : ℕ) → b < 256 → shared rule
 unfolding sharedByte
 shared-none rules h = none-lowest (shared rules) 0 256 (λ i l m. h i (omega arith))
 
-apart-of : (rules : List Rule) (b : ℕ) → shared rules b ≡ false → usedByKind plainKind rules b ≡ true → usedByKind separatorKind rules b ≡ true → ⊥
-unfolding shared
-apart-of rules b e p q = clash (rw (p, q)) e
-
-pub of-apart : (rules : List Rule) (b : ℕ) → (usedByKind plainKind rules b ≡ true → usedByKind separatorKind rules b ≡ true → ⊥) → shared rules b ≡ false
-unfolding shared
-of-apart rules b h = go (usedByKind plainKind rules b) (usedByKind separatorKind rules b) h
-  where
-    go : (x y : Bool) → (x ≡ true → y ≡ true → ⊥) → x && y ≡ false
-    go true true k = absurd (k refl refl)
-    go true false k = refl
-    go false y k = refl
-
 sharing-none : (o : Option ℕ) → sharing o ≡ none → o ≡ none
 unfolding sharing
 sharing-none none e = refl
@@ -92,39 +79,42 @@ module _ (fault : ℕ) (test : Bool) (number : ℕ) where
       go true p false q z = (eqb-true fault 0 p, q)
       go false p b q z = absurd (eqb-false fault 0 p z)
 
+-- a token in none of the cases of 17, 18 and 19, of separator kind or not
+pub record Taken (rules : List Rule) (pool : List ℕ) (separator : Bool) (r : TokenRecord) : Type 0 where
+  pub faultless : Faultless rules pool r
+  pub kind : separates rules (r .tag) ≡ separator
+
+not-not : (b : Bool) → not b ≡ false → b ≡ true
+not-not true e = refl
+not-not false e = clash refl e
+
 module _ (rules : List Rule) (pool : List ℕ) (r : TokenRecord) where
-  fit-of : faultOf rules pool r ≡ 0 → Fit rules pool r
-  fit-of e = let f = faultless rules pool r e in record { not-17 = f .in-pool; not-18 = f .known; not-19 = f .alone }
+  of-faultless : Faultless rules pool r → faultOf rules pool r ≡ 0
+  of-faultless f = fault-none rules pool r (f .in-pool) (f .known) (f .alone)
 
-  of-fit : Fit rules pool r → faultOf rules pool r ≡ 0
-  of-fit f = fault-none rules pool r (f .not-17) (f .not-18) (f .not-19)
-
-  not-not : (b : Bool) → not b ≡ false → b ≡ true
-  not-not true e = refl
-  not-not false e = clash refl e
-
-  pub separator-fit : separatorFault rules pool r ≡ 0 → FitSeparator rules pool r
+  separator-taken : separatorFault rules pool r ≡ 0 → Taken rules pool true r
   unfolding separatorFault
-  separator-fit e =
+  separator-taken e =
       let p = none-or-else (faultOf rules pool r) (not (separates rules (r .tag))) 25 (omega arith) e in
-      record { fit = fit-of (p .0); not-25 = not-not _ (p .1) }
+      record { faultless = faultless rules pool r (p .0); kind = not-not _ (p .1) }
 
-  fit-separator : FitSeparator rules pool r → separatorFault rules pool r ≡ 0
+  taken-separator : Taken rules pool true r → separatorFault rules pool r ≡ 0
   unfolding separatorFault
-  fit-separator f = or-else-none (faultOf rules pool r) (not (separates rules (r .tag))) 25 (of-fit (f .fit)) (ap not (f .not-25))
+  taken-separator t = or-else-none _ _ 25 (of-faultless (t .faultless)) (ap not (t .kind))
 
-  pub plain-fit : plainFault rules pool r ≡ 0 → FitPlain rules pool r
+  plain-taken : plainFault rules pool r ≡ 0 → Taken rules pool false r
   unfolding plainFault
-  plain-fit e =
+  plain-taken e =
       let p = none-or-else (faultOf rules pool r) (separates rules (r .tag)) 26 (omega arith) e in
-      record { fit = fit-of (p .0); not-26 = p .1 }
+      record { faultless = faultless rules pool r (p .0); kind = p .1 }
 
-  fit-plain : FitPlain rules pool r → plainFault rules pool r ≡ 0
+  taken-plain : Taken rules pool false r → plainFault rules pool r ≡ 0
   unfolding plainFault
-  fit-plain f = or-else-none (faultOf rules pool r) (separates rules (r .tag)) 26 (of-fit (f .fit)) (f .not-26)
+  taken-plain t = or-else-none _ _ 26 (of-faultless (t .faultless)) (t .kind)
 
 -- the list has no fault
-pub faults-none : (fault : TokenRecord → ℕ) (rs : List TokenRecord) (k : ℕ) → firstFault fault rs k ≡ none → All (λ (r : TokenRecord). fault r ≡ 0) rs
+pub faults-none : (fault : TokenRecord → ℕ) (rs : List TokenRecord) (k : ℕ) → firstFault fault rs k ≡ none
+    → All (λ (r : TokenRecord). fault r ≡ 0) rs
 unfolding firstFault refuse
 faults-none fault [] k e = tt
 faults-none fault (r ∷ rs) k e = go (eqb (fault r) 0) refl (faults-none fault rs (suc k)) e
@@ -134,7 +124,8 @@ faults-none fault (r ∷ rs) k e = go (eqb (fault r) 0) refl (faults-none fault 
     go true q ih z = (eqb-true (fault r) 0 q, ih z)
     go false q ih z = nothing z refl
 
-pub none-faults : (fault : TokenRecord → ℕ) (rs : List TokenRecord) (k : ℕ) → All (λ (r : TokenRecord). fault r ≡ 0) rs → firstFault fault rs k ≡ none
+pub none-faults : (fault : TokenRecord → ℕ) (rs : List TokenRecord) (k : ℕ) → All (λ (r : TokenRecord). fault r ≡ 0) rs
+    → firstFault fault rs k ≡ none
 unfolding firstFault refuse
 none-faults fault [] k h = refl
 none-faults fault (r ∷ rs) k (e, h) = rw (eq-eqb (fault r) 0 e, none-faults fault rs (suc k) h)
@@ -151,15 +142,15 @@ or-none-both none y e = (refl, e)
 or-none-both (some f) y e = nothing e refl
 
 -- a call that is not refused before anything is put together
-pub record Passes (rules : List Rule) (sep : TokenRecord) (mode : ℕ) (records pool : List ℕ) : Type 0 where
+pub record CallPasses (rules : List Rule) (sep : TokenRecord) (mode : ℕ) (records pool : List ℕ) : Type 0 where
   pub unshared : (b : ℕ) → b < 256 → shared rules b ≡ false
   pub known-mode : mode ≤ 2
-  pub separator : FitSeparator rules pool sep
+  pub separator : Taken rules pool true sep
   pub few : recordCount records ≤ maxTokens
-  pub tokens : All (FitPlain rules pool) (recordsOf records)
+  pub tokens : All (Taken rules pool false) (recordsOf records)
 
 module _ (rules : List Rule) (sep : TokenRecord) (mode : ℕ) (records pool : List ℕ) where
-  pub passes : separatedRefusal rules sep mode records pool ≡ none → Passes rules sep mode records pool
+  pub passes : separatedRefusal rules sep mode records pool ≡ none → CallPasses rules sep mode records pool
   unfolding separatedRefusal listRefusal
   passes e =
       let a = or-none-both (sharing (sharedByte rules)) _ e in
@@ -169,24 +160,24 @@ module _ (rules : List Rule) (sep : TokenRecord) (mode : ℕ) (records pool : Li
       record {
         unshared = unshared rules (sharing-none _ (a .0));
         known-mode = ltb-false 2 mode (b .0);
-        separator = separator-fit rules pool sep (eqb-true _ 0 (not-not rules pool sep _ (c .0)));
+        separator = separator-taken rules pool sep (eqb-true _ 0 (not-not _ (c .0)));
         few = ltb-false _ _ (d .0);
-        tokens = all-map (λ (r : TokenRecord). plainFault rules pool r ≡ 0) (FitPlain rules pool) (plain-fit rules pool) (recordsOf records)
-            (faults-none (plainFault rules pool) (recordsOf records) 0 (d .1));
+        tokens = all-map _ _ (plain-taken rules pool) (recordsOf records) (faults-none _ (recordsOf records) 0 (d .1));
       }
 
-  pub passes-none : Passes rules sep mode records pool → separatedRefusal rules sep mode records pool ≡ none
+  pub passes-none : CallPasses rules sep mode records pool → separatedRefusal rules sep mode records pool ≡ none
   unfolding separatedRefusal listRefusal sharing refuse
   passes-none p =
       rw (
         shared-none rules (p .unshared),
         le-ltb 2 mode (p .known-mode),
-        fit-separator rules pool sep (p .separator),
+        taken-separator rules pool sep (p .separator),
         le-ltb maxTokens (recordCount records) (p .few),
       )
-      (none-faults (plainFault rules pool) (recordsOf records) 0 (all-map (FitPlain rules pool) (λ (r : TokenRecord). plainFault rules pool r ≡ 0) (fit-plain rules pool) (recordsOf records) (p .tokens)))
+      (none-faults _ (recordsOf records) 0 (all-map _ _ (taken-plain rules pool) (recordsOf records) (p .tokens)))
 
-check-printed : (t : Bool) (number place : ℕ) (out : List ℕ) (next : PrintOutcome) (n : ℕ) → (refusedIf t number place out next) .answer ≡ answer.Printed n
+check-printed : (t : Bool) (number place : ℕ) (out : List ℕ) (next : PrintOutcome) (n : ℕ)
+    → (refusedIf t number place out next) .answer ≡ answer.Printed n
     → (t ≡ false) × (next .answer ≡ answer.Printed n)
 unfolding refusedIf
 check-printed true number place out next n e = let z : _≡_ {A = ℕ} 0 1 = cc in absurd (omega arith)
@@ -198,34 +189,21 @@ unfolding unless
 unless-printed (some f) out next n e = let z : _≡_ {A = ℕ} 0 1 = cc in absurd (omega arith)
 unless-printed none out next n e = (refl, e)
 
-module _ (rules : List Rule) (sep : TokenRecord) (mode : ℕ) (records pool out : List ℕ) where
-  -- a call that meets no refusal is accepted
-  pub unrefused-accepted : Unrefused rules sep mode records pool out
-      → separatedRules rules sep mode records pool out ≡ printAccepted (spelled rules sep mode records pool) out
-  unfolding separatedRules writing refusedIf unless
-  unrefused-accepted u =
-      let p : Passes rules sep mode records pool =
-      record { unshared = λ b l. of-apart rules b (u .not-23 b l); known-mode = u .not-24; separator = u .separator; few = u .not-16; tokens = u .tokens } in
-      rw (
-        passes-none rules sep mode records pool p,
-        le-ltb maxText (length (spelled rules sep mode records pool)) (u .not-20),
-        le-ltb (length out) (length (spelled rules sep mode records pool)) (u .not-22),
-      )
+module _ (rules : List Rule) (sep : TokenRecord) (mode : ℕ) (records pool : List ℕ) where
+  abbrev bytes : List ℕ
+  bytes = spelled rules sep mode records pool
 
-  -- a call that is accepted meets none
-  pub accepted-unrefused : (n : ℕ) → (separatedRules rules sep mode records pool out) .answer ≡ answer.Printed n → Unrefused rules sep mode records pool out
-  unfolding separatedRules writing
-  accepted-unrefused n e =
-      let a = unless-printed (separatedRefusal rules sep mode records pool) out _ n e in
-      let p = passes rules sep mode records pool (a .0) in
-      let g = check-printed (ltb maxText (length (spelled rules sep mode records pool))) 20 0 out _ n (a .1) in
-      let h = check-printed (ltb (length out) (length (spelled rules sep mode records pool))) 22 (length (spelled rules sep mode records pool)) out _ n (g .1) in
-      record {
-        not-23 = λ i l. apart-of rules i (p .unshared i l);
-        not-24 = p .known-mode;
-        separator = p .separator;
-        not-16 = p .few;
-        tokens = p .tokens;
-        not-20 = ltb-false _ _ (g .0);
-        not-22 = ltb-false _ _ (h .0);
-      }
+  module _ (book out : List ℕ) (reads : readBook book ≡ accepted rules) where
+    pub passes-accepted : CallPasses rules sep mode records pool → length bytes ≤ maxText → length bytes ≤ length out
+        → separatedOutcome book sep mode records pool out ≡ printAccepted bytes out
+    unfolding separatedOutcome separatedRules writing refusedIf unless
+    passes-accepted p short room = rw (reads, passes-none rules sep mode records pool p, le-ltb maxText _ short, le-ltb _ _ room)
+
+    pub accepted-passes : {n : ℕ} → (separatedOutcome book sep mode records pool out) .answer ≡ answer.Printed n
+        → CallPasses rules sep mode records pool × (length bytes ≤ maxText) × (length bytes ≤ length out)
+    unfolding separatedOutcome separatedRules writing
+    accepted-passes {n} e =
+        let a = unless-printed (separatedRefusal rules sep mode records pool) out _ n (rw reads at e) in
+        let g = check-printed (ltb maxText (length bytes)) 20 0 out _ n (a .1) in
+        let h = check-printed (ltb (length out) (length bytes)) 22 (length bytes) out _ n (g .1) in
+        (passes rules sep mode records pool (a .0), ltb-false _ _ (g .0), ltb-false _ _ (h .0))

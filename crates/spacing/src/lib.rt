@@ -41,7 +41,7 @@ pub fn is_due(
     if meaning_of(mode) == 1 {
         return true;
     }
-    let chosen = longest_match::choose_at(headers, states, edges, rules, text, start);
+    let chosen = longest_match::choose(headers, states, edges, rules, text, start, text.len());
     if chosen.len != len {
         return true;
     }

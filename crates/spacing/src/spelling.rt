@@ -37,7 +37,7 @@ fn put_token(
         → Alone rs (tokenIn (now (pool .entry)) token) → (us : List Token) → drop at (now (scratch .entry)) ≡ join us → last ≡ isLast us
         → Stands r (join (tokenIn (now (pool .entry)) token ∷ put (follows rs mode (tokenIn (now (pool .entry)) token) us) (tokenIn (now (pool .entry)) separator) us)) (now (scratch .exit))) ⌝ }
 {
-    match output::put_before(pool, token.place, token.len, scratch, at) {
+    match output::put_token(pool, token, scratch, at) {
         Placed::At(start) => {
             if crate::is_due(
                 headers,
@@ -48,7 +48,7 @@ fn put_token(
                 last,
                 scratch,
                 start,
-                token.len,
+                token.len as usize,
             ) {
                 return output::put_both(pool, token, separator, scratch, at);
             }

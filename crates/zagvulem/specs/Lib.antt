@@ -1,3 +1,3 @@
--- The definitions of this crate.
+-- What the C functions answer (Words), and what they are given for the separator token (Separator).
 pub mod Words
 pub mod Separator

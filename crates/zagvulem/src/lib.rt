@@ -1,4 +1,5 @@
-// The library as C calls it: numbers and byte slices, answers in 64 bits. include/zagvulem.h declares these functions.
+// The library as C calls it: numbers and byte slices, each answer in 64 bits, which the module `words` puts together.
+// include/zagvulem.h declares these functions.
 pub mod words;
 
 use answer::BookAnswer;
@@ -44,8 +45,10 @@ pub extern "C" fn zgv_lex_builtin(text: &[u8], records: &mut [u8]) -> u64
 // Prints the tokens that the records say with a pool: the number of bytes and 0, or the refusal.
 #[no_mangle]
 pub extern "C" fn zgv_print(book: &[u8], records: &[u8], pool: &[u8], out: &mut [u8]) -> u64
-    ensures { λ r. ⌜ r ≡ printWord ((printOutcome (now (book .entry)) (now (records .entry)) (now (pool .entry)) (now (out .entry))) .answer) ⌝ }
-    ensures { λ r. ⌜ now (out .exit) ≡ (printOutcome (now (book .entry)) (now (records .entry)) (now (pool .entry)) (now (out .entry))) .out ⌝ }
+    ensures { λ r. ⌜ r
+        ≡ printWord ((printOutcome (now (book .entry)) (now (records .entry)) (now (pool .entry)) (now (out .entry))) .answer) ⌝ }
+    ensures { λ r. ⌜ now (out .exit)
+        ≡ (printOutcome (now (book .entry)) (now (records .entry)) (now (pool .entry)) (now (out .entry))) .out ⌝ }
 {
     crate::words::printed(printer::print(book, records, pool, out))
 }
@@ -62,8 +65,12 @@ pub extern "C" fn zgv_print_separated(
     pool: &[u8],
     out: &mut [u8],
 ) -> u64
-    ensures { λ r. ⌜ r ≡ printWord ((separatedOutcome (now (book .entry)) (separator «separator_tag» «separator_place» «separator_length») mode (now (records .entry)) (now (pool .entry)) (now (out .entry))) .answer) ⌝ }
-    ensures { λ r. ⌜ now (out .exit) ≡ (separatedOutcome (now (book .entry)) (separator «separator_tag» «separator_place» «separator_length») mode (now (records .entry)) (now (pool .entry)) (now (out .entry))) .out ⌝ }
+    ensures { λ r. ⌜ r
+        ≡ printWord ((separatedOutcome (now (book .entry)) (separator «separator_tag» «separator_place» «separator_length») mode
+        (now (records .entry)) (now (pool .entry)) (now (out .entry))) .answer) ⌝ }
+    ensures { λ r. ⌜ now (out .exit)
+        ≡ (separatedOutcome (now (book .entry)) (separator «separator_tag» «separator_place» «separator_length») mode
+        (now (records .entry)) (now (pool .entry)) (now (out .entry))) .out ⌝ }
 {
     let token = TokenRecord {
         tag: separator_tag as u64,

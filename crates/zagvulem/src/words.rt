@@ -1,4 +1,4 @@
-// Answers in 64 bits, for C.
+// Answers in 64 bits, for C; specs/Words.antt says which bits hold what.
 use answer::LexAnswer;
 use answer::PrintAnswer;
 use answer::Refusal;

@@ -6,7 +6,8 @@ use borrow.Author.Needs.{needs}
 use denote.Ref.{now}
 use Rattle.automaton.specs.Rule.{Transition, covers}
 use Rattle.automaton.specs.Contracts.{pick}
-use Rattle.automaton.proofs.Chains.{At, Along, along-start, along-at, along-next, along-hit, along-end, pick-none, pick-hit, pick-miss}
+use Rattle.automaton.proofs.Chains.{At, Along, along-start, along-at, along-next, along-hit, along-end}
+use Rattle.automaton.proofs.Chains.{pick-none, pick-hit, pick-miss}
 use Rattle.automaton.proofs.step.Statement.{statement}
 use Rattle.automaton.proofs.step.Tie as tie
 
@@ -38,13 +39,17 @@ covers-requires : tie.Need-covers-requires Inv-loop μ-loop
 covers-requires c κs = search needs
 
 returns : tie.Need-returns Inv-loop μ-loop
-returns c = along-hit (c .before .before .before .before .loop .inv) (pos (c .before .before .before)) (λ t us l. pick-hit _ _ us l (sym (c .before .covers .ensures) ∙ c .if1 .taken))
+returns c =
+    let k = c .before .before .before in
+    along-hit (k .before .loop .inv) (pos k) (λ t us l. pick-hit _ _ us l (sym (c .before .covers .ensures) ∙ c .if1 .taken))
 
 loop-less : tie.Need-loop-less Inv-loop μ-loop
 loop-less c = let i = inside (c .before .before .before) in i .link .back
 
 loop-again : tie.Need-loop-again Inv-loop μ-loop
-loop-again c = along-next (c .before .before .before .before .loop .inv) (pos (c .before .before .before)) (λ t us l. pick-miss _ _ us l (sym (c .before .covers .ensures) ∙ c .if1 .left)) refl
+loop-again c =
+    let k = c .before .before .before in
+    along-next (k .before .loop .inv) (pos k) (λ t us l. pick-miss _ _ us l (sym (c .before .covers .ensures) ∙ c .if1 .left)) refl
 
 returns-2 : tie.Need-returns-2 Inv-loop μ-loop
 returns-2 c = along-end (c .before .loop .inv) (c .loop-test .left) (pick-none _ _)

@@ -26,16 +26,22 @@ tag-of-requires : tie.Need-tag-of-requires Inv-loop μ-loop
 tag-of-requires c κs = search needs
 
 returns : tie.Need-returns Inv-loop μ-loop
-returns c = ranking-found (c .before .before .before .before .loop .inv) (c .before .before .before .loop-test .taken) (sym (c .before .tag-of .ensures) ∙ c .if1 .taken)
+returns c =
+    let k = c .before .before .before in
+    ranking-found (k .before .loop .inv) (k .loop-test .taken) (sym (c .before .tag-of .ensures) ∙ c .if1 .taken)
 
 add-k : tie.Need-add-k Inv-loop μ-loop
-add-k c = omega (arith, c .before .before .before .loop-test .taken, c .before .before .before .before .before .before .pre, c .before .before .before .before .before .before .good .0 .0)
+add-k c =
+    let k = c .before .before .before in
+    omega (arith, k .loop-test .taken, k .before .before .before .pre, k .before .before .before .good .0 .0)
 
 loop-less : tie.Need-loop-less Inv-loop μ-loop
 loop-less c = omega (arith, c .before .before .before .loop-test .taken)
 
 loop-again : tie.Need-loop-again Inv-loop μ-loop
-loop-again c = ranking-next (c .before .before .before .before .loop .inv) (c .before .before .before .loop-test .taken) (λ e. c .if1 .left (c .before .tag-of .ensures ∙ e))
+loop-again c =
+    let k = c .before .before .before in
+    ranking-next (k .before .loop .inv) (k .loop-test .taken) (λ e. c .if1 .left (c .before .tag-of .ensures ∙ e))
 
 returns-2 : tie.Need-returns-2 Inv-loop μ-loop
 returns-2 c = ranking-end (c .before .loop .inv) (c .loop-test .left)

@@ -4,20 +4,18 @@ use Rattle.listing.proofs.Bounds.{fit-answer, listed}
 use Rattle.listing.proofs.list.Statement.{statement}
 use Rattle.listing.proofs.list.Tie as tie
 
-lex-requires : tie.Need-lex-requires
-lex-requires c κs = search needs
-
 put-lines-requires : tie.Need-put-lines-requires
-put-lines-requires c κs = fit-answer _ _ _ (c .before .before .before .before .lex .ensures .0) (c .before .before .before .before .lex .ensures .1) _ (c .before .before .before .before .before .before .before .before .before .before .pre .0) (c .before .before .before .before .before .before .before .before .before .before .pre .1)
-
-same-length : tie.Need-same-length
-same-length c = search needs
-
-same-length-2 : tie.Need-same-length-2
-same-length-2 c = search needs
+put-lines-requires c κs =
+    let l = c .before .before .before .before in
+    let p = l .before .before .before .before .before .before .pre in
+    fit-answer _ _ _ (l .lex .ensures .0) (l .lex .ensures .1) _ (p .0) (p .1)
 
 returns : tie.Need-returns
-returns c = let l = listed _ _ _ (c .before .before .before .before .before .before .before .lex .ensures .0) (c .before .before .before .before .before .before .before .lex .ensures .1) (c .before .before .put-lines .ensures) in (l .0, (c .before .before .before .before .before .before .before .lex .ensures .1, l .1))
+returns c =
+    let p = c .before .before in
+    let l = p .before .before .before .before .before in
+    let z = listed _ _ _ (l .lex .ensures .0) (l .lex .ensures .1) (p .put-lines .ensures) in
+    (z .0, (l .lex .ensures .1, z .1))
 
 pub list-spec : {M : Type 1} → statement M
-list-spec = tie.close (tie.spec lex-requires put-lines-requires same-length same-length-2 returns)
+list-spec = tie.close (tie.spec (λ c κs. search needs) put-lines-requires (λ c. search needs) (λ c. search needs) returns)

@@ -15,7 +15,11 @@ loop-holds : tie.Need-loop-holds Inv-loop μ-loop
 loop-holds c = going-start _ _ _
 
 put-record-requires : tie.Need-put-record-requires Inv-loop μ-loop
-put-record-requires c κs = (omega (arith, c .before .loop-test .taken, c .before .before .before .before .before .pre .0), going-room (c .before .before .loop .inv) (c .before .before .before .before .before .pre .1) (c .before .loop-test .taken))
+put-record-requires c κs =
+    let l = c .before .before in
+    let p = l .before .before .before .pre in
+    let t = c .before .loop-test .taken in
+    (omega (arith, t, p .0), going-room (l .loop .inv) (p .1) t)
 
 add-k : tie.Need-add-k Inv-loop μ-loop
 add-k c = omega arith
@@ -24,7 +28,11 @@ loop-less : tie.Need-loop-less Inv-loop μ-loop
 loop-less c = omega arith
 
 loop-again : tie.Need-loop-again Inv-loop μ-loop
-loop-again c = going-next (c .before .before .before .before .before .loop .inv) (c .before .before .before .before .before .before .before .before .pre .1) (c .before .before .before .before .loop-test .taken) (c .before .before .put-record .kept .0) (c .before .before .put-record .ensures)
+loop-again c =
+    let r = c .before .before in
+    let t = r .before .before in
+    let l = t .before in
+    going-next (l .loop .inv) (l .before .before .before .pre .1) (t .loop-test .taken) (r .put-record .kept .0) (r .put-record .ensures)
 
 same-length : tie.Need-same-length Inv-loop μ-loop
 same-length c = c .before .loop .inv .same

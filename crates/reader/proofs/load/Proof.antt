@@ -4,51 +4,65 @@ use native.Mathlib.Omega.{arith}
 use lib.ListN.{length}
 use borrow.Author.Needs.{needs}
 use denote.Ref.{now}
-use Rattle.command.specs.declared.Command.{Command}
-use Rattle.command.specs.declared.Cursor.{Cursor}
-use Rattle.command.specs.Commands.{byteAt, commandAt}
-use Rattle.reader.proofs.Loading.{Going, loaded-refused, read-too-long, going-start, going-stops, going-takes, commanded, edges-left, going-on, going-done, going-refused}
+use Rattle.reader.proofs.Loading.{Going, going-start, going-stops, going-takes, loaded-refused, read-too-long}
+use Rattle.reader.proofs.Loading.{Here, commanded, edges-left, taken-in}
 use Rattle.reader.proofs.load.Statement.{statement}
-use Rattle.command.specs.declared.Decoded.the-variants as decoded
 use Rattle.reader.proofs.load.Tie as tie
 
 abbrev Inv-loop : tie.InvT-loop
-Inv-loop book headers₀ states₀ edges₀ len cursor₀ state₀ headers states edges cursor state = Going book headers states edges (cursor .at) state
+Inv-loop book headers₀ states₀ edges₀ len cursor₀ state₀ headers states edges cursor state =
+    Going book headers states edges (cursor .at) state
 
 abbrev μ-loop : tie.MeasureT-loop
 μ-loop book headers₀ states₀ edges₀ len cursor₀ state₀ headers states edges cursor state = length book - cursor .at
 
+-- the loop's place, and the entry
+abbrev Loop : Type 0
+Loop = tie.At-loop Inv-loop μ-loop
+
+abbrev entry : Loop → tie.Start Inv-loop μ-loop
+entry c = c .before .before .before .before .before .before .before .before
+
+-- the place where a command was found, and the loop's place before it
 abbrev Told : Type 0
 Told = tie.After-known-told Inv-loop μ-loop
 
-bytes : (c : Told) (i : ℕ) → byteAt (now (c .before .before .before .before .before .before .before .before .before .before .before .before .before .before .args .book)) i < 256
-bytes c i = c .before .before .before .before .before .before .before .before .before .before .before .before .before .shared-slice-known .given i .fits
+abbrev turn : Told → Loop
+turn c = c .before .before .before .before .before .before
 
--- the command that was found, and the cursor past it
-abbrev cmd : Told → Command
-cmd c = c .before .command2 .given .0 .0
+here : (c : Told)
+    → Here (now (entry (turn c) .args .book)) (turn c .loop .headers) (turn c .loop .states) (turn c .loop .edges)
+    (turn c .loop .cursor .at) (turn c .loop .state) (c .before .command2 .given .0 .0) (c .before .command2 .given .0 .1 .0)
+here c =
+    record {
+      going = turn c .loop .inv;
+      more = c .before .before .before .before .if2 .taken;
+      byte = λ i. turn c .before .before .before .before .before .before .before .shared-slice-known .given i .fits;
+      found = sym (c .before .command2 .given .1) ∙ c .before .before .before .command .ensures;
+    }
 
-abbrev cur : Told → Cursor
-cur c = c .before .command2 .given .0 .1 .0
+-- the place where the command was taken in, and those before it
+abbrev Taken : Type 0
+Taken = tie.After-slice-known6 Inv-loop μ-loop
 
-found : (c : Told) → decoded.Command (cmd c) (cur c) ≡ commandAt (now (c .before .before .before .before .before .before .before .before .before .before .before .before .before .before .args .book)) (c .before .before .before .before .before .before .loop .cursor .at) (c .before .before .before .before .before .before .loop .state .inside)
-found c = sym (c .before .command2 .given .1) ∙ c .before .before .before .command .ensures
+abbrev applied : Taken → tie.After-apply Inv-loop μ-loop
+applied c = c .before .before .before .before .before .before
+
+abbrev told : Taken → Told
+told c = applied c .before .before .before .before
 
 falls : (n a b : ℕ) → a < n → a < b → n - b < n - a
 falls n a b l m = omega arith
 
 -- the tables keep their lengths
-abbrev Loop : Type 0
-Loop = tie.At-loop Inv-loop μ-loop
+kept-headers : (c : Loop) → length (c .loop .headers) ≡ length (now (entry c .args .headers))
+kept-headers c = c .loop .inv .holds .stored .sized .headers ∙ sym (entry c .pre .sized .headers)
 
-kept-headers : (c : Loop) → length (c .loop .headers) ≡ length (now (c .before .before .before .before .before .before .before .before .args .headers))
-kept-headers c = c .loop .inv .holds .stored .sized .headers ∙ sym (c .before .before .before .before .before .before .before .before .pre .sized .headers)
+kept-cells : (c : Loop) → length (c .loop .states) ≡ length (now (entry c .args .states))
+kept-cells c = c .loop .inv .holds .stored .sized .cells ∙ sym (entry c .pre .sized .cells)
 
-kept-cells : (c : Loop) → length (c .loop .states) ≡ length (now (c .before .before .before .before .before .before .before .before .args .states))
-kept-cells c = c .loop .inv .holds .stored .sized .cells ∙ sym (c .before .before .before .before .before .before .before .before .pre .sized .cells)
-
-kept-edges : (c : Loop) → length (c .loop .edges) ≡ length (now (c .before .before .before .before .before .before .before .before .args .edges))
-kept-edges c = c .loop .inv .holds .stored .sized .edges ∙ sym (c .before .before .before .before .before .before .before .before .pre .sized .edges)
+kept-edges : (c : Loop) → length (c .loop .edges) ≡ length (now (entry c .args .edges))
+kept-edges c = c .loop .inv .holds .stored .sized .edges ∙ sym (entry c .pre .sized .edges)
 
 refused-requires : tie.Need-refused-requires Inv-loop μ-loop
 refused-requires c κs = search needs
@@ -63,7 +77,9 @@ new-requires-2 : tie.Need-new-requires-2 Inv-loop μ-loop
 new-requires-2 c κs = search needs
 
 loop-holds : tie.Need-loop-holds Inv-loop μ-loop
-loop-holds c = going-start (c .before .before .before .before .before .before .before .pre) (c .before .before .if1 .left) (c .new2 .ensures) (c .before .new .ensures)
+loop-holds c =
+    going-start (c .before .before .before .before .before .before .before .pre) (c .before .before .if1 .left) (c .new2 .ensures)
+    (c .before .new .ensures)
 
 command-requires : tie.Need-command-requires Inv-loop μ-loop
 command-requires c κs = c .if2 .taken
@@ -84,7 +100,10 @@ same-length-3 : tie.Need-same-length-3 Inv-loop μ-loop
 same-length-3 c = kept-edges (c .before .before .before .before .before .before)
 
 returns-2 : tie.Need-returns-2 Inv-loop μ-loop
-returns-2 c = loaded-refused (going-takes (c .before .before .before .before .before .before .loop .inv) (c .before .before .before .before .if2 .taken) _ (sym (c .before .enum-told .given .1) ∙ c .before .before .before .command .ensures) .same) (c .refused2 .ensures)
+returns-2 c =
+    let k = c .before .before .before in
+    let e = sym (c .before .enum-told .given .1) ∙ k .command .ensures in
+    loaded-refused (going-takes (k .before .before .before .loop .inv) (k .before .if2 .taken) _ e .same) (c .refused2 .ensures)
 
 enum-told-2 : tie.Need-enum-told-2 Inv-loop μ-loop
 enum-told-2 c = search needs
@@ -102,61 +121,57 @@ same-length-6 : tie.Need-same-length-6 Inv-loop μ-loop
 same-length-6 c = kept-edges (c .before .before .before .before .before .before)
 
 returns-3 : tie.Need-returns-3 Inv-loop μ-loop
-returns-3 c = loaded-refused (going-takes (c .before .before .before .before .before .before .loop .inv) (c .before .before .before .before .if2 .taken) _ (sym (c .before .enum-told2 .given .1) ∙ c .before .before .before .command .ensures) .same) (c .refused3 .ensures)
+returns-3 c =
+    let k = c .before .before .before in
+    let e = sym (c .before .enum-told2 .given .1) ∙ k .command .ensures in
+    loaded-refused (going-takes (k .before .before .before .loop .inv) (k .before .if2 .taken) _ e .same) (c .refused3 .ensures)
 
 enum-known-command : tie.Need-enum-known-command Inv-loop μ-loop
 enum-known-command c = search needs
 
 apply-requires : tie.Need-apply-requires Inv-loop μ-loop
 apply-requires c κs =
-    let k = c .before .before .before in
-    let g = k .before .before .before .before .before .before .loop .inv in
-    let w = commanded g (k .before .before .before .before .if2 .taken) (bytes k) (cmd k) (cur k) (found k) in
-    (record { draft = g .draft; holds = g .holds }, (sym (w .stands), edges-left g (k .before .before .before .before .if2 .taken) (bytes k) (cmd k) (cur k) (found k), k .before .before .before .before .if2 .taken))
+    let k = here (c .before .before .before) in
+    (record { draft = k .going .draft; holds = k .going .holds }, (sym (commanded k .stands), edges-left k, k .more))
 
 enum-known-on : tie.Need-enum-known-on Inv-loop μ-loop
 enum-known-on c = search needs
 
 loop-less : tie.Need-loop-less Inv-loop μ-loop
-loop-less c =
-    let k = c .before .before .before .before .before .before .before .before .before .before .before .before .before in
-    let w = commanded (k .before .before .before .before .before .before .loop .inv) (k .before .before .before .before .if2 .taken) (bytes k) (cmd k) (cur k) (found k) in
-    let f = w .further in
-    let l = k .before .before .before .before .if2 .taken in
-    falls _ _ _ l f
+loop-less c = let k = here (told (c .before .before .before)) in falls _ _ _ (k .more) (commanded k .further)
 
 loop-again : tie.Need-loop-again Inv-loop μ-loop
-loop-again c = let k = c .before .before .before .before .before .before .before .before .before .before .before .before .before in going-on (k .before .before .before .before .before .before .loop .inv) (k .before .before .before .before .if2 .taken) (bytes k) (cmd k) (cur k) (found k) _ _ _ _ (c .before .before .before .before .before .before .before .before .before .apply .ensures) _ (c .before .on .given .1)
+loop-again c = let k = c .before .before .before in taken-in (here (told k)) _ _ _ (applied k .apply .ensures) (c .before .on .given .1)
 
 enum-known-rules : tie.Need-enum-known-rules Inv-loop μ-loop
 enum-known-rules c = search needs
 
 same-length-7 : tie.Need-same-length-7 Inv-loop μ-loop
-same-length-7 c = c .before .before .before .before .before .before .before .before .before .apply .kept .1 .1 .1 .1 .0 ∙ kept-headers (c .before .before .before .before .before .before .before .before .before .before .before .before .before .before .before .before .before .before .before)
+same-length-7 c = let k = c .before .before .before in applied k .apply .kept .1 .1 .1 .1 .0 ∙ kept-headers (turn (told k))
 
 same-length-8 : tie.Need-same-length-8 Inv-loop μ-loop
-same-length-8 c = c .before .before .before .before .before .before .before .before .before .apply .kept .1 .1 .1 .1 .1 .0 ∙ kept-cells (c .before .before .before .before .before .before .before .before .before .before .before .before .before .before .before .before .before .before .before)
+same-length-8 c = let k = c .before .before .before in applied k .apply .kept .1 .1 .1 .1 .1 .0 ∙ kept-cells (turn (told k))
 
 same-length-9 : tie.Need-same-length-9 Inv-loop μ-loop
-same-length-9 c = c .before .before .before .before .before .before .before .before .before .apply .kept .1 .1 .1 .1 .1 .1 .0 ∙ kept-edges (c .before .before .before .before .before .before .before .before .before .before .before .before .before .before .before .before .before .before .before)
+same-length-9 c = let k = c .before .before .before in applied k .apply .kept .1 .1 .1 .1 .1 .1 .0 ∙ kept-edges (turn (told k))
 
 returns-4 : tie.Need-returns-4 Inv-loop μ-loop
-returns-4 c = let k = c .before .before .before .before .before .before .before .before .before .before .before .before .before in going-done (k .before .before .before .before .before .before .loop .inv) (k .before .before .before .before .if2 .taken) (bytes k) (cmd k) (cur k) (found k) _ _ _ _ (c .before .before .before .before .before .before .before .before .before .apply .ensures) _ (c .before .rules .given .1)
+returns-4 c = let k = c .before .before .before in taken-in (here (told k)) _ _ _ (applied k .apply .ensures) (c .before .rules .given .1)
 
 enum-known-refusal : tie.Need-enum-known-refusal Inv-loop μ-loop
 enum-known-refusal c = search needs
 
 same-length-10 : tie.Need-same-length-10 Inv-loop μ-loop
-same-length-10 c = c .before .before .before .before .before .before .before .before .before .apply .kept .1 .1 .1 .1 .0 ∙ kept-headers (c .before .before .before .before .before .before .before .before .before .before .before .before .before .before .before .before .before .before .before)
+same-length-10 c = let k = c .before .before .before in applied k .apply .kept .1 .1 .1 .1 .0 ∙ kept-headers (turn (told k))
 
 same-length-11 : tie.Need-same-length-11 Inv-loop μ-loop
-same-length-11 c = c .before .before .before .before .before .before .before .before .before .apply .kept .1 .1 .1 .1 .1 .0 ∙ kept-cells (c .before .before .before .before .before .before .before .before .before .before .before .before .before .before .before .before .before .before .before)
+same-length-11 c = let k = c .before .before .before in applied k .apply .kept .1 .1 .1 .1 .1 .0 ∙ kept-cells (turn (told k))
 
 same-length-12 : tie.Need-same-length-12 Inv-loop μ-loop
-same-length-12 c = c .before .before .before .before .before .before .before .before .before .apply .kept .1 .1 .1 .1 .1 .1 .0 ∙ kept-edges (c .before .before .before .before .before .before .before .before .before .before .before .before .before .before .before .before .before .before .before)
+same-length-12 c = let k = c .before .before .before in applied k .apply .kept .1 .1 .1 .1 .1 .1 .0 ∙ kept-edges (turn (told k))
 
 returns-5 : tie.Need-returns-5 Inv-loop μ-loop
-returns-5 c = let k = c .before .before .before .before .before .before .before .before .before .before .before .before .before in going-refused (k .before .before .before .before .before .before .loop .inv) (k .before .before .before .before .if2 .taken) (bytes k) (cmd k) (cur k) (found k) _ _ _ _ (c .before .before .before .before .before .before .before .before .before .apply .ensures) _ (c .before .refusal .given .1)
+returns-5 c = let k = c .before .before .before in taken-in (here (told k)) _ _ _ (applied k .apply .ensures) (c .before .refusal .given .1)
 
 refused-requires-4 : tie.Need-refused-requires-4 Inv-loop μ-loop
 refused-requires-4 c κs = search needs

@@ -35,13 +35,18 @@ shared-slice-read-e : tie.Need-shared-slice-read-e Inv-loop μ-loop
 shared-slice-read-e c = let i = inside (c .before) in omega (arith, i .link .room)
 
 returns : tie.Need-returns Inv-loop μ-loop
-returns c = along-hit (c .before .before .before .before .loop .inv) (pos (c .before .before .before)) (λ t us l. share-hit _ _ us l (c .before .if1 .taken) (c .if2 .taken))
+returns c =
+    let k = c .before .before .before in
+    along-hit (k .before .loop .inv) (pos k) (λ t us l. share-hit _ _ us l (c .before .if1 .taken) (c .if2 .taken))
 
 loop-less : tie.Need-loop-less Inv-loop μ-loop
 loop-less c = let i = inside (c .before .before) in i .link .back
 
 loop-again : tie.Need-loop-again Inv-loop μ-loop
-loop-again c = along-next (c .before .before .before .loop .inv) (pos (c .before .before)) (λ t us l. share-miss _ _ us l (⊎-elim (λ w. inr (w .1 .left)) (λ w. inl (w .left)) (c .if1 .came))) refl
+loop-again c =
+    let k = c .before .before in
+    let m = ⊎-elim (λ w. inr (w .1 .left)) (λ w. inl (w .left)) (c .if1 .came) in
+    along-next (k .before .loop .inv) (pos k) (λ t us l. share-miss _ _ us l m) refl
 
 returns-2 : tie.Need-returns-2 Inv-loop μ-loop
 returns-2 c = along-end (c .before .loop .inv) (c .loop-test .left) refl

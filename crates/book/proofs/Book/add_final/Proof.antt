@@ -17,7 +17,9 @@ same-length : tie.Need-same-length
 same-length c = search needs
 
 returns : tie.Need-returns
-returns c = λ hs es at len d h i. final-added h i _ at len _ (c .before .before .before .before .before .fits .s .fits) (omega arith) (c .before .before .mark-final .ensures)
+returns c = λ hs es at len d h i.
+    let k = c .before .before in
+    final-added h i _ at len _ (k .before .before .before .fits .s .fits) (omega arith) (k .mark-final .ensures)
 
 pub add-final-spec : {M : Type 1} → statement M
 add-final-spec =

@@ -1,6 +1,11 @@
+use mathlib.Core.Path.{sym, ap}
 use native.Mathlib.Omega.{arith}
 use borrow.Author.Needs.{needs}
-use Rattle.book.proofs.Steps.{start-again, start-set}
+use Rattle.command.specs.declared.Command.the-variants.{Start}
+use Rattle.book.specs.declared.Book.{Book}
+use Rattle.book.specs.Draft.{withStart, apply}
+use Rattle.book.proofs.Fine.{apply-good}
+use Rattle.book.proofs.Steps.{given-again, given}
 use Rattle.book.proofs.Book.set_start.Statement.{statement}
 use Rattle.book.proofs.Book.set_start.Tie as tie
 
@@ -8,10 +13,15 @@ refused-requires : tie.Need-refused-requires
 refused-requires c κs = search needs
 
 returns : tie.Need-returns
-returns c = λ hs ss es len d h i. rw (c .refused .ensures) (start-again h _ _ len _ (c .before .if1 .taken))
+unfolding apply
+returns c = λ hs ss es len d h i.
+    rw (c .refused .ensures) (given-again hs ss es _ _ _ (ap (λ (x : Book). x .started) (h .same)) (c .before .if1 .taken))
 
 returns-2 : tie.Need-returns-2
-returns-2 c = λ hs ss es len d h i. start-set h _ _ len _ (c .if1 .left) i (c .before .fits .s .fits) (omega arith)
+unfolding apply
+returns-2 c = λ hs ss es len d h i.
+    let g = apply-good d (Start _) _ len (h .fine) (c .before .fits .s .fits) (sym i) in
+    given hs ss es _ _ (withStart d _) (ap (λ (x : Book). x .started) (h .same)) (c .if1 .left) g (h .stored) (rw (h .same)) (omega arith)
 
 pub set-start-spec : {M : Type 1} → statement M
 set-start-spec = tie.close (tie.spec refused-requires returns returns-2)

@@ -1,17 +1,29 @@
-use mathlib.Core.Path.{_∙_, ap}
+use mathlib.Core.Path.{_≡_, refl, _∙_, ap}
+use mathlib.Core.Bool.{true}
 use native.Mathlib.Omega.{arith}
 use borrow.Author.Needs.{needs}
+use denote.Ref.{now}
+use Rattle.command.specs.declared.Command.{Command}
 use Rattle.book.specs.Draft.{apply}
 use Rattle.book.specs.Contracts.{standsInside}
-use Rattle.book.proofs.Steps.{inside-room}
+use Rattle.book.proofs.Steps.{Inside, outside-room, inside-room}
 use Rattle.book.proofs.applying.apply.Statement.{statement}
 use Rattle.book.proofs.applying.apply.Tie as tie
+
+-- at entry, from where the arms of the match begin
+abbrev entry : tie.After-slice-known3 → tie.Start
+entry c = c .before .before .before
+
+-- what a command asks that stands inside a rule
+room : (c : tie.After-slice-known3) (k : Command) → entry c .args .command ≡ k → standsInside k ≡ true
+    → Inside (entry c .args .state) (now (entry c .args .headers)) (now (entry c .args .states)) (now (entry c .args .edges))
+room c k e i = inside-room (entry c .pre .0) (entry c .pre .1 .0 ∙ ap standsInside e ∙ i)
 
 enum-known-command : tie.Need-enum-known-command
 enum-known-command c = search needs
 
 open-rule-requires : tie.Need-open-rule-requires
-open-rule-requires c κs = search needs
+open-rule-requires c κs = outside-room (entry (c .before .before .before .before) .pre .0)
 
 enum-known-command-2 : tie.Need-enum-known-command-2
 enum-known-command-2 c = search needs
@@ -29,32 +41,38 @@ enum-known-command-4 : tie.Need-enum-known-command-4
 enum-known-command-4 c = search needs
 
 add-final-requires : tie.Need-add-final-requires
-add-final-requires c κs = inside-room (c .before .before .before .before .before .before .before .pre .0) (c .before .before .before .before .before .before .before .pre .1 .0 ∙ ap standsInside (c .before .before .command4 .given .1)) .cells
+add-final-requires c κs = room (c .before .before .before .before) _ (c .before .before .command4 .given .1) refl .cells
 
 enum-known-command-5 : tie.Need-enum-known-command-5
 enum-known-command-5 c = search needs
 
 add-transition-requires : tie.Need-add-transition-requires
 add-transition-requires c κs =
-    let r = inside-room (c .before .before .before .before .before .before .before .before .pre .0) (c .before .before .before .before .before .before .before .before .pre .1 .0 ∙ ap standsInside (c .before .before .before .command5 .given .1)) in
-    let l = c .before .before .before .before .before .before .before .before .pre .1 .1 in
-    ((r .cells, omega (arith, r .edges), r .edges), r .chains (c .before .before .before .command5 .given .0 .0) (omega (arith, c .before .before .known-told5 .given)))
+    let k = c .before .before .before in
+    let r = room (k .before .before) _ (k .command5 .given .1) refl in
+    let l = entry (k .before .before) .pre .1 .1 in (
+      (r .cells, omega (arith, r .edges), r .edges),
+      r .chains (k .command5 .given .0 .0) (omega (arith, c .before .before .known-told5 .given)),
+    )
 
 enum-known-command-6 : tie.Need-enum-known-command-6
 enum-known-command-6 c = search needs
 
 add-transition-requires-2 : tie.Need-add-transition-requires-2
 add-transition-requires-2 c κs =
-    let r = inside-room (c .before .before .before .before .before .before .before .before .pre .0) (c .before .before .before .before .before .before .before .before .pre .1 .0 ∙ ap standsInside (c .before .before .before .command6 .given .1)) in
-    let l = c .before .before .before .before .before .before .before .before .pre .1 .1 in
-    ((r .cells, omega (arith, r .edges), r .edges), r .chains (c .before .before .before .command6 .given .0 .0) (omega (arith, c .before .before .known-told6 .given)))
+    let k = c .before .before .before in
+    let r = room (k .before .before) _ (k .command6 .given .1) refl in
+    let l = entry (k .before .before) .pre .1 .1 in (
+      (r .cells, omega (arith, r .edges), r .edges),
+      r .chains (k .command6 .given .0 .0) (omega (arith, c .before .before .known-told6 .given)),
+    )
 
 enum-told : tie.Need-enum-told
 enum-told c = search needs
 
 close-requires : tie.Need-close-requires
 close-requires c κs =
-    let r = inside-room (c .before .before .before .before .before .before .before .pre .0) (c .before .before .before .before .before .before .before .pre .1 .0 ∙ ap standsInside (c .before .before .enum-told .given .1)) in
+    let r = room (c .before .before .before .before) _ (c .before .before .enum-told .given .1) refl in
     (r .headers, r .cells, r .few)
 
 enum-told-2 : tie.Need-enum-told-2
@@ -79,7 +97,9 @@ same-length-2 : tie.Need-same-length-2
 same-length-2 c = search needs
 
 returns-4 : tie.Need-returns-4
-returns-4 c = rw (c .before .before .before .before .before .command4 .given .1) (λ d h i. c .before .before .add-final .ensures _ _ _ _ d h i)
+returns-4 c =
+    let k = c .before .before in
+    rw (k .before .before .before .command4 .given .1) (λ d h i. k .add-final .ensures _ _ _ _ d h i)
 
 same-length-3 : tie.Need-same-length-3
 same-length-3 c = search needs
@@ -89,7 +109,9 @@ same-length-4 c = search needs
 
 returns-5 : tie.Need-returns-5
 unfolding apply
-returns-5 c = rw (c .before .before .before .before .before .before .before .before .command5 .given .1) (λ d h i. c .before .before .before .before .add-transition .ensures _ d h i)
+returns-5 c =
+    let k = c .before .before .before .before in
+    rw (k .before .before .before .before .command5 .given .1) (λ d h i. k .add-transition .ensures _ d h i)
 
 same-length-5 : tie.Need-same-length-5
 same-length-5 c = search needs
@@ -99,7 +121,9 @@ same-length-6 c = search needs
 
 returns-6 : tie.Need-returns-6
 unfolding apply
-returns-6 c = rw (c .before .before .before .before .before .before .before .before .command6 .given .1) (λ d h i. c .before .before .before .before .add-transition2 .ensures _ d h i)
+returns-6 c =
+    let k = c .before .before .before .before in
+    rw (k .before .before .before .before .command6 .given .1) (λ d h i. k .add-transition2 .ensures _ d h i)
 
 same-length-7 : tie.Need-same-length-7
 same-length-7 c = search needs

@@ -1,6 +1,7 @@
 use native.Mathlib.Omega.{arith}
 use borrow.Author.Needs.{needs}
-use Rattle.book.proofs.Steps.{rule-too-many, rule-tag-zero, rule-kind, rule-taken, rule-opened}
+use Rattle.automaton.specs.Rule.{overlaps}
+use Rattle.book.proofs.Steps.{rules-are, rule-too-many, rule-tag-zero, rule-kind, rule-taken, rule-opened}
 use Rattle.book.proofs.opening.open_rule.Statement.{statement}
 use Rattle.book.proofs.opening.open_rule.Tie as tie
 
@@ -14,13 +15,16 @@ refused-requires-2 : tie.Need-refused-requires-2
 refused-requires-2 c κs = search needs
 
 returns-2 : tie.Need-returns-2
-returns-2 c = λ ss es len d h i. rw (c .refused2 .ensures) (rule-tag-zero h _ _ _ len _ (c .before .before .if1 .left) (c .before .if2 .taken))
+returns-2 c = λ ss es len d h i.
+    rw (c .refused2 .ensures) (rule-tag-zero h _ _ _ len _ (c .before .before .if1 .left) (c .before .if2 .taken))
 
 refused-requires-3 : tie.Need-refused-requires-3
 refused-requires-3 c κs = search needs
 
 returns-3 : tie.Need-returns-3
-returns-3 c = λ ss es len d h i. rw (c .refused3 .ensures) (rule-kind h _ _ _ len _ (c .before .before .before .if1 .left) (c .before .before .if2 .left) (c .before .if3 .taken))
+returns-3 c = λ ss es len d h i.
+    let k = c .before .before in
+    rw (c .refused3 .ensures) (rule-kind h _ _ _ len _ (k .before .if1 .left) (k .if2 .left) (c .before .if3 .taken))
 
 is-taken-requires : tie.Need-is-taken-requires
 is-taken-requires c κs = search needs
@@ -30,16 +34,23 @@ refused-requires-4 c κs = search needs
 
 returns-4 : tie.Need-returns-4
 returns-4 c = λ ss es len d h i.
+    let k = c .before .before in
+    let seen = k .is-taken .ensures ss es (d .rules) (h .stored .tables) (rules-are h) in
     rw (c .refused4 .ensures)
-    (rule-taken h _ _ _ len _ (c .before .before .before .before .before .if1 .left) (c .before .before .before .before .if2 .left) (c .before .before .before .if3 .left) (c .before .before .is-taken .ensures ss es (d .rules) (h .stored .tables) (h .rules)) (c .before .if4 .taken))
+    (rule-taken h _ _ _ len _ (k .before .before .before .if1 .left) (k .before .before .if2 .left) (k .before .if3 .left) seen
+    (c .before .if4 .taken))
 
 between-requires : tie.Need-between-requires
 between-requires c κs = search needs
 
 returns-5 : tie.Need-returns-5
+unfolding overlaps
 returns-5 c = λ ss es len d h i.
+    let k = c .before .before in
+    let seen = k .is-taken .ensures ss es (d .rules) (h .stored .tables) (rules-are h) in
     rw (c .between .ensures)
-    (rule-opened h _ _ _ len _ (c .before .before .before .before .before .if1 .left) (c .before .before .before .before .if2 .left) (c .before .before .before .if3 .left) (c .before .before .is-taken .ensures ss es (d .rules) (h .stored .tables) (h .rules)) (c .before .if4 .left) i (c .before .before .before .before .before .before .before .fits .tag .fits) (omega arith))
+    (rule-opened h _ _ _ len _ (k .before .before .before .if1 .left) (k .before .before .if2 .left) (k .before .if3 .left) seen
+    (c .before .if4 .left) i (k .before .before .before .before .before .fits .tag .fits) (omega arith) (rw (h .same)))
 
 pub open-rule-spec : {M : Type 1} → statement M
 open-rule-spec =

@@ -11,11 +11,8 @@ slice-write-out c = omega (arith, c .pre .room)
 add-result : tie.Need-add-result
 add-result c = omega (arith, c .pre .room)
 
-same-length : tie.Need-same-length
-same-length c = search needs
-
 returns : tie.Need-returns
 returns c = puts-byte _ _ _ (c .pre)
 
 pub put-byte-spec : {M : Type 1} → statement M
-put-byte-spec = tie.close (tie.spec slice-write-out add-result same-length returns)
+put-byte-spec = tie.close (tie.spec slice-write-out add-result (λ c. search needs) returns)

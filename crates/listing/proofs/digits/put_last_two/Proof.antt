@@ -11,15 +11,15 @@ put-field-requires c κs = room-first _ (c .before .before .pre)
 
 put-field-requires-2 : tie.Need-put-field-requires-2
 unfolding lastTwo
-put-field-requires-2 c κs = room-second (c .before .before .before .put-field .ensures) (c .before .before .before .put-field .kept .0) (c .before .before .before .before .before .before .pre)
-
-same-length : tie.Need-same-length
-same-length c = search needs
+put-field-requires-2 c κs =
+    let f = c .before .before .before in
+    room-second (f .put-field .ensures) (f .put-field .kept .0) (f .before .before .before .pre)
 
 returns : tie.Need-returns
 unfolding lastTwo
-returns c = puts-then (c .before .before .before .before .before .before .put-field .ensures) (c .before .before .put-field2 .ensures) (room-first _ (c .before .before .before .before .before .before .before .before .before .pre))
+returns c =
+    let f = c .before .before .before .before .before .before in
+    puts-then (f .put-field .ensures) (c .before .before .put-field2 .ensures) (room-first _ (f .before .before .before .pre))
 
 pub put-last-two-spec : {M : Type 1} → statement M
-put-last-two-spec =
-    tie.close (tie.spec put-field-requires put-field-requires-2 same-length returns)
+put-last-two-spec = tie.close (tie.spec put-field-requires put-field-requires-2 (λ c. search needs) returns)

@@ -12,20 +12,27 @@ put-field-requires c κs = room-first _ (room-first _ (c .before .before .pre))
 
 put-field-requires-2 : tie.Need-put-field-requires-2
 unfolding tokenLine
-put-field-requires-2 c κs = room-second (c .before .before .before .put-field .ensures) (c .before .before .before .put-field .kept .0) (room-first _ (c .before .before .before .before .before .before .pre))
+put-field-requires-2 c κs =
+    let f = c .before .before .before in
+    room-second (f .put-field .ensures) (f .put-field .kept .0) (room-first _ (f .before .before .before .pre))
 
 put-last-two-requires : tie.Need-put-last-two-requires
 unfolding tokenLine
-put-last-two-requires c κs = room-second (puts-then (c .before .before .before .before .before .before .before .put-field .ensures) (c .before .before .before .put-field2 .ensures) (room-first _ (room-first _ (c .before .before .before .before .before .before .before .before .before .before .pre)))) (c .before .before .before .put-field2 .kept .0 ∙ c .before .before .before .before .before .before .before .put-field .kept .0) (c .before .before .before .before .before .before .before .before .before .before .pre)
-
-same-length : tie.Need-same-length
-same-length c = search needs
+put-last-two-requires c κs =
+    let g = c .before .before .before in
+    let f = g .before .before .before .before in
+    let r = f .before .before .before .pre in
+    room-second (puts-then (f .put-field .ensures) (g .put-field2 .ensures) (room-first _ (room-first _ r)))
+    (g .put-field2 .kept .0 ∙ f .put-field .kept .0) r
 
 returns : tie.Need-returns
 unfolding tokenLine
-returns c = puts-then (puts-then (c .before .before .before .before .before .before .before .before .before .before .put-field .ensures) (c .before .before .before .before .before .before .put-field2 .ensures) (room-first _ (room-first _ (c .before .before .before .before .before .before .before .before .before .before .before .before .before .pre)))) (c .before .before .put-last-two .ensures) (room-first _ (c .before .before .before .before .before .before .before .before .before .before .before .before .before .pre))
+returns c =
+    let l = c .before .before in
+    let g = l .before .before .before .before in
+    let f = g .before .before .before .before in
+    let r = room-first _ (f .before .before .before .pre) in
+    puts-then (puts-then (f .put-field .ensures) (g .put-field2 .ensures) (room-first _ r)) (l .put-last-two .ensures) r
 
 pub put-token-spec : {M : Type 1} → statement M
-put-token-spec =
-    tie.close
-    (tie.spec put-field-requires put-field-requires-2 put-last-two-requires same-length returns)
+put-token-spec = tie.close (tie.spec put-field-requires put-field-requires-2 put-last-two-requires (λ c. search needs) returns)

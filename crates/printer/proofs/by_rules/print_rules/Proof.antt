@@ -1,12 +1,12 @@
 -- `print_rules`: 16, what is wrong with the list, or what `write` answers. Assumes nothing.
 use native.Mathlib.Omega.{arith}
-use borrow.Author.Needs.{needs}
 use Rattle.printer.proofs.ByRules.{answered-many, answered-troubled, clean-written}
+use borrow.Author.Needs.{needs}
 use Rattle.printer.proofs.by_rules.print_rules.Statement.{statement}
 use Rattle.printer.proofs.by_rules.print_rules.Tie as tie
 
 refused-requires : tie.Need-refused-requires
-refused-requires c κs = tt
+refused-requires c κs = search needs
 
 returns : tie.Need-returns
 returns c = λ rs h. answered-many rs _ _ _ (c .before .if1 .taken) (c .refused .ensures)
@@ -14,26 +14,35 @@ returns c = λ rs h. answered-many rs _ _ _ (c .before .if1 .taken) (c .refused 
 rehearse-requires : tie.Need-rehearse-requires
 rehearse-requires c κs = search needs
 
+enum-known-total : tie.Need-enum-known-total
+enum-known-total c = search needs
+
+write-requires : tie.Need-write-requires
+write-requires c κs =
+    let w = c .before .before .before .before .before .before .before .rehearse .ensures (c .before .before .before .before .before .before .before .before .before .before .before .before .before .before .before .before .before .pre .0 .rules) (c .before .before .before .before .before .before .before .before .before .before .before .before .before .before .before .before .before .pre .0 .holds) .clean _ (c .before .before .before .total .given .1) in
+    omega (arith, w .spanned .short, c .before .before .before .before .before .before .before .rehearse .kept, c .before .before .before .before .before .before .before .before .before .before .before .before .before .before .before .before .before .pre .1)
+
+enum-known-found : tie.Need-enum-known-found
+enum-known-found c = search needs
+
 find-refusal-requires : tie.Need-find-refusal-requires
-find-refusal-requires c κs = (record { held = c .before .before .before .before .before .before .before .before .before .before .before .before .before .before .pre .0; unclean = λ rs h. c .before .before .before .before .rehearse .ensures rs h .unclean (c .before .if2 .taken); laid = c .before .before .before .before .rehearse .ensures (c .before .before .before .before .before .before .before .before .before .before .before .before .before .before .pre .0 .rules) (c .before .before .before .before .before .before .before .before .before .before .before .before .before .before .pre .0 .holds) .laid; sized = omega (arith, c .before .before .before .before .rehearse .kept, c .before .before .before .before .before .before .before .before .before .before .before .before .before .before .pre .1) }, c .before .before .before .before .before .before .if1 .left)
+find-refusal-requires c κs =
+    record { held = c .before .before .before .before .before .before .before .before .before .before .before .before .before .before .before .pre .0; suspected = λ rs h. c .before .before .before .before .before .rehearse .ensures rs h .wrong _ (c .before .found .given .1) }
 
 same-length : tie.Need-same-length
 same-length c = search needs
 
-returns-2 : tie.Need-returns-2
-returns-2 c = λ rs h. answered-troubled rs _ _ _ (c .before .before .before .before .before .before .before .if1 .left) (c .find-refusal .ensures rs h)
-
-write-requires : tie.Need-write-requires
-write-requires c κs = search needs
-
 same-length-2 : tie.Need-same-length-2
 same-length-2 c = search needs
+
+returns-2 : tie.Need-returns-2
+returns-2 c = λ rs h. clean-written rs _ _ _ (c .before .before .before .before .before .before .before .before .before .before .before .before .if1 .left) (c .before .before .before .before .before .before .before .before .before .before .rehearse .ensures rs h .clean _ (c .before .before .before .before .before .before .total .given .1)) (c .before .before .write .ensures)
 
 same-length-3 : tie.Need-same-length-3
 same-length-3 c = search needs
 
 returns-3 : tie.Need-returns-3
-returns-3 c = λ rs h. clean-written rs _ _ _ (c .before .before .before .before .before .before .before .before .before .before .if1 .left) (c .before .before .before .before .before .before .before .before .rehearse .ensures rs h) (c .before .before .before .before .before .if2 .left) (c .before .before .write .ensures)
+returns-3 c = λ rs h. answered-troubled rs _ _ _ (c .before .before .before .before .before .before .before .before .if1 .left) (c .find-refusal .ensures rs h)
 
 pub print-rules-spec : {M : Type 1} → statement M
 print-rules-spec =
@@ -42,10 +51,12 @@ print-rules-spec =
     refused-requires
     returns
     rehearse-requires
+    enum-known-total
+    write-requires
+    enum-known-found
     find-refusal-requires
     same-length
-    returns-2
-    write-requires
     same-length-2
+    returns-2
     same-length-3
     returns-3)

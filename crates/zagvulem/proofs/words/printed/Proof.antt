@@ -1,34 +1,11 @@
+-- `printed`: by the answer. Assumes nothing.
 use mathlib.Core.Path.{sym, _∙_, ap}
 use borrow.Author.Needs.{needs}
 use Rattle.zagvulem.specs.Words.{printWord}
 use Rattle.zagvulem.proofs.words.printed.Statement.{statement}
 use Rattle.zagvulem.proofs.words.printed.Tie as tie
 
-enum-known-answer : tie.Need-enum-known-answer
-enum-known-answer c = search needs
-
-accepted-requires : tie.Need-accepted-requires
-accepted-requires c κs = search needs
-
-enum-known-answer-2 : tie.Need-enum-known-answer-2
-enum-known-answer-2 c = search needs
-
-refused-requires : tie.Need-refused-requires
-refused-requires c κs = search needs
-
-returns : tie.Need-returns
-returns c = c .accepted .ensures ∙ ap printWord (sym (c .before .before .answer .given .1))
-
-returns-2 : tie.Need-returns-2
-returns-2 c = c .refused .ensures ∙ ap printWord (sym (c .before .before .answer2 .given .1))
-
 pub printed-spec : {M : Type 1} → statement M
-printed-spec =
-    tie.close
-    (tie.spec
-    enum-known-answer
-    accepted-requires
-    enum-known-answer-2
-    refused-requires
-    returns
-    returns-2)
+printed-spec = tie.close (tie.spec (λ c. search needs) (λ c κs. search needs) (λ c. search needs) (λ c κs. search needs)
+    (λ c. c .accepted .ensures ∙ ap printWord (sym (c .before .before .answer .given .1)))
+    (λ c. c .refused .ensures ∙ ap printWord (sym (c .before .before .answer2 .given .1))))
