@@ -1,4 +1,5 @@
--- What the proofs of this crate share, and the laws for the layers above.
+-- What the proofs of this crate share: to walk code by hand (Tests, Arrays, Locals), of lexing (Opening, Starting, Storing), of printing
+-- (Checking, Staging).
 pub mod Tests
 pub mod Arrays
 pub mod Locals

@@ -1,2 +1,3 @@
--- The definitions that this crate's own contracts cite between its layers; those of `lex_tokens` and `print_tokens` stand in lexer and printer.
+-- What the layers of this crate ask and answer between themselves. What `lex_tokens` and `print_tokens` answer is defined in lexer and
+-- printer, of the records that the slice says.
 pub mod Contracts
