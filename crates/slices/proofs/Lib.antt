@@ -1,11 +1,10 @@
 -- What the proofs of this crate share: to walk code by hand (Tests, Arrays, Locals), of lexing (Opening, Starting, Storing), of printing
--- (Checking, Staging).
+-- (Passes, Staging).
 pub mod Tests
 pub mod Arrays
 pub mod Locals
-pub mod Passes
 pub mod Opening
 pub mod Starting
 pub mod Storing
-pub mod Checking
+pub mod Passes
 pub mod Staging

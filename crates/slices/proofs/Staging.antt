@@ -1,13 +1,13 @@
--- The loop of `print_tokens`: what holds of a stage and of the scratch, and how a step keeps it, by the printer's three passes over the records that the tokens say. Assumes nothing.
+-- The loop of `print_tokens`: what holds of a stage and of the scratch, and how a step keeps it, by the printer's three passes over the
+-- records that the tokens say. Assumes nothing.
 use mathlib.Core.Path.{_≡_, refl, sym, _∙_, ap, subst}
 use mathlib.Core.Bool.{Bool, true, false}
-use mathlib.Core.Option.{none}
 use mathlib.Core.List.{List, [], _∷_}
 use Prim.Native.Nat.{ℕ, zero, suc, _+_, _-_, _*_, _<_, _≤_}
 use native.Mathlib.Omega.{arith}
 use lib.Dec.{ltb, eqb}
 use lib.ListN.{length, take, drop}
-use lib.Seq.{paste, take-append-seam, length-take-le}
+use lib.Seq.{paste, length-take-le}
 use borrow.Author.Tests.{ltb-true, ltb-false, eqb-true, eqb-false}
 use Rattle.answer.specs.declared.Refusal.{Refusal}
 use Rattle.answer.specs.declared.BookAnswer.{BookAnswer}
@@ -36,8 +36,8 @@ use Rattle.printer.proofs.ByRules.{answered-long, answered-extended, answered-m
 use Rattle.printer.proofs.Outcomes.{answered-book, answered-refused}
 use Rattle.slices.specs.declared.printing.Stage.{Stage}
 use Rattle.slices.specs.Contracts.{going, done, refusedStage, passOver, movedOn, Steps, Stepped, firstStage, begun, Begins, Finishes}
-use Rattle.slices.proofs.Checking.{Measuring, measuring-start, measuring-refused, measuring-next, measuring-end}
-use Rattle.slices.proofs.Checking.{Extending, extending-start, extending-found, extending-next, extending-end}
+use Rattle.slices.proofs.Passes.{Measuring, measuring-start, measuring-refused, measuring-next, measuring-end}
+use Rattle.slices.proofs.Passes.{Extending, extending-start, extending-found, extending-next, extending-end}
 use Rattle.answer.specs.declared.BookAnswer.the-variants as book
 use Rattle.answer.specs.declared.PrintAnswer.the-variants as print
 
@@ -45,7 +45,8 @@ use Rattle.answer.specs.declared.PrintAnswer.the-variants as print
 
 module _ {bytes hs ss es : List ℕ} {count : ℕ} {b : BookAnswer} {r : Stage} (l : Loaded bytes b hs ss es) where
   refused : (number place : ℕ) → r ≡ refusedStage number place
-      → ((records pool out : List ℕ) → recordCount records ≡ count → PrintAnswered (printOutcome bytes records pool out) (print.Refused (record { number = number; place = place })) out)
+      → ((records pool out : List ℕ) → recordCount records ≡ count
+          → PrintAnswered (printOutcome bytes records pool out) (print.Refused (record { number = number; place = place })) out)
       → Begins bytes count hs ss es r
   refused number place e f =
       subst (Begins bytes count hs ss es) (sym e) (record { refuses = λ _. (refl, f); starts = λ p. clash refl p })
@@ -54,7 +55,8 @@ module _ {bytes hs ss es : List ℕ} {count : ℕ} {b : BookAnswer} {r : Stage} 
     many : maxTokens < count → r ≡ refusedStage 16 0 → Begins bytes count hs ss es r
     many m e =
         refused 16 0 e
-        (λ records pool out q. answered-book l a records pool out out _ (λ rules h. answered-many rules records pool out (subst (λ (k : ℕ). maxTokens < k) (sym q) m) refl))
+        (λ records pool out q. answered-book l a records pool out out _
+            (λ rules h. answered-many rules records pool out (subst (λ (k : ℕ). maxTokens < k) (sym q) m) refl))
 
     started : count ≤ maxTokens → r .refused ≡ false → r ≡ firstStage n count → Begins bytes count hs ss es r
     started m f e =
@@ -96,14 +98,17 @@ pub data Phase (rules : List Rule) (n : ℕ) (records pool scratch : List ℕ) (
 
 pub data Going (book hs ss es records pool scratch : List ℕ) (left : ℕ) (s : Stage) : Type 0 where
   refuses : (number place : ℕ) → s ≡ refusedStage number place
-      → ((out : List ℕ) → PrintAnswered (printOutcome book records pool out) (print.Refused (record { number = number; place = place })) out)
+      → ((out : List ℕ) → PrintAnswered (printOutcome book records pool out) (print.Refused (record { number = number; place = place }))
+          out)
       → Going book hs ss es records pool scratch left s
   stands : (rules : List Rule) (n : ℕ) → readBook book ≡ accepted rules → Holds hs ss es n rules → recordCount records ≤ maxTokens
       → Phase rules n records pool scratch left s → Going book hs ss es records pool scratch left s
 
 -- the three passes, in a book's rules that the tables hold
-module _ (book hs ss es records pool : List ℕ) (rules : List Rule) (n : ℕ) (accepts : readBook book ≡ accepted rules) (holds : Holds hs ss es n rules) (few : recordCount records ≤ maxTokens) where
-  outcome : (out exit : List ℕ) (a : PrintAnswer) → PrintAnswered (printRules rules records pool out) a exit → PrintAnswered (printOutcome book records pool out) a exit
+module _ (book hs ss es records pool : List ℕ) (rules : List Rule) (n : ℕ) (accepts : readBook book ≡ accepted rules)
+    (holds : Holds hs ss es n rules) (few : recordCount records ≤ maxTokens) where
+  outcome : (out exit : List ℕ) (a : PrintAnswer) → PrintAnswered (printRules rules records pool out) a exit
+      → PrintAnswered (printOutcome book records pool out) a exit
   unfolding printOutcome
   outcome out exit a h = rw accepts h
 
@@ -214,7 +219,8 @@ module _ {book hs ss es records pool : List ℕ} where
   going-start {count} {r} scratch b q = go (r .refused) refl
     where
       first : (rules : List Rule) (n : ℕ) → readBook book ≡ accepted rules → Holds hs ss es n rules → recordCount records ≤ maxTokens
-          → (z : Bool) → eqb count 0 ≡ z → r ≡ if z (done 0) (going 0 0 0 0 n) → Going book hs ss es records pool scratch (3 * recordCount records) r
+          → (z : Bool) → eqb count 0 ≡ z → r ≡ if z (done 0) (going 0 0 0 0 n)
+              → Going book hs ss es records pool scratch (3 * recordCount records) r
       first rules n a h m true z e =
           let none-left : recordCount records ≤ 0 = omega (arith, q, eqb-true count 0 z) in
           let c = measuring-end (measuring-start rules records pool) none-left in
@@ -238,12 +244,15 @@ module _ {book hs ss es records pool : List ℕ} where
     pub going-index : Going book hs ss es records pool scratch left s → s .more ≡ true → (s .index < recordCount records) × (0 < left)
     going-index (refuses number place e f) m = halts m e refl
     going-index (stands rules n a h few (checking k at e l b w)) m = let i = ap (λ (z : Stage). z .index) e in (omega arith, omega arith)
-    going-index (stands rules n a h few (joining k at total entry e l b c d w)) m = let i = ap (λ (z : Stage). z .index) e in (omega arith, omega arith)
-    going-index (stands rules n a h few (reading k at total e l b c y w)) m = let i = ap (λ (z : Stage). z .index) e in (omega arith, omega arith)
+    going-index (stands rules n a h few (joining k at total entry e l b c d w)) m = let i = ap (λ (z : Stage). z .index) e in
+        (omega arith, omega arith)
+    going-index (stands rules n a h few (reading k at total e l b c y w)) m = let i = ap (λ (z : Stage). z .index) e in
+        (omega arith, omega arith)
     going-index (stands rules n a h few (over total e c)) m = halts m e refl
 
     module _ {t : TokenRecord} (sized : length scratch ≡ maxText) (small : Fits t) where
-      pub going-steps : Going book hs ss es records pool scratch left s → s .more ≡ true → t ≡ recordAt records (s .index) → Steps hs ss es scratch pool s t
+      pub going-steps : Going book hs ss es records pool scratch left s → s .more ≡ true → t ≡ recordAt records (s .index)
+          → Steps hs ss es scratch pool s t
       going-steps (refuses number place e f) m t-is = halts m e refl
       going-steps (stands rules n a h few (checking k at e l b w)) m t-is =
           subst (λ (z : Stage). Steps hs ss es scratch pool z t) (sym e) (record {
@@ -271,31 +280,38 @@ module _ {book hs ss es records pool : List ℕ} where
             few = omega arith;
             checks = λ p. absurd (omega (arith, p));
             joins = λ p. absurd (omega (arith, p));
-            reads = λ _ _. (omega (arith, w .within, length-take-le total scratch (omega (arith, c .spanned .short, sized))), c .spanned .short);
+            reads = λ _ _. (omega (arith, w .within, length-take-le total scratch (omega (arith, c .spanned .short, sized))),
+                c .spanned .short);
           })
       going-steps (stands rules n a h few (over total e c)) m t-is = halts m e refl
 
       -- t is the token at the stage's number, and r the stage after it
-      pub going-next : {after : List ℕ} {r : Stage} → Going book hs ss es records pool scratch left s → s .more ≡ true → t ≡ recordAt records (s .index)
-          → Stepped hs ss es scratch after pool s t (recordCount records) r → Going book hs ss es records pool after (left - 1) r × (length after ≡ maxText)
+      pub going-next : {after : List ℕ} {r : Stage} → Going book hs ss es records pool scratch left s → s .more ≡ true
+          → t ≡ recordAt records (s .index)
+          → Stepped hs ss es scratch after pool s t (recordCount records) r → Going book hs ss es records pool after (left - 1) r
+              × (length after ≡ maxText)
       going-next {after} {r} (refuses number place e f) m t-is st = halts m e refl
       going-next {after} {r} (stands rules n a h few (checking k at e l b w)) m t-is st =
           let i : t ≡ recordAt records k = t-is ∙ ap (λ (z : Stage). recordAt records (z .index)) e in
           let g = (subst (λ (z : Stage). Stepped hs ss es scratch after pool z t (recordCount records) r) e st) .checks refl in
           subst (λ (z : List ℕ). Going book hs ss es records pool z (left - 1) r × (length z ≡ maxText)) (sym (g .0))
-          (check-next book hs ss es records pool rules n a h few t small scratch sized left r k at l b w i (eqb (faultOf rules pool t) 0) refl (g .1 rules h), sized)
+          (check-next book hs ss es records pool rules n a h few t small scratch sized left r k at l b w i (eqb (faultOf rules pool t) 0)
+              refl (g .1 rules h), sized)
       going-next {after} {r} (stands rules n a h few (joining k at total entry e l b c d w)) m t-is st =
           let i : t ≡ recordAt records k = t-is ∙ ap (λ (z : Stage). recordAt records (z .index)) e in
           let g = (subst (λ (z : Stage). Stepped hs ss es scratch after pool z t (recordCount records) r) e st) .joins refl in (
-            join-next book hs ss es records pool rules n a h few t small scratch sized left r k at total entry l b c d w i after (g .0) (ltb (k + 1) (recordCount records)) refl (g .1),
+            join-next book hs ss es records pool rules n a h few t small scratch sized left r k at total entry l b c d w i after (g .0)
+                (ltb (k + 1) (recordCount records)) refl (g .1),
             join-sized book hs ss es records pool rules n a h few t small scratch sized left r k at total entry l b c d w i after (g .0),
           )
       going-next {after} {r} (stands rules n a h few (reading k at total e l b c y w)) m t-is st =
           let i : t ≡ recordAt records k = t-is ∙ ap (λ (z : Stage). recordAt records (z .index)) e in
-          let g = (subst (λ (z : Stage). Stepped hs ss es scratch after pool z t (recordCount records) r) e st) .reads (λ p. absurd (omega (arith, p))) (λ p. absurd (omega (arith, p))) in
+          let g = (subst (λ (z : Stage). Stepped hs ss es scratch after pool z t (recordCount records) r) e st) .reads
+              (λ p. absurd (omega (arith, p))) (λ p. absurd (omega (arith, p))) in
           let d = g .1 rules h in
           subst (λ (z : List ℕ). Going book hs ss es records pool z (left - 1) r × (length z ≡ maxText)) (sym (g .0))
-          (read-next book hs ss es records pool rules n a h few t small scratch sized left r k at total l b c y w i (d .chooses) (eqb (d .most) (t .len)) refl (d .result), sized)
+          (read-next book hs ss es records pool rules n a h few t small scratch sized left r k at total l b c y w i (d .chooses)
+              (eqb (d .most) (t .len)) refl (d .result), sized)
       going-next {after} {r} (stands rules n a h few (over total e c)) m t-is st = halts m e refl
 
     pub going-total : Going book hs ss es records pool scratch left s → s .more ≡ false → s .total ≤ maxText
@@ -305,7 +321,8 @@ module _ {book hs ss es records pool : List ℕ} where
     going-total (stands rules n a h few (reading k at total e l b c y w)) m = goes m e refl
     going-total (stands rules n a h few (over total e c)) m = let i = ap (λ (z : Stage). z .total) e in omega (arith, c .spanned .short)
 
-    pub going-finish : {out exit : List ℕ} {r : PrintAnswer} → Going book hs ss es records pool scratch left s → s .more ≡ false → Finishes scratch s out r exit
+    pub going-finish : {out exit : List ℕ} {r : PrintAnswer} → Going book hs ss es records pool scratch left s → s .more ≡ false
+        → Finishes scratch s out r exit
         → PrintAnswered (printOutcome book records pool out) r exit
     going-finish {out} {exit} {r} (refuses number place e f) m h =
         let g = (subst (λ (z : Stage). Finishes scratch z out r exit) e h) .refuses refl in

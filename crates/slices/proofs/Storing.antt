@@ -41,7 +41,8 @@ pub record Going (book text entry hs ss es records : List ℕ) (left : ℕ) (t :
   pub stands : t .refused ≡ false → (rules : List Rule) × Standing book text entry hs ss es records left t rules
 
 module _ {book text entry hs ss es : List ℕ} where
-  pub going-start : {room : ℕ} {t : Pending} → Begun book text room hs ss es t → recordCount entry ≡ room → Going book text entry hs ss es entry (length text) t
+  pub going-start : {room : ℕ} {t : Pending} → Begun book text room hs ss es t → recordCount entry ≡ room
+      → Going book text entry hs ss es entry (length text) t
   going-start {room} {t} b e = record {
     idle = b .idle;
     refuses = λ p. b .refuses p entry e;
@@ -74,7 +75,8 @@ module _ {book text entry hs ss es : List ℕ} where
             let s = g .stands e in
             let o = s .1 .pending .stops m in
             let k = lex-stop (s .0) (drop (s .1 .at) text) (o .0) in
-            let a = answered-lexed (s .0) text entry (s .1 .short) (s .1 .enough) (cutting-stop (s .1 .filling .cut) k) (filling-stop (s .1 .filling) k) in
+            let a = answered-lexed (s .0) text entry (s .1 .short) (s .1 .enough) (cutting-stop (s .1 .filling .cut) k)
+                (filling-stop (s .1 .filling) k) in
             rw (e, o .1, s .1 .accepts) a
 
     module _ (m : t .more ≡ true) where
@@ -115,8 +117,10 @@ module _ {book text entry hs ss es : List ℕ} where
       going-left = omega (arith, s .further m, within)
 
       -- the token is stored, and r is pending behind t
-      pub going-next : {after : List ℕ} {r : Pending} → after ≡ take (10 * t .index) records ++ tenBytes (t .token) ++ drop (10 * t .index + 10) records
-          → ((rs : List Rule) → Holds hs ss es (t .rules) rs → PendingAt rs text (t .rules) (t .index + 1) (t .next) r) → Going book text entry hs ss es after (left - 1) r
+      pub going-next : {after : List ℕ} {r : Pending}
+          → after ≡ take (10 * t .index) records ++ tenBytes (t .token) ++ drop (10 * t .index + 10) records
+          → ((rs : List Rule) → Holds hs ss es (t .rules) rs → PendingAt rs text (t .rules) (t .index + 1) (t .next) r)
+              → Going book text entry hs ss es after (left - 1) r
       going-next {after} {r} e f =
           let u = f rules (s .holds) in
           record {
@@ -143,13 +147,16 @@ module _ {book text entry hs ss es : List ℕ} where
               ∙ ap (λ (x : ℕ). recordOf ((ruleAt rules (c .rule)) .tag % 65536) x (t .token .len)) (c .place)
               ∙ two-bytes ((ruleAt rules (c .rule)) .tag) (s .at) (t .token .len)
 
-          stored : after ≡ take (10 * t .index) records ++ recordOf ((ruleAt rules (c .rule)) .tag) (s .at) (t .token .len) ++ drop (10 * t .index + 10) records
+          stored : after ≡ take (10 * t .index) records ++ recordOf ((ruleAt rules (c .rule)) .tag) (s .at) (t .token .len)
+              ++ drop (10 * t .index + 10) records
           stored = e ∙ ap (λ (x : List ℕ). take (10 * t .index) records ++ x ++ drop (10 * t .index + 10) records) same
 
           filled : PendingAt rules text (t .rules) (t .index + 1) (t .next) r → Filling rules text entry after (t .next) (r .index)
           filled u =
               subst (Filling rules text entry after (t .next)) (sym (u .stored))
-              (subst (λ (n : ℕ). Filling rules text entry after n (t .index + 1)) (sym (c .next)) (filling-next (s .filling) room (c .chooses) (c .some) refl stored))
+              (subst (λ (n : ℕ). Filling rules text entry after n (t .index + 1)) (sym (c .next))
+                  (filling-next (s .filling) room (c .chooses) (c .some) refl stored))
 
           moved : PendingAt rules text (t .rules) (t .index + 1) (t .next) r → PendingAt rules text (r .rules) (r .index) (t .next) r
-          moved u = subst (λ (n : ℕ). PendingAt rules text n (r .index) (t .next) r) (sym (u .count)) (subst (λ (n : ℕ). PendingAt rules text (t .rules) n (t .next) r) (sym (u .stored)) u)
+          moved u = subst (λ (n : ℕ). PendingAt rules text n (r .index) (t .next) r) (sym (u .count))
+              (subst (λ (n : ℕ). PendingAt rules text (t .rules) n (t .next) r) (sym (u .stored)) u)

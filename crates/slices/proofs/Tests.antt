@@ -23,7 +23,9 @@ behind (exit n) = skip
 behind return = skip
 behind (call f xs d) = skip
 
-module _ {M : Type 1} {𝓤 : URA M} {H : Heap 𝓤} {A : Atoms 𝓤} {K : Type 0} {W : Given 𝓤 H A} {Γ : List (Item 𝓤)} {C : Calls 𝓤 H} {Λ : Loops 𝓤 H} {E : Env 𝓤 H} {q : Post 𝓤 H} where
+module _ {M : Type 1} {𝓤 : URA M} {H : Heap 𝓤} {A : Atoms 𝓤} {K : Type 0} {W : Given 𝓤 H A} {Γ : List (Item 𝓤)} {C : Calls 𝓤 H}
+    {Λ : Loops 𝓤 H} {E : Env 𝓤 H} {q : Post 𝓤 H} where
   pub tests : K → {c : Operand} {n : _} {b : Body} {y : Bool} → Opd K W Γ E c (vbool y)
-      → (T y → Seq K W Γ (runs C Λ E b q)) → (T (not y) → Seq K W Γ (prop (post 𝓤 H q (exits n)))) → Seq K W Γ (runs C Λ E (seq (cond c skip (exit n)) b) q)
+      → (T y → Seq K W Γ (runs C Λ E b q)) → (T (not y) → Seq K W Γ (prop (post 𝓤 H q (exits n))))
+          → Seq K W Γ (runs C Λ E (seq (cond c skip (exit n)) b) q)
   tests t o on off = first t $ branches t o (λ h. skips t $ record { prf = on h .prf }) (λ h. jumps t $ record { prf = off h .prf })

@@ -23,7 +23,8 @@ fits : (c : tie.Joined2) (rs : List Rule)
     → Holds (now (call c .args .headers)) (now (call c .args .states)) (now (call c .args .edges)) (call c .args .rules) rs
     → length ((lex rs (now (call c .args .text))) .tokens) ≤ call c .args .room
 fits c rs h =
-    ⊎-elim (λ w. omega (arith, w .1 .ensures rs h .tokens-are, w .3 .left)) (λ w. omega (arith, w .left, lex-few rs (now (call c .args .text))))
+    ⊎-elim (λ w. omega (arith, w .1 .ensures rs h .tokens-are, w .3 .left))
+        (λ w. omega (arith, w .left, lex-few rs (now (call c .args .text))))
     (c .if2 .came)
 
 refuse-requires : tie.Need-refuse-requires

@@ -2,7 +2,6 @@
 use mathlib.Core.Path.{refl, _∙_, ap}
 use mathlib.Core.List.{List}
 use Prim.Native.Nat.{ℕ, _+_, _%_, _≤_}
-use native.Mathlib.Nat.{le-refl}
 use native.Mathlib.Omega.{arith}
 use lib.ListN.{length, drop, length-drop}
 use borrow.Author.Needs.{needs}
@@ -27,13 +26,15 @@ module _ (c : tie.After-choose) where
   chosen rs h = c .choose .ensures rs _ h (part-end _ _)
 
   -- by one list of rules that the tables hold
-  one : Chooses (call c .pre .0 .rules) (drop (call c .args .at) (now (call c .args .text))) (c .choose .result .rule) (c .choose .result .len)
+  one : Chooses (call c .pre .0 .rules) (drop (call c .args .at) (now (call c .args .text))) (c .choose .result .rule)
+      (c .choose .result .len)
   one = chosen (call c .pre .0 .rules) (call c .pre .0 .holds)
 
   more : call c .args .at + c .choose .result .len ≤ length (now (call c .args .text))
   more = omega (arith, one .within, length-drop (call c .args .at) (now (call c .args .text)), call c .pre .1 .0)
 
-known : (c : tie.Else1) → Table (now (call (c .before) .args .headers)) (now (call (c .before) .args .states)) (now (call (c .before) .args .edges))
+known : (c : tie.Else1) → Table (now (call (c .before) .args .headers)) (now (call (c .before) .args .states))
+    (now (call (c .before) .args .edges))
     (c .before .choose .result .rule) (ruleAt (call (c .before) .pre .0 .rules) (c .before .choose .result .rule))
 known c = call (c .before) .pre .0 .holds .tables .each _ (one (c .before) .known (omega arith))
 

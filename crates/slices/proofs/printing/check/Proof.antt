@@ -14,13 +14,15 @@ refuse-requires : tie.Need-refuse-requires
 refuse-requires c κs = search needs
 
 returns : tie.Need-returns
-returns c = λ rs h. let e = c .before .before .token-fault .ensures rs h in rw (← e, ne-eqb _ _ (c .before .if1 .taken)) (c .refuse .ensures)
+returns c = λ rs h. let e = c .before .before .token-fault .ensures rs h in
+    rw (← e, ne-eqb _ _ (c .before .if1 .taken)) (c .refuse .ensures)
 
 move-on-requires : tie.Need-move-on-requires
 move-on-requires c κs = search needs
 
 returns-2 : tie.Need-returns-2
-returns-2 c = λ rs h. let e = c .before .before .token-fault .ensures rs h in rw (← e, eq-eqb _ _ (c .before .if1 .left)) (c .move-on .ensures)
+returns-2 c = λ rs h. let e = c .before .before .token-fault .ensures rs h in
+    rw (← e, eq-eqb _ _ (c .before .if1 .left)) (c .move-on .ensures)
 
 pub check-spec : {M : Type 1} → statement M
 check-spec =
