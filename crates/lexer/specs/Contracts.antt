@@ -9,7 +9,6 @@ use Rattle.longest_match.specs.Lexer.{lex}
 use Rattle.longest_match.specs.Contracts.{Holds, Held}
 use Rattle.record.specs.Records.{recordsAt}
 use Rattle.lexer.specs.Outcome.{LexOutcome}
-use Rattle.answer.specs.declared.LexAnswer.the-variants as answer
 
 -- ---- Module filling, said of the rules that the tables hold.
 

@@ -1,7 +1,8 @@
--- What the proofs of this crate share: to walk code by hand (Tests, Arrays, Locals), of lexing (Opening, Starting, Storing), of printing
--- (Passes, Staging).
+-- What the proofs of this crate share: to walk code by hand (Tests, Arrays, Tables, Locals), of lexing (Opening, Starting, Storing),
+-- of printing (Passes, Staging).
 pub mod Tests
 pub mod Arrays
+pub mod Tables
 pub mod Locals
 pub mod Opening
 pub mod Starting
