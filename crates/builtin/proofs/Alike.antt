@@ -88,7 +88,7 @@ pub by-class : (b : ℕ) → b < 256 → All (λ (r : Rule). (s : ℕ) → step 
 by-class b l =
     all-map _ _ builtinRules (λ r h. alike-step b (byteOf (classAt b)) r h)
     (every-all (alike b (byteOf (classAt b))) builtinRules (entry (λ a c. every (alike a (byteOf c)) builtinRules) 0 classTable test b
-        (rw length-classes l)))
+    (rw length-classes l)))
 
 pub moved-alike : MovedAlike
 moved-alike = all-map _ _ builtinRules (λ r h s a b l m e. h a l s ∙ ap (λ (c : ℕ). step r s (byteOf c)) e

@@ -71,8 +71,8 @@ pub record Joins (rules : List Rule) (State : ℕ → Type 0) (states : ℕ → 
   pub stays : (b : ℕ) → steps rules (states dead) b ≡ states dead
 
 -- i bytes are read, s is the state; `last` is the last state that accepted, behind `len` bytes, or the dead state for none
-pub record Scan (rules : List Rule) (State : ℕ → Type 0) (states : ℕ → List ℕ) (tag : ℕ → ℕ) (text : List ℕ) (s last len i : ℕ) : Type
-    0 where
+pub record Scan (rules : List Rule) (State : ℕ → Type 0) (states : ℕ → List ℕ) (tag : ℕ → ℕ) (text : List ℕ)
+    (s last len i : ℕ) : Type 0 where
   pub within : i ≤ length text
   pub inside : State s
   pub state : states s ≡ walks rules (take i text)
@@ -119,7 +119,7 @@ module _ {rules : List Rule} {State : ℕ → Type 0} {states : ℕ → List ℕ
       let h = dies text i k (omega arith) e in
       let q : states dead ≡ walks rules (take (suc (k + i)) text) =
       sym (joins .stays (getD text (k + i) 0)) ∙ ap (λ qs. steps rules qs (getD text (k + i) 0)) (h .0)
-          ∙ sym (walks-more rules text (k + i) (omega arith)) in
+      ∙ sym (walks-more rules text (k + i) (omega arith)) in
       rw suc-add (q, more-no text dead (k + i) (joins .dead-state) q (joins .untagged) ∙ h .1)
 
   module _ {text : List ℕ} {s last len i s₁ : ℕ} (w : Scan rules State states tag text s last len i) (more : i < length text)

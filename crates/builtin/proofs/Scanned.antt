@@ -146,4 +146,4 @@ picked {text} {tag} {len = zero} s = record {
 picked {text} {tag} {len = suc n} s =
     let e = s .chosen (omega arith) in
     picked-some builtinRules text tag (suc n) (omega arith) (s .within) e
-        ((choose-some builtinRules text (front tag (suc n) text) e) .earliest)
+    ((choose-some builtinRules text (front tag (suc n) text) e) .earliest)

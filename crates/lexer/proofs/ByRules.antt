@@ -30,7 +30,7 @@ module _ (rules : List Rule) (text records : List ℕ) where
 
   pub answered-lexed : {tokens rest : ℕ} {exit : List ℕ} → length text ≤ maxText → length ((lex rules text) .tokens) ≤ recordCount records
       → Cuts rules text tokens rest → Fills rules text records exit
-          → LexAnswered (lexRules rules text records) (lexed.Lexed tokens rest) exit
+      → LexAnswered (lexRules rules text records) (lexed.Lexed tokens rest) exit
   unfolding lexRules
   answered-lexed l m c w =
       rw (le-ltb _ _ l, le-ltb _ _ m) (record { answer = cc (c .tokens-are, c .rest-is); records = w .written })
@@ -42,7 +42,7 @@ enough rules text records l = omega (arith, lex-few rules text)
 
 pub room-of : {hs ss es : List ℕ} {n : ℕ} {text records : List ℕ} → Held hs ss es n
     → ((rules : List Rule) → Holds hs ss es n rules → length ((lex rules text) .tokens) ≤ recordCount records)
-        → RecordsRoom hs ss es n text records
+    → RecordsRoom hs ss es n text records
 room-of {hs} {ss} {es} {n} {text} {records} held f = record { held = held; room = λ rules h. omega (arith, f rules h) }
 
 -- ---- the rest

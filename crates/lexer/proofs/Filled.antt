@@ -25,7 +25,7 @@ filling-start rules text entry = record { cut = cutting-start rules text; same =
 
 module _ {rules : List Rule} {text entry records : List ℕ} {at n : ℕ} (w : Filling rules text entry records at n)
     (room : 10 * length ((lex rules text) .tokens) ≤ length entry) {rule len : ℕ} (c : Chooses rules (drop at text) rule len)
-        (p : 0 < len) where
+    (p : 0 < len) where
   pub filling-room : 10 * n + 10 ≤ length records
   filling-room =
       let k = rw (lex-more rules text at rule len c p) at (w .cut .count) in
@@ -60,12 +60,12 @@ module _ {rules : List Rule} {text entry records : List ℕ} {at n : ℕ} (w : F
       written =
           w .written ∙ ap (λ (x : List ℕ). take (10 * n) records ++ x) recorded
           ∙ sym (append-assoc (take (10 * n) records) (recordOf tag at len)
-              (recordsAt (at + len) ((lex rules (drop (at + len) text)) .tokens)))
+          (recordsAt (at + len) ((lex rules (drop (at + len) text)) .tokens)))
           ∙ ap (λ (x : List ℕ). x ++ recordsAt (at + len) ((lex rules (drop (at + len) text)) .tokens)) (sym ahead);
       kept =
           let q : 10 * (n + 1) ≡ 10 * n + 10 = omega arith in
           behind ∙ sym (drop-drop 10 (10 * n) records) ∙ ap (drop 10) (w .kept) ∙ drop-drop 10 (10 * n) entry
-              ∙ ap (λ (x : ℕ). drop x entry) (sym q);
+          ∙ ap (λ (x : ℕ). drop x entry) (sym q);
     }
 
 module _ {rules : List Rule} {text entry records : List ℕ} {at n : ℕ} (w : Filling rules text entry records at n)

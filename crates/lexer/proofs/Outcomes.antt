@@ -92,8 +92,8 @@ rest-agrees book text records tokens rest e = by (readBook book) e
 
     rules-agree : (rules : List Rule) (t u : Bool)
         → (if t (lexRefused 14 0 records)
-            (if u (lexRefused 15 (length ((lex rules text) .tokens)) records) (lexAccepted (lex rules text) text records))) .answer
-            ≡ lexed.Lexed tokens rest
+        (if u (lexRefused 15 (length ((lex rules text) .tokens)) records) (lexAccepted (lex rules text) text records))) .answer
+        ≡ lexed.Lexed tokens rest
         → if t text ((lex rules text) .rest) ≡ drop rest text
     rules-agree rules true u q = refused-not q
     rules-agree rules false true q = refused-not q

@@ -19,7 +19,7 @@ use Rattle.answer.specs.declared.LexAnswer.the-variants as answer
 module _ {rules : List Rule} {text : List ℕ} {n room : ℕ} {r : Pending} where
   refused : (number place : ℕ) → r ≡ refusedPending number place
       → ((records : List ℕ) → recordCount records ≡ room
-          → LexAnswered (lexRules rules text records) (answer.Refused (record { number = number; place = place })) records)
+      → LexAnswered (lexRules rules text records) (answer.Refused (record { number = number; place = place })) records)
       → Opens rules text n room r
   refused number place e f =
       subst (Opens rules text n room) (sym e) (record { idle = λ _. refl; refuses = λ _. f; starts = λ p. clash refl p })

@@ -46,7 +46,7 @@ use Rattle.answer.specs.declared.PrintAnswer.the-variants as print
 module _ {bytes hs ss es : List ℕ} {count : ℕ} {b : BookAnswer} {r : Stage} (l : Loaded bytes b hs ss es) where
   refused : (number place : ℕ) → r ≡ refusedStage number place
       → ((records pool out : List ℕ) → recordCount records ≡ count
-          → PrintAnswered (printOutcome bytes records pool out) (print.Refused (record { number = number; place = place })) out)
+      → PrintAnswered (printOutcome bytes records pool out) (print.Refused (record { number = number; place = place })) out)
       → Begins bytes count hs ss es r
   refused number place e f =
       subst (Begins bytes count hs ss es) (sym e) (record { refuses = λ _. (refl, f); starts = λ p. clash refl p })
@@ -56,7 +56,7 @@ module _ {bytes hs ss es : List ℕ} {count : ℕ} {b : BookAnswer} {r : Stage} 
     many m e =
         refused 16 0 e
         (λ records pool out q. answered-book l a records pool out out _
-            (λ rules h. answered-many rules records pool out (subst (λ (k : ℕ). maxTokens < k) (sym q) m) refl))
+        (λ rules h. answered-many rules records pool out (subst (λ (k : ℕ). maxTokens < k) (sym q) m) refl))
 
     started : count ≤ maxTokens → r .refused ≡ false → r ≡ firstStage n count → Begins bytes count hs ss es r
     started m f e =
@@ -98,8 +98,8 @@ pub data Phase (rules : List Rule) (n : ℕ) (records pool scratch : List ℕ) (
 
 pub data Going (book hs ss es records pool scratch : List ℕ) (left : ℕ) (s : Stage) : Type 0 where
   refuses : (number place : ℕ) → s ≡ refusedStage number place
-      → ((out : List ℕ) → PrintAnswered (printOutcome book records pool out) (print.Refused (record { number = number; place = place }))
-          out)
+      → ((out : List ℕ)
+      → PrintAnswered (printOutcome book records pool out) (print.Refused (record { number = number; place = place })) out)
       → Going book hs ss es records pool scratch left s
   stands : (rules : List Rule) (n : ℕ) → readBook book ≡ accepted rules → Holds hs ss es n rules → recordCount records ≤ maxTokens
       → Phase rules n records pool scratch left s → Going book hs ss es records pool scratch left s
@@ -220,7 +220,7 @@ module _ {book hs ss es records pool : List ℕ} where
     where
       first : (rules : List Rule) (n : ℕ) → readBook book ≡ accepted rules → Holds hs ss es n rules → recordCount records ≤ maxTokens
           → (z : Bool) → eqb count 0 ≡ z → r ≡ if z (done 0) (going 0 0 0 0 n)
-              → Going book hs ss es records pool scratch (3 * recordCount records) r
+          → Going book hs ss es records pool scratch (3 * recordCount records) r
       first rules n a h m true z e =
           let none-left : recordCount records ≤ 0 = omega (arith, q, eqb-true count 0 z) in
           let c = measuring-end (measuring-start rules records pool) none-left in
@@ -280,23 +280,27 @@ module _ {book hs ss es records pool : List ℕ} where
             few = omega arith;
             checks = λ p. absurd (omega (arith, p));
             joins = λ p. absurd (omega (arith, p));
-            reads = λ _ _. (omega (arith, w .within, length-take-le total scratch (omega (arith, c .spanned .short, sized))),
-                c .spanned .short);
+            reads = λ _ _. (
+              omega (arith, w .within, length-take-le total scratch (omega (arith, c .spanned .short, sized))),
+              c .spanned .short,
+            );
           })
       going-steps (stands rules n a h few (over total e c)) m t-is = halts m e refl
 
       -- t is the token at the stage's number, and r the stage after it
       pub going-next : {after : List ℕ} {r : Stage} → Going book hs ss es records pool scratch left s → s .more ≡ true
           → t ≡ recordAt records (s .index)
-          → Stepped hs ss es scratch after pool s t (recordCount records) r → Going book hs ss es records pool after (left - 1) r
-              × (length after ≡ maxText)
+          → Stepped hs ss es scratch after pool s t (recordCount records) r
+          → Going book hs ss es records pool after (left - 1) r × (length after ≡ maxText)
       going-next {after} {r} (refuses number place e f) m t-is st = halts m e refl
       going-next {after} {r} (stands rules n a h few (checking k at e l b w)) m t-is st =
           let i : t ≡ recordAt records k = t-is ∙ ap (λ (z : Stage). recordAt records (z .index)) e in
           let g = (subst (λ (z : Stage). Stepped hs ss es scratch after pool z t (recordCount records) r) e st) .checks refl in
-          subst (λ (z : List ℕ). Going book hs ss es records pool z (left - 1) r × (length z ≡ maxText)) (sym (g .0))
-          (check-next book hs ss es records pool rules n a h few t small scratch sized left r k at l b w i (eqb (faultOf rules pool t) 0)
-              refl (g .1 rules h), sized)
+          subst (λ (z : List ℕ). Going book hs ss es records pool z (left - 1) r × (length z ≡ maxText)) (sym (g .0)) (
+            check-next book hs ss es records pool rules n a h few t small scratch sized left r k at l b w i (eqb (faultOf rules pool t) 0)
+                refl (g .1 rules h),
+            sized,
+          )
       going-next {after} {r} (stands rules n a h few (joining k at total entry e l b c d w)) m t-is st =
           let i : t ≡ recordAt records k = t-is ∙ ap (λ (z : Stage). recordAt records (z .index)) e in
           let g = (subst (λ (z : Stage). Stepped hs ss es scratch after pool z t (recordCount records) r) e st) .joins refl in (
@@ -307,11 +311,13 @@ module _ {book hs ss es records pool : List ℕ} where
       going-next {after} {r} (stands rules n a h few (reading k at total e l b c y w)) m t-is st =
           let i : t ≡ recordAt records k = t-is ∙ ap (λ (z : Stage). recordAt records (z .index)) e in
           let g = (subst (λ (z : Stage). Stepped hs ss es scratch after pool z t (recordCount records) r) e st) .reads
-              (λ p. absurd (omega (arith, p))) (λ p. absurd (omega (arith, p))) in
+          (λ p. absurd (omega (arith, p))) (λ p. absurd (omega (arith, p))) in
           let d = g .1 rules h in
-          subst (λ (z : List ℕ). Going book hs ss es records pool z (left - 1) r × (length z ≡ maxText)) (sym (g .0))
-          (read-next book hs ss es records pool rules n a h few t small scratch sized left r k at total l b c y w i (d .chooses)
-              (eqb (d .most) (t .len)) refl (d .result), sized)
+          subst (λ (z : List ℕ). Going book hs ss es records pool z (left - 1) r × (length z ≡ maxText)) (sym (g .0)) (
+            read-next book hs ss es records pool rules n a h few t small scratch sized left r k at total l b c y w i (d .chooses)
+                (eqb (d .most) (t .len)) refl (d .result),
+            sized,
+          )
       going-next {after} {r} (stands rules n a h few (over total e c)) m t-is st = halts m e refl
 
     pub going-total : Going book hs ss es records pool scratch left s → s .more ≡ false → s .total ≤ maxText

@@ -26,9 +26,16 @@ module _ {bytes text hs ss es : List ℕ} {room : ℕ} {b : BookAnswer} {r : Pen
             (λ rules h. f rules h .refuses p records q);
         starts = λ p.
             let s = o .starts p in
-            let e : r .rules ≡ n = s .pending .count in
-            (w .0, (w .1 .0, (subst (λ (k : ℕ). Holds hs ss es k (w .0)) (sym e) (w .1 .1),
-                subst (λ (k : ℕ). Started (w .0) text k room r) (sym e) s)));
+            let e : r .rules ≡ n = s .pending .count in (
+              w .0,
+              (
+                w .1 .0,
+                (
+                  subst (λ (k : ℕ). Holds hs ss es k (w .0)) (sym e) (w .1 .1),
+                  subst (λ (k : ℕ). Started (w .0) text k room r) (sym e) s,
+                ),
+              ),
+            );
       }
 
   pub begun-refused : {f : Refusal} → b ≡ book.Refused f → r ≡ refusedPending (f .number) (f .place) → Begun bytes text room hs ss es r

@@ -76,7 +76,7 @@ module _ {book text entry hs ss es : List ℕ} where
             let o = s .1 .pending .stops m in
             let k = lex-stop (s .0) (drop (s .1 .at) text) (o .0) in
             let a = answered-lexed (s .0) text entry (s .1 .short) (s .1 .enough) (cutting-stop (s .1 .filling .cut) k)
-                (filling-stop (s .1 .filling) k) in
+            (filling-stop (s .1 .filling) k) in
             rw (e, o .1, s .1 .accepts) a
 
     module _ (m : t .more ≡ true) where
@@ -120,7 +120,7 @@ module _ {book text entry hs ss es : List ℕ} where
       pub going-next : {after : List ℕ} {r : Pending}
           → after ≡ take (10 * t .index) records ++ tenBytes (t .token) ++ drop (10 * t .index + 10) records
           → ((rs : List Rule) → Holds hs ss es (t .rules) rs → PendingAt rs text (t .rules) (t .index + 1) (t .next) r)
-              → Going book text entry hs ss es after (left - 1) r
+          → Going book text entry hs ss es after (left - 1) r
       going-next {after} {r} e f =
           let u = f rules (s .holds) in
           record {
@@ -155,7 +155,7 @@ module _ {book text entry hs ss es : List ℕ} where
           filled u =
               subst (Filling rules text entry after (t .next)) (sym (u .stored))
               (subst (λ (n : ℕ). Filling rules text entry after n (t .index + 1)) (sym (c .next))
-                  (filling-next (s .filling) room (c .chooses) (c .some) refl stored))
+              (filling-next (s .filling) room (c .chooses) (c .some) refl stored))
 
           moved : PendingAt rules text (t .rules) (t .index + 1) (t .next) r → PendingAt rules text (r .rules) (r .index) (t .next) r
           moved u = subst (λ (n : ℕ). PendingAt rules text n (r .index) (t .next) r) (sym (u .count))

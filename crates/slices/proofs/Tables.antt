@@ -46,13 +46,13 @@ module _ {M : Type 1} (𝓤 : URA M) (H : Heap 𝓤) (A : Atoms 𝓤) (W : Given
   passed-on-twice =
       qed W (PassedOn ∷ []) ∵ split ! $
       use1 W (‵ Headers ⊛ ‵ Headers)
-          (shr-copy 𝓤 H A W (named 0) (ν₁ ∷ []) (Words w64 32) .twice (ref-at w64 32 l₁ γ₁ hs) (vptr l₁ 0 ∷ [])) $
+      (shr-copy 𝓤 H A W (named 0) (ν₁ ∷ []) (Words w64 32) .twice (ref-at w64 32 l₁ γ₁ hs) (vptr l₁ 0 ∷ [])) $
       split ! $ move ! (2 ∷ []) $ split ! $
       use1 W (‵ States ⊛ ‵ States)
-          (shr-copy 𝓤 H A W (named 1) (ν₂ ∷ []) (Words w16 8192) .twice (ref-at w16 8192 l₂ γ₂ ss) (vptr l₂ 0 ∷ [])) $
+      (shr-copy 𝓤 H A W (named 1) (ν₂ ∷ []) (Words w16 8192) .twice (ref-at w16 8192 l₂ γ₂ ss) (vptr l₂ 0 ∷ [])) $
       split ! $ move ! (2 ∷ []) $ split ! $
       use1 W (‵ Edges ⊛ ‵ Edges)
-          (shr-copy 𝓤 H A W (named 2) (ν₃ ∷ []) (Words w64 8192) .twice (ref-at w64 8192 l₃ γ₃ es) (vptr l₃ 0 ∷ [])) $
+      (shr-copy 𝓤 H A W (named 2) (ν₃ ∷ []) (Words w64 8192) .twice (ref-at w64 8192 l₃ γ₃ es) (vptr l₃ 0 ∷ [])) $
       split ! $ move ! (2 ∷ []) $ use1 W (‵ Bytes ⊛ ‵ Bytes) (shr-slice-copy 𝓤 H A W ℓ κ u8 .twice x (v ∷ [])) $ split ! $
       -- [bytes; bytes; edges; edges; states; states; headers; headers]
       move ! (2 ∷ 0 ∷ []) $ join ! $ move ! (3 ∷ 0 ∷ []) $ join ! $ move ! (4 ∷ 0 ∷ []) $ join ! $

@@ -36,5 +36,5 @@ module _ {M : Type 1} {𝓤 : URA M} {H : Heap 𝓤} {A : Atoms 𝓤} {K : Type 
     {Λ : Loops 𝓤 H} {E : Env 𝓤 H} {q : Post 𝓤 H} where
   pub tests : K → {c : Operand} {n : _} {b : Body} {y : Bool} → Opd K W Γ E c (vbool y)
       → (T y → Seq K W Γ (runs C Λ E b q)) → (T (not y) → Seq K W Γ (prop (post 𝓤 H q (exits n))))
-          → Seq K W Γ (runs C Λ E (seq (cond c skip (exit n)) b) q)
+      → Seq K W Γ (runs C Λ E (seq (cond c skip (exit n)) b) q)
   tests t o on off = first t $ branches t o (λ h. skips t $ record { prf = on h .prf }) (λ h. jumps t $ record { prf = off h .prf })

@@ -45,7 +45,7 @@ pub fn lex_tokens(book: &[u8], text: &[u8], tokens: &mut [TokenRecord]) -> LexAn
 pub fn print_tokens(book: &[u8], tokens: &[TokenRecord], pool: &[u8], out: &mut [u8]) -> PrintAnswer
     ensures { λ r. ⌜ (r ≡ (printOutcome (now (book .entry)) (encoded (now (tokens .entry))) (now (pool .entry)) (now (out .entry))) .answer)
         × (now (out .exit)
-            ≡ (printOutcome (now (book .entry)) (encoded (now (tokens .entry))) (now (pool .entry)) (now (out .entry))) .out) ⌝ }
+        ≡ (printOutcome (now (book .entry)) (encoded (now (tokens .entry))) (now (pool .entry)) (now (out .entry))) .out) ⌝ }
 {
     let mut headers = [0u64; Book::RULES];
     let mut states = [0u16; Book::CELLS];

@@ -15,8 +15,8 @@ ghost use Rattle.book.specs.Contracts.{Fresh};
 ghost use Rattle.book.specs.Limits.{maxText, maxTokens};
 ghost use Rattle.longest_match.specs.Contracts.{Holds, Held};
 ghost use Rattle.token_list.specs.Faults.{faultOf};
-ghost use Rattle.slices.specs.Contracts.{going, done, refusedStage, movedOn, checked, Reads, Steps, Stepped, begun,
-    Begins, Finishes};
+ghost use Rattle.slices.specs.Contracts.{going, done, refusedStage, movedOn, checked, Reads, Steps, Stepped};
+ghost use Rattle.slices.specs.Contracts.{begun, Begins, Finishes};
 
 // Where printing stands: the pass, the number of the token to be read, and how many bytes its pass is past; `total` is known
 // after the first pass. Where no token is to be read, all have passed, or the call is refused.
@@ -192,7 +192,15 @@ fn step_pass(
     if stage.pass == Stage::JOIN {
         return join(pool, scratch, stage, token, count);
     }
-    read_on(headers, states, edges, scratch, stage, token.len as usize, count)
+    read_on(
+        headers,
+        states,
+        edges,
+        scratch,
+        stage,
+        token.len as usize,
+        count,
+    )
 }
 
 // The stage after token number `stage.index` of `count`.

@@ -27,7 +27,7 @@ returns c =
     let lexed = c .before .before in
     let accepted = lexed .before .before .before .before .before .before in
     let a = answered-book (accepted .before .before .load-arrays .ensures) (accepted .rules .given .1) _ _ _ _
-        (lexed .lex-arrays .ensures) in
+    (lexed .lex-arrays .ensures) in
     (a .answer, a .records)
 
 returns-2 : tie.Need-returns-2

@@ -95,8 +95,10 @@ use Rattle.slices.proofs.lex_tokens.Code as code
 use Rattle.slices.proofs.lex_tokens.Code.Mir as body
 
 abbrev stayed : Stays (lex-tokens.ended .signature .params) (lex-tokens.ended .kept)
-stayed = (stay-none-slice (0 ∷ []) tt (plain (λ _. u8)) yes,
-    (stay-none-slice (1 ∷ []) tt (plain (λ _. u8)) yes, (stay-slice (2 ∷ []) tt (plain (λ _. T.the-row)), tt)))
+stayed = (
+  stay-none-slice (0 ∷ []) tt (plain (λ _. u8)) yes,
+  (stay-none-slice (1 ∷ []) tt (plain (λ _. u8)) yes, (stay-slice (2 ∷ []) tt (plain (λ _. T.the-row)), tt)),
+)
 
 abbrev books : Ty
 books = sliceTy (tyRef (named 0) imm (tyInt w8))
@@ -172,12 +174,14 @@ module _ {M : Type 1} (𝓤 : URA M) (H : Heap 𝓤) (A : Atoms 𝓤) (W : Given
   exits r u zs e p =
       qed W (Ended r u zs) ∵
       suffices ! _ (ends-at 𝓤 H A lex-tokens.ended stayed (lex-tokens.clauses 𝓤 H A mem run) W ((κs, (q₀, (q₁, (q₂, tt))), tt, x, at), tt) u
-          r (tt, (tt, (zs, tt))) (tt, (tt, (e, tt)))) $
+      r (tt, (tt, (zs, tt))) (tt, (tt, (e, tt)))) $
       says ! (p .answer, p .records) $
       nothing ! $ move ! (4 ∷ 0 ∷ []) $ join ! $ move ! (7 ∷ 0 ∷ []) $ join ! $ move ! (5 ∷ 0 ∷ []) $ join ! $ frame ! $
       move ! (1 ∷ 2 ∷ []) $ fjoin ! $
-      pureI ! (at-slice T.the-row (at-list zs) (s ∷ [])) (tt, (tt, tt)) (ap (λ (m : ℕ). sliceVal (b, o) m ∷ []) (sym e),
-          subst (Room T.the-row) (sym e) room) $ fjoin ! $
+      pureI ! (at-slice T.the-row (at-list zs) (s ∷ [])) (tt, (tt, tt)) (
+        ap (λ (m : ℕ). sliceVal (b, o) m ∷ []) (sym e),
+        subst (Room T.the-row) (sym e) room,
+      ) $ fjoin ! $
       nothing ! $ move ! (1 ∷ 0 ∷ []) $ fjoin ! $ move ! (3 ∷ 0 ∷ []) $ fjoin ! $ move ! (2 ∷ 0 ∷ []) $ fjoin ! $ done !
 
   -- ---- the machine values of what is pending, and of its token, have their types
@@ -208,15 +212,28 @@ module _ {M : Type 1} (𝓤 : URA M) (H : Heap 𝓤) (A : Atoms 𝓤) (W : Given
     -- ---- `begin`, with the tables lent for ν₁, ν₂ and ν₃
     module _ (ν₁ ν₂ ν₃ : ℕ) (γ₁ γ₂ γ₃ : GName) where
       abbrev lent-to : RefT (List ℕ) × (RefT (List ℕ) × (RefT (List ℕ) × (RefT (List ℕ) × (RefT (List ℕ) × (ℕ × Unit {0})))))
-      lent-to = (book, (ref-at w64 32 l₄ γ₁ (replicate 32 0),
-          (ref-at w16 8192 l₅ γ₂ (replicate 8192 0), (ref-at w64 8192 l₆ γ₃ (replicate 8192 0), (text, (cap, tt))))))
+      lent-to = (
+        book,
+        (
+          ref-at w64 32 l₄ γ₁ (replicate 32 0),
+          (ref-at w16 8192 l₅ γ₂ (replicate 8192 0), (ref-at w64 8192 l₆ γ₃ (replicate 8192 0), (text, (cap, tt)))),
+        ),
+      )
 
       abbrev lent-for : Lft × (Lft × (Lft × (Lft × (Lft × Unit {0}))))
       lent-for = (κ₀, (ν₁ ∷ [], (ν₂ ∷ [], (ν₃ ∷ [], (κ₁, tt)))))
 
       abbrev to-begin : Begin 𝓤 H A mem run .Ghost
-      to-begin = ((lent-for, (q₀, (fullShare, (fullShare, (fullShare, (q₁, tt))))), tt, lent-to,
-          (vb ∷ [], (vptr l₄ 0 ∷ [], (vptr l₅ 0 ∷ [], (vptr l₆ 0 ∷ [], (v ∷ [], (vint w64 cap ∷ [], tt))))))), tt)
+      to-begin = (
+        (
+          lent-for,
+          (q₀, (fullShare, (fullShare, (fullShare, (q₁, tt))))),
+          tt,
+          lent-to,
+          (vb ∷ [], (vptr l₄ 0 ∷ [], (vptr l₅ 0 ∷ [], (vptr l₆ 0 ∷ [], (v ∷ [], (vint w64 cap ∷ [], tt)))))),
+        ),
+        tt,
+      )
 
       abbrev LentToks : Item 𝓤
       LentToks = ‵ (flft κ₀ q₀) ⊛ (‵ (flft (ν₁ ∷ []) fullShare)
@@ -253,8 +270,16 @@ module _ {M : Type 1} (𝓤 : URA M) (H : Heap 𝓤) (A : Atoms 𝓤) (W : Given
       passed-for = (ν₁ ∷ [], (ν₂ ∷ [], (ν₃ ∷ [], (κ₁, tt))))
 
       abbrev to-next : Pending → Next 𝓤 H A mem run .Ghost
-      to-next t = ((passed-for, (fullShare, (fullShare, (fullShare, (q₁, tt)))), tt, passed t,
-          (vptr l₄ 0 ∷ [], (vptr l₅ 0 ∷ [], (vptr l₆ 0 ∷ [], (v ∷ [], (S′.lowered t ∷ [], tt)))))), tt)
+      to-next t = (
+        (
+          passed-for,
+          (fullShare, (fullShare, (fullShare, (q₁, tt)))),
+          tt,
+          passed t,
+          (vptr l₄ 0 ∷ [], (vptr l₅ 0 ∷ [], (vptr l₆ 0 ∷ [], (v ∷ [], (S′.lowered t ∷ [], tt))))),
+        ),
+        tt,
+      )
 
       goes-next : (t : Pending) → IsPending t → Ready hs ss es tx t
           → ent 𝓤 (⋆ 𝓤 H A (Toks ∷ Tabs ∷ [])) (Next 𝓤 H A mem run .pre (to-next t))
@@ -290,8 +315,10 @@ module _ {M : Type 1} (𝓤 : URA M) (H : Heap 𝓤) (A : Atoms 𝓤) (W : Given
           → Facts r (set (i .1 .0) (i .0 .index) (i .0 .token)) (i .1 .1 .0 - 1)
       facts-on i on r said is = (
         length-set (i .1 .0) (i .0 .index) (i .0 .token) ∙ i .1 .1 .1 .0,
-        (going-next (i .1 .1 .1 .1 .0) (is-true (i .0 .more) on) (encoded-set (i .1 .0) (i .0 .index) (i .0 .token) (within i on)) said,
-            is),
+        (
+          going-next (i .1 .1 .1 .1 .0) (is-true (i .0 .more) on) (encoded-set (i .1 .0) (i .0 .index) (i .0 .token) (within i on)) said,
+          is,
+        ),
       )
 
       going : (i : Var) → Going bk tx (encoded ys) hs ss es (encoded (i .1 .0)) (i .1 .1 .0) (i .0)
@@ -319,7 +346,7 @@ module _ {M : Type 1} (𝓤 : URA M) (H : Heap 𝓤) (A : Atoms 𝓤) (W : Given
         En = (L′.mir, l₀) ∷ (books, l₁) ∷ (texts, l₂) ∷ (tokens, l₃) ∷ (words w64 32, l₄) ∷ (words w16 8192, l₅) ∷ (words w64 8192, l₆)
             ∷ (S′.mir, l₇) ∷ (shared w64 32, l₈) ∷ (shared w16 8192, l₉) ∷ (shared w64 8192, l₁₀) ∷ (word, l₁₁)
             ∷ (lent w64 32, l₁₂) ∷ (lent w16 8192, l₁₃) ∷ (lent w64 8192, l₁₄) ∷ (word, l₁₅) ∷ (tyBool, l₁₆) ∷ (word, l₁₇)
-                ∷ (tyPtr, l₁₈) ∷ []
+            ∷ (tyPtr, l₁₈) ∷ []
 
         -- what a turn has, with the local of the test
         abbrev Around : Var → Item 𝓤 → List (Item 𝓤)
@@ -327,17 +354,17 @@ module _ {M : Type 1} (𝓤 : URA M) (H : Heap 𝓤) (A : Atoms 𝓤) (W : Given
             ∷ ‵ (fobs γ (codedHoleys T.the-row .code (heres T.the-row ys))) ∷ ‵ (fauth γ (codedHoleys T.the-row .code (heres T.the-row ys)))
             ∷ Side
             ∷ ‵ (froom tyPtr l₁₈ 0) ∷ ‵ (fdies tyPtr l₁₈) ∷ ‵ (froom word l₁₇ 0) ∷ ‵ (fdies word l₁₇) ∷ t₁₆ ∷ ‵ (fdies tyBool l₁₆)
-                ∷ ‵ (froom word l₁₅ 0) ∷ ‵ (fdies word l₁₅)
+            ∷ ‵ (froom word l₁₅ 0) ∷ ‵ (fdies word l₁₅)
             ∷ ‵ (froom (lent w64 8192) l₁₄ 0) ∷ ‵ (fdies (lent w64 8192) l₁₄) ∷ ‵ (froom (lent w16 8192) l₁₃ 0)
-                ∷ ‵ (fdies (lent w16 8192) l₁₃) ∷ ‵ (froom (lent w64 32) l₁₂ 0) ∷ ‵ (fdies (lent w64 32) l₁₂) ∷ ‵ (froom word l₁₁ 0)
-                ∷ ‵ (fdies word l₁₁)
+            ∷ ‵ (fdies (lent w16 8192) l₁₃) ∷ ‵ (froom (lent w64 32) l₁₂ 0) ∷ ‵ (fdies (lent w64 32) l₁₂) ∷ ‵ (froom word l₁₁ 0)
+            ∷ ‵ (fdies word l₁₁)
             ∷ ‵ (fat fullShare (shared w64 8192) l₁₀ 0 (vptr l₆ 0)) ∷ ‵ (fdies (shared w64 8192) l₁₀)
-                ∷ ‵ (fat fullShare (shared w16 8192) l₉ 0 (vptr l₅ 0)) ∷ ‵ (fdies (shared w16 8192) l₉)
-                ∷ ‵ (fat fullShare (shared w64 32) l₈ 0 (vptr l₄ 0)) ∷ ‵ (fdies (shared w64 32) l₈)
+            ∷ ‵ (fat fullShare (shared w16 8192) l₉ 0 (vptr l₅ 0)) ∷ ‵ (fdies (shared w16 8192) l₉)
+            ∷ ‵ (fat fullShare (shared w64 32) l₈ 0 (vptr l₄ 0)) ∷ ‵ (fdies (shared w64 32) l₈)
             ∷ ‵ (fat fullShare S′.mir l₇ 0 (S′.lowered (i .0))) ∷ ‵ (fdies S′.mir l₇) ∷ ‵ (fdies (words w64 8192) l₆)
-                ∷ ‵ (fdies (words w16 8192) l₅) ∷ ‵ (fdies (words w64 32) l₄)
+            ∷ ‵ (fdies (words w16 8192) l₅) ∷ ‵ (fdies (words w64 32) l₄)
             ∷ ‵ (fat fullShare tokens l₃ 0 s) ∷ ‵ (fdies tokens l₃) ∷ ‵ (fat fullShare texts l₂ 0 v) ∷ ‵ (fdies texts l₂)
-                ∷ ‵ (fat fullShare books l₁ 0 vb) ∷ ‵ (fdies books l₁) ∷ ‵ (froom L′.mir l₀ 0) ∷ ‵ (fdies L′.mir l₀) ∷ []
+            ∷ ‵ (fat fullShare books l₁ 0 vb) ∷ ‵ (fdies books l₁) ∷ ‵ (froom L′.mir l₀ 0) ∷ ‵ (fdies L′.mir l₀) ∷ []
 
         abbrev At : Var → List (Item 𝓤)
         At i = Around i (‵ (froom tyBool l₁₆ 0))
@@ -353,10 +380,10 @@ module _ {M : Type 1} (𝓤 : URA M) (H : Heap 𝓤) (A : Atoms 𝓤) (W : Given
         leaves i off =
             nothing ! $ use1 W (raw (Answer 𝓤 H A mem run .pre (to-answer (i .0)))) (goes-answer (i .0) (is-pending i)) $
             calls-at ! (fmOf 𝓤 H (W .laws) 𝓣) (Answer 𝓤 H A mem run) known-answer (to-answer (i .0))
-                (and-then ! (load ! (from ! (stop !)) (look ! 30 refl)) (no-more !)) (λ u.
+            (and-then ! (load ! (from ! (stop !)) (look ! 30 refl)) (no-more !)) (λ u.
             use1 W (later (some (λ (r : LexAnswer). (‵ ftrue ⊛ ‵ (L.the-row .own r (u ∷ [])))
-                ⊛ raw (ensured 𝓤 H A answer.ended (answer.clauses 𝓤 H A mem run) tt (i .0, tt) tt r)))) (id⊢ 𝓤 _) $ await ! tt $
-                pick ! (λ r.
+            ⊛ raw (ensured 𝓤 H A answer.ended (answer.clauses 𝓤 H A mem run) tt (i .0, tt) tt r)))) (id⊢ 𝓤 _) $ await ! tt $
+            pick ! (λ r.
             split ! $ move ! (1 ∷ []) $ use1 W (raw (fact 𝓤 (r ≡ answerOf (i .0)))) (answer-said (i .0) r) $
             heard ! (r ≡ answerOf (i .0)) (λ e. split ! $ drop ! $
             peeks ! L.the-row (Is L.the-row) (shows 𝓤 H A L.the-row) r (u ∷ []) (λ is.
@@ -378,42 +405,42 @@ module _ {M : Type 1} (𝓤 : URA M) (H : Heap 𝓤) (A : Atoms 𝓤) (W : Given
             frees-tail ! 12 12 refl $ free0 ! $
             keep ! (11 ∷ 8 ∷ 9 ∷ 10 ∷ 6 ∷ 7 ∷ 1 ∷ 4 ∷ []) $
             by ! (exits r u (i .1 .0) (i .1 .1 .1 .0)
-                (subst (λ (z : LexAnswer). LexAnswered (lexOutcome bk tx (encoded ys)) z (encoded (i .1 .0))) (sym e)
-                (going-stop (going i) (is-false (i .0 .more) off))))))))
+            (subst (λ (z : LexAnswer). LexAnswered (lexOutcome bk tx (encoded ys)) z (encoded (i .1 .0))) (sym e)
+            (going-stop (going i) (is-false (i .0 .more) off))))))))
 
         goes-on : (i : Var) → Yes (i .0 .more) → Sq W (Tested i) (runs C Λ En (behind (behind body.turn-1)) (anyQ (Turned i)))
         unfolding afterTurn
         goes-on i on =
             assigns ! (of-opd ! (load ! (from ! (fld ! refl (stop !))) (look-in ! 29 (sub ! 1 refl (whole !))))) (from ! (stop !))
-                (init ! 21 refl (tt, (fitting i) .1 .1 .0)) $
+            (init ! 21 refl (tt, (fitting i) .1 .1 .0)) $
             assigns ! (bin ! (load ! (from ! (stop !)) (look ! 21 refl)) (lit ! tt) (record { fits = scaled i on })) (from ! (stop !))
-                (init ! 9 refl (tt, record { fits = scaled i on })) $
+            (init ! 9 refl (tt, record { fits = scaled i on })) $
             assigns ! (bin ! (load ! (from ! (fld ! refl (stop !))) (look-in ! 34 (sub ! 0 refl (whole !))))
-                (load ! (from ! (stop !)) (look ! 9 refl)) tt) (from ! (stop !)) (init ! 7 refl (tt, tt)) $
+            (load ! (from ! (stop !)) (look ! 9 refl)) tt) (from ! (stop !)) (init ! 7 refl (tt, tt)) $
             rewrite ! 7 (λ (p : ℕ). ‵ (fat fullShare tyPtr l₁₈ 0 (vptr b p))) (sym (place-is 12 o (i .0 .index))) refl $
             elem-out ! T.the-row (Is T.the-row) (shows 𝓤 H A T.the-row) (LL.vals T.the-type T′.the-laws) (LL.tells T.the-type T′.the-laws)
-                fullShare (i .1 .0) (i .0 .index) noRecord b o (within i on) (λ _.
+            fullShare (i .1 .0) (i .0 .index) noRecord b o (within i on) (λ _.
             -- [the token at the index; what it owns; the others; the tables; their lifetimes; the open borrow; obs; auth; what waits; _18;
             -- …]
             assigns ! (of-opd ! (load ! (from ! (fld ! refl (stop !))) (look-in ! 31 (sub ! 2 refl (whole !)))))
-                (from ! (hop ! (look ! 9 refl) (stop !))) (store-raw ! 0 refl (tt, (fitting i) .1 .1 .1 .0)) $
+            (from ! (hop ! (look ! 9 refl) (stop !))) (store-raw ! 0 refl (tt, (fitting i) .1 .1 .1 .0)) $
             move ! (1 ∷ []) $ drop ! $ owned ! T.the-row (Is T.the-row) ((LL.makes T.the-type T′.the-plain) 𝓤 H A) (i .0 .token) _
-                (is-token (i .0) (is-pending i)) $ move ! (1 ∷ 0 ∷ []) $
+            (is-token (i .0) (is-pending i)) $ move ! (1 ∷ 0 ∷ []) $
             elem-put ! T.the-row fullShare (i .1 .0) (i .0 .index) (i .0 .token) (T′.lowered (i .0 .token) ∷ []) b o (within i on) $
             -- `next`, with a copy of the tables
             move ! (1 ∷ []) $ use1 W (Tabs ⊛ Tabs) (passed-on-twice 𝓤 H A W l₄ l₅ l₆ hs ss es ν₁ ν₂ ν₃ γ₁ γ₂ γ₃ (named 1) κ₁ text v) $
             split ! $ move ! (3 ∷ 0 ∷ []) $
             use2 W (raw (Next 𝓤 H A mem run .pre (to-next (i .0))))
-                (goes-next (i .0) (is-pending i) (going-ready (going i) (is-true (i .0 .more) on))) $
+            (goes-next (i .0) (is-pending i) (going-ready (going i) (is-true (i .0 .more) on))) $
             calls-at-last ! (fmOf 𝓤 H (W .laws) 𝓣) (Next 𝓤 H A mem run) known-next (to-next (i .0))
             (and-then ! (load ! (from ! (stop !)) (look ! 27 refl))
-                (and-then ! (load ! (from ! (stop !)) (look ! 25 refl))
-                (and-then ! (load ! (from ! (stop !)) (look ! 23 refl))
-                (and-then ! (load ! (from ! (stop !)) (look ! 36 refl))
-                (and-then ! (load ! (from ! (stop !)) (look ! 29 refl)) (no-more !)))))) (λ u.
+            (and-then ! (load ! (from ! (stop !)) (look ! 25 refl))
+            (and-then ! (load ! (from ! (stop !)) (look ! 23 refl))
+            (and-then ! (load ! (from ! (stop !)) (look ! 36 refl))
+            (and-then ! (load ! (from ! (stop !)) (look ! 29 refl)) (no-more !)))))) (λ u.
             use1 W (later (some (λ (r : Pending). (Toks ⊛ ‵ (S.the-row .own r (u ∷ [])))
-                ⊛ raw (ensured 𝓤 H A next.ended (next.clauses 𝓤 H A mem run) passed-for (passed (i .0)) tt r)))) (id⊢ 𝓤 _) $ await ! tt $
-                pick ! (λ r.
+            ⊛ raw (ensured 𝓤 H A next.ended (next.clauses 𝓤 H A mem run) passed-for (passed (i .0)) tt r)))) (id⊢ 𝓤 _) $ await ! tt $
+            pick ! (λ r.
             split ! $ move ! (1 ∷ []) $ use1 W (raw (fact 𝓤 (Said (i .0) r))) (next-said (i .0) r) $ heard ! (Said (i .0) r) (λ said.
             split ! $ move ! (1 ∷ []) $ peeks ! S.the-row (Is S.the-row) (shows 𝓤 H A S.the-row) r (u ∷ []) (λ is.
             -- [what is pending; the lifetimes; the tables; the row; the open borrow; obs; auth; what waits; _18; …]
@@ -421,15 +448,20 @@ module _ {M : Type 1} (𝓤 : URA M) (H : Heap 𝓤) (A : Atoms 𝓤) (W : Given
             rewrite ! 30 (λ (z : Val). ‵ (fat fullShare S′.mir l₇ 0 z)) (ap only (LL.tells S.the-type S′.the-laws r _ is)) refl $
             forget ! 8 refl $ forget ! 10 refl $ forget ! 12 refl $ forget ! 22 refl $
             drop ! $ move ! (2 ∷ 1 ∷ []) $
-            again ! Nearer At i (r, (set (i .1 .0) (i .0 .index) (i .0 .token),
-                (i .1 .1 .0 - 1, facts-on i on r said (subst (Is S.the-row r) (LL.tells S.the-type S′.the-laws r _ is) is))))
-                (omega (arith, going-left (going i) (is-true (i .0 .more) on))))))))
+            again ! Nearer At i (
+              r,
+              (
+                set (i .1 .0) (i .0 .index) (i .0 .token),
+                (i .1 .1 .0 - 1, facts-on i on r said (subst (Is S.the-row r) (LL.tells S.the-type S′.the-laws r _ is) is)),
+              ),
+            )
+            (omega (arith, going-left (going i) (is-true (i .0 .more) on))))))))
 
         turns : (i : Var) → Sq W (At i) (runs C Λ En body.turn-1 (anyQ (Turned i)))
         unfolding afterTurn
         turns i =
             assigns ! (of-opd ! (load ! (from ! (fld ! refl (stop !))) (look-in ! 29 (sub ! 0 refl (whole !))))) (from ! (stop !))
-                (init ! 11 refl (tt, tt)) $
+            (init ! 11 refl (tt, tt)) $
             tests ! (load ! (from ! (stop !)) (look ! 11 refl)) (λ on. goes-on i on) (λ off. exec ! C Λ En body.t-13 (atRet En Post) $
             leaves i off)
 
@@ -446,13 +478,13 @@ module _ {M : Type 1} (𝓤 : URA M) (H : Heap 𝓤) (A : Atoms 𝓤) (W : Given
       Locals pending₇ e₀ = ‵ (froom tyPtr l₁₈ 0) ∷ ‵ (fdies tyPtr l₁₈) ∷ ‵ (froom word l₁₇ 0) ∷ ‵ (fdies word l₁₇) ∷ ‵ (froom tyBool l₁₆ 0)
           ∷ ‵ (fdies tyBool l₁₆) ∷ ‵ (fat fullShare word l₁₅ 0 (vint w64 cap)) ∷ ‵ (fdies word l₁₅)
           ∷ ‵ (fat fullShare (lent w64 8192) l₁₄ 0 (vptr l₆ 0)) ∷ ‵ (fdies (lent w64 8192) l₁₄)
-              ∷ ‵ (fat fullShare (lent w16 8192) l₁₃ 0 (vptr l₅ 0)) ∷ ‵ (fdies (lent w16 8192) l₁₃)
-              ∷ ‵ (fat fullShare (lent w64 32) l₁₂ 0 (vptr l₄ 0)) ∷ ‵ (fdies (lent w64 32) l₁₂) ∷ ‵ (froom word l₁₁ 0) ∷ ‵ (fdies word l₁₁)
+          ∷ ‵ (fat fullShare (lent w16 8192) l₁₃ 0 (vptr l₅ 0)) ∷ ‵ (fdies (lent w16 8192) l₁₃)
+          ∷ ‵ (fat fullShare (lent w64 32) l₁₂ 0 (vptr l₄ 0)) ∷ ‵ (fdies (lent w64 32) l₁₂) ∷ ‵ (froom word l₁₁ 0) ∷ ‵ (fdies word l₁₁)
           ∷ ‵ (froom (shared w64 8192) l₁₀ 0) ∷ ‵ (fdies (shared w64 8192) l₁₀) ∷ ‵ (froom (shared w16 8192) l₉ 0)
-              ∷ ‵ (fdies (shared w16 8192) l₉) ∷ ‵ (froom (shared w64 32) l₈ 0) ∷ ‵ (fdies (shared w64 32) l₈)
+          ∷ ‵ (fdies (shared w16 8192) l₉) ∷ ‵ (froom (shared w64 32) l₈ 0) ∷ ‵ (fdies (shared w64 32) l₈)
           ∷ pending₇ ∷ ‵ (fdies S′.mir l₇) ∷ ‵ (fdies (words w64 8192) l₆) ∷ ‵ (fdies (words w16 8192) l₅) ∷ ‵ (fdies (words w64 32) l₄)
           ∷ ‵ (fat fullShare tokens l₃ 0 s) ∷ ‵ (fdies tokens l₃) ∷ ‵ (fat fullShare texts l₂ 0 v) ∷ ‵ (fdies texts l₂)
-              ∷ ‵ (fat fullShare books l₁ 0 vb) ∷ ‵ (fdies books l₁) ∷ ‵ (froom L′.mir l₀ 0) ∷ e₀ ∷ []
+          ∷ ‵ (fat fullShare books l₁ 0 vb) ∷ ‵ (fdies books l₁) ∷ ‵ (froom L′.mir l₀ 0) ∷ e₀ ∷ []
 
       -- `begin` has returned r with the tables at hs, ss and es
       module _ (hs ss es : List ℕ) (r : Pending) (begun : Begun bk tx cap hs ss es r) (is : IsPending r) where
@@ -460,10 +492,10 @@ module _ {M : Type 1} (𝓤 : URA M) (H : Heap 𝓤) (A : Atoms 𝓤) (W : Given
             ∷ ‵ (partAt (Words w16 8192) fullShare ss l₅ 0) ∷ ‵ (partAt (Words w64 32) fullShare hs l₄ 0) ∷ ‵ (flft κ₀ q₀) ∷ ‵ OwnText
             ∷ ‵ OwnBook
             ∷ ‵ (row T.the-row fullShare ys b o) ∷ ‵ (fobor κ₂ q₂ (Held T.the-row cap b o γ))
-                ∷ ‵ (fobs γ (codedHoleys T.the-row .code (heres T.the-row ys)))
-                ∷ ‵ (fauth γ (codedHoleys T.the-row .code (heres T.the-row ys)))
+            ∷ ‵ (fobs γ (codedHoleys T.the-row .code (heres T.the-row ys)))
+            ∷ ‵ (fauth γ (codedHoleys T.the-row .code (heres T.the-row ys)))
             ∷ Locals (‵ (fat fullShare S′.mir l₇ 0 (S′.lowered r))) (‵ (fdies L′.mir l₀)))
-                (runs (𝓣 .C) (𝓣 .Λ) Env₀ body.t-9 (atRet Env₀ Post))
+            (runs (𝓣 .C) (𝓣 .Λ) Env₀ body.t-9 (atRet Env₀ Post))
         shared-out =
             -- [edges; text's lifetime; states; headers; book's lifetime; text; book; the row; the open borrow; obs; auth; _18; …]
             assigns ! (addr ! (from ! (stop !))) (from ! (stop !)) (init ! 31 refl (tt, tt)) $
@@ -489,25 +521,25 @@ module _ {M : Type 1} (𝓤 : URA M) (H : Heap 𝓤) (A : Atoms 𝓤) (W : Given
       started : Sq W (‵ (froom tyPtr l₁₈ 0) ∷ ‵ (fdies tyPtr l₁₈) ∷ ‵ (froom word l₁₇ 0) ∷ ‵ (fdies word l₁₇) ∷ ‵ (froom tyBool l₁₆ 0)
           ∷ ‵ (fdies tyBool l₁₆) ∷ ‵ (froom word l₁₅ 0) ∷ ‵ (fdies word l₁₅)
           ∷ ‵ (froom (lent w64 8192) l₁₄ 0) ∷ ‵ (fdies (lent w64 8192) l₁₄) ∷ ‵ (froom (lent w16 8192) l₁₃ 0)
-              ∷ ‵ (fdies (lent w16 8192) l₁₃) ∷ ‵ (froom (lent w64 32) l₁₂ 0) ∷ ‵ (fdies (lent w64 32) l₁₂) ∷ ‵ (froom word l₁₁ 0)
-              ∷ ‵ (fdies word l₁₁)
+          ∷ ‵ (fdies (lent w16 8192) l₁₃) ∷ ‵ (froom (lent w64 32) l₁₂ 0) ∷ ‵ (fdies (lent w64 32) l₁₂) ∷ ‵ (froom word l₁₁ 0)
+          ∷ ‵ (fdies word l₁₁)
           ∷ ‵ (froom (shared w64 8192) l₁₀ 0) ∷ ‵ (fdies (shared w64 8192) l₁₀) ∷ ‵ (froom (shared w16 8192) l₉ 0)
-              ∷ ‵ (fdies (shared w16 8192) l₉) ∷ ‵ (froom (shared w64 32) l₈ 0) ∷ ‵ (fdies (shared w64 32) l₈)
+          ∷ ‵ (fdies (shared w16 8192) l₉) ∷ ‵ (froom (shared w64 32) l₈ 0) ∷ ‵ (fdies (shared w64 32) l₈)
           ∷ ‵ (froom S′.mir l₇ 0) ∷ ‵ (fdies S′.mir l₇) ∷ ‵ (froom (words w64 8192) l₆ 0) ∷ ‵ (fdies (words w64 8192) l₆)
-              ∷ ‵ (froom (words w16 8192) l₅ 0) ∷ ‵ (fdies (words w16 8192) l₅) ∷ ‵ (froom (words w64 32) l₄ 0)
-              ∷ ‵ (fdies (words w64 32) l₄)
+          ∷ ‵ (froom (words w16 8192) l₅ 0) ∷ ‵ (fdies (words w16 8192) l₅) ∷ ‵ (froom (words w64 32) l₄ 0)
+          ∷ ‵ (fdies (words w64 32) l₄)
           ∷ ‵ (fat fullShare tokens l₃ 0 s) ∷ ‵ (fdies tokens l₃) ∷ ‵ (fat fullShare texts l₂ 0 v) ∷ ‵ (fdies texts l₂)
-              ∷ ‵ (fat fullShare books l₁ 0 vb) ∷ ‵ (fdies books l₁) ∷ ‵ (froom L′.mir l₀ 0) ∷ ‵ (fdies L′.mir l₀)
+          ∷ ‵ (fat fullShare books l₁ 0 vb) ∷ ‵ (fdies books l₁) ∷ ‵ (froom L′.mir l₀ 0) ∷ ‵ (fdies L′.mir l₀)
           ∷ (‵ (flft κ₀ q₀) ⊛ (‵ (flft κ₁ q₁) ⊛ (‵ (flft κ₂ q₂) ⊛ ‵ ftrue)))
-              ∷ ‵ (owns (ShrSlice (named 0) κ₀ u8 ∷ ShrSlice (named 1) κ₁ u8 ∷ MutSlice (named 2) κ₂ T.the-row ∷ []) x at) ∷ [])
-              (runs (𝓣 .C) (𝓣 .Λ) Env₀ body.t-1 (atRet Env₀ Post))
+          ∷ ‵ (owns (ShrSlice (named 0) κ₀ u8 ∷ ShrSlice (named 1) κ₁ u8 ∷ MutSlice (named 2) κ₂ T.the-row ∷ []) x at) ∷ [])
+          (runs (𝓣 .C) (𝓣 .Λ) Env₀ body.t-1 (atRet Env₀ Post))
       started =
           fills ! 28 tt (from ! (stop !)) refl $ fills ! 26 tt (from ! (stop !)) refl $ fills ! 24 tt (from ! (stop !)) refl $
           assigns ! (addr ! (from ! (stop !))) (from ! (stop !)) (init ! 12 refl (tt, tt)) $
           assigns ! (addr ! (from ! (stop !))) (from ! (stop !)) (init ! 10 refl (tt, tt)) $
           assigns ! (addr ! (from ! (stop !))) (from ! (stop !)) (init ! 8 refl (tt, tt)) $
           assigns ! (of-opd ! (load ! (from ! (fld ! refl (stop !))) (look-in ! 30 (sub ! 1 refl (whole !))))) (from ! (stop !))
-              (init ! 6 refl (tt, record { fits = room .0 })) $
+          (init ! 6 refl (tt, record { fits = room .0 })) $
           -- the tables are lent
           move ! (28 ∷ []) $ lends-lying ! tt (named 1) w64 32 l₄ (replicate 32 0) (λ ν₁ γ₁. move ! (29 ∷ []) $
           lends-lying ! tt (named 2) w16 8192 l₅ (replicate 8192 0) (λ ν₂ γ₂. move ! (30 ∷ []) $
@@ -528,23 +560,23 @@ module _ {M : Type 1} (𝓤 : URA M) (H : Heap 𝓤) (A : Atoms 𝓤) (W : Given
           nothing ! $ owned ! usize (Is usize) (uint-makes 𝓤 H A W w64) cap _ (refl, room .0) $ fjoin ! $ move ! (1 ∷ 0 ∷ []) $ fjoin ! $
           move ! (11 ∷ 0 ∷ []) $ fjoin ! $ move ! (12 ∷ 0 ∷ []) $ fjoin ! $ move ! (13 ∷ 0 ∷ []) $ fjoin ! $ move ! (2 ∷ 0 ∷ []) $ fjoin ! $
           move ! (3 ∷ 0 ∷ []) $ use2 W (raw (Begin 𝓤 H A mem run .pre (to-begin l₄ l₅ l₆ ν₁ ν₂ ν₃ γ₁ γ₂ γ₃)))
-              (goes-begin l₄ l₅ l₆ ν₁ ν₂ ν₃ γ₁ γ₂ γ₃) $
+          (goes-begin l₄ l₅ l₆ ν₁ ν₂ ν₃ γ₁ γ₂ γ₃) $
           -- [what is asked; text; book; the row; the open borrow; obs; auth; the fact; true; lent (edges); lent (states); lent (headers);
           -- _18; …]
           calls-at ! (fmOf 𝓤 H (W .laws) 𝓣) (Begin 𝓤 H A mem run) known-begin (to-begin l₄ l₅ l₆ ν₁ ν₂ ν₃ γ₁ γ₂ γ₃)
           (and-then ! (load ! (from ! (stop !)) (look ! 43 refl))
-              (and-then ! (load ! (from ! (stop !)) (look ! 24 refl))
-              (and-then ! (load ! (from ! (stop !)) (look ! 22 refl))
-              (and-then ! (load ! (from ! (stop !)) (look ! 20 refl))
-              (and-then ! (load ! (from ! (stop !)) (look ! 41 refl))
-              (and-then ! (load ! (from ! (stop !)) (look ! 18 refl)) (no-more !))))))) (λ u.
+          (and-then ! (load ! (from ! (stop !)) (look ! 24 refl))
+          (and-then ! (load ! (from ! (stop !)) (look ! 22 refl))
+          (and-then ! (load ! (from ! (stop !)) (look ! 20 refl))
+          (and-then ! (load ! (from ! (stop !)) (look ! 41 refl))
+          (and-then ! (load ! (from ! (stop !)) (look ! 18 refl)) (no-more !))))))) (λ u.
           use1 W (later (some (λ (r : Pending). (LentToks l₄ l₅ l₆ ν₁ ν₂ ν₃ γ₁ γ₂ γ₃ ⊛ ‵ (S.the-row .own r (u ∷ [])))
-              ⊛ raw (ensured 𝓤 H A begin.ended (begin.clauses 𝓤 H A mem run) (lent-for l₄ l₅ l₆ ν₁ ν₂ ν₃ γ₁ γ₂ γ₃)
-              (lent-to l₄ l₅ l₆ ν₁ ν₂ ν₃ γ₁ γ₂ γ₃) tt r)))) (id⊢ 𝓤 _) $ await ! tt $ pick ! (λ r.
+          ⊛ raw (ensured 𝓤 H A begin.ended (begin.clauses 𝓤 H A mem run) (lent-for l₄ l₅ l₆ ν₁ ν₂ ν₃ γ₁ γ₂ γ₃)
+          (lent-to l₄ l₅ l₆ ν₁ ν₂ ν₃ γ₁ γ₂ γ₃) tt r)))) (id⊢ 𝓤 _) $ await ! tt $ pick ! (λ r.
           split ! $ move ! (1 ∷ []) $ use1 W
-              (some (λ (ls : Unit {0} × (List ℕ × (List ℕ × (List ℕ × (Unit {0} × (Unit {0} × Unit {0})))))). ‵
-              (lasts begin.ended (lent-for l₄ l₅ l₆ ν₁ ν₂ ν₃ γ₁ γ₂ γ₃) (lent-to l₄ l₅ l₆ ν₁ ν₂ ν₃ γ₁ γ₂ γ₃) ls)
-              ⊛ raw (fact 𝓤 (Begun bk tx cap (ls .1 .0) (ls .1 .1 .0) (ls .1 .1 .1 .0) r)))) (id⊢ 𝓤 _) $ pick ! (λ ls.
+          (some (λ (ls : Unit {0} × (List ℕ × (List ℕ × (List ℕ × (Unit {0} × (Unit {0} × Unit {0})))))). ‵
+          (lasts begin.ended (lent-for l₄ l₅ l₆ ν₁ ν₂ ν₃ γ₁ γ₂ γ₃) (lent-to l₄ l₅ l₆ ν₁ ν₂ ν₃ γ₁ γ₂ γ₃) ls)
+          ⊛ raw (fact 𝓤 (Begun bk tx cap (ls .1 .0) (ls .1 .1 .0) (ls .1 .1 .1 .0) r)))) (id⊢ 𝓤 _) $ pick ! (λ ls.
           split ! $ move ! (1 ∷ []) $ heard ! (Begun bk tx cap (ls .1 .0) (ls .1 .1 .0) (ls .1 .1 .1 .0) r) (λ begun. fsplit ! $ drop ! $
           fsplit ! $ move ! (1 ∷ []) $ fsplit ! $ move ! (1 ∷ []) $ fsplit ! $
           -- [edges' last; …; states' last; headers' last; the lifetimes and what is pending; text; book; the row; the open borrow; obs;
@@ -560,46 +592,50 @@ module _ {M : Type 1} (𝓤 : URA M) (H : Heap 𝓤) (A : Atoms 𝓤) (W : Given
           -- the fact; true; _18; …]
           move ! (5 ∷ 6 ∷ 13 ∷ 14 ∷ []) $ drop ! $ drop ! $ drop ! $ drop ! $
           shared-out (ls .1 .0) (ls .1 .1 .0) (ls .1 .1 .1 .0) r begun
-              (subst (Is S.the-row r) (LL.tells S.the-type S′.the-laws r _ is) is)))))))))
+          (subst (Is S.the-row r) (LL.tells S.the-type S′.the-laws r _ is) is)))))))))
 
     walk : ent 𝓤 (onEntry 𝓤 H A lex-tokens.signature κs (q₀, (q₁, (q₂, tt))) x at)
         (WpFn 𝓤 H (𝓣 .C) (𝓣 .Λ) code.function (vb ∷ v ∷ s ∷ []) Post)
     walk =
         qed W ((‵ (flft κ₀ q₀) ⊛ (‵ (flft κ₁ q₁) ⊛ (‵ (flft κ₂ q₂) ⊛ ‵ ftrue)))
-            ∷ ‵ (owns (ShrSlice (named 0) κ₀ u8 ∷ ShrSlice (named 1) κ₁ u8 ∷ MutSlice (named 2) κ₂ T.the-row ∷ []) x at) ∷ []) ∵
-            enter ! (𝓣 .C) (𝓣 .Λ) code.function (vb ∷ v ∷ s ∷ []) _ $
+        ∷ ‵ (owns (ShrSlice (named 0) κ₀ u8 ∷ ShrSlice (named 1) κ₁ u8 ∷ MutSlice (named 2) κ₂ T.the-row ∷ []) x at) ∷ []) ∵
+        enter ! (𝓣 .C) (𝓣 .Λ) code.function (vb ∷ v ∷ s ∷ []) _ $
         alloc1 ! (λ l₀. alloc1 ! (λ l₁.
-            alloc1 ! (λ l₂. alloc1 ! (λ l₃.
-            alloc1 ! (λ l₄. alloc1 ! (λ l₅.
-            alloc1 ! (λ l₆. alloc1 ! (λ l₇.
-            alloc1 ! (λ l₈. alloc1 ! (λ l₉.
-            alloc1 ! (λ l₁₀. alloc1 ! (λ l₁₁.
-            alloc1 ! (λ l₁₂. alloc1 ! (λ l₁₃.
-            alloc1 ! (λ l₁₄. alloc1 ! (λ l₁₅. alloc1 ! (λ l₁₆. alloc1 ! (λ l₁₇. alloc1 ! (λ l₁₈. alloc0 ! $ params1 ! $
+        alloc1 ! (λ l₂. alloc1 ! (λ l₃.
+        alloc1 ! (λ l₄. alloc1 ! (λ l₅.
+        alloc1 ! (λ l₆. alloc1 ! (λ l₇.
+        alloc1 ! (λ l₈. alloc1 ! (λ l₉.
+        alloc1 ! (λ l₁₀. alloc1 ! (λ l₁₁.
+        alloc1 ! (λ l₁₂. alloc1 ! (λ l₁₃.
+        alloc1 ! (λ l₁₄. alloc1 ! (λ l₁₅. alloc1 ! (λ l₁₆. alloc1 ! (λ l₁₇. alloc1 ! (λ l₁₈. alloc0 ! $ params1 ! $
         pass1 ! (init ! 34 refl (tt, (tt, (record { fits = b-room .0 }, tt)))) $
         pass1 ! (init ! 32 refl (tt, (tt, (record { fits = t-room .0 }, tt)))) $
         pass1 ! (init ! 30 refl (tt, (tt, (record { fits = room .0 }, tt)))) $ pass0 ! $
         started l₀ l₁ l₂ l₃ l₄ l₅ l₆ l₇ l₈ l₉ l₁₀ l₁₁ l₁₂ l₁₃ l₁₄ l₁₅ l₁₆ l₁₇ l₁₈)))))))))))))))))))
 
-module _ {M : Type 1} (𝓤 : URA M) (H : Heap 𝓤) (A : Atoms 𝓤) (W : Given 𝓤 H A) (mem : Memory → SProp 𝓤) (run : Routine
-    → Fun 𝓤) (𝓣 : Tables 𝓤 H)
+module _ {M : Type 1} (𝓤 : URA M) (H : Heap 𝓤) (A : Atoms 𝓤) (W : Given 𝓤 H A) (mem : Memory → SProp 𝓤)
+    (run : Routine → Fun 𝓤) (𝓣 : Tables 𝓤 H)
     (known-begin : Triple 𝓤 (𝓣 .C #lexing·begin) (Begin 𝓤 H A mem run)) (known-next : Triple 𝓤 (𝓣 .C #lexing·next) (Next 𝓤 H A mem run))
-        (known-answer : Triple 𝓤 (𝓣 .C #lexing·answer) (Answer 𝓤 H A mem run)) where
+    (known-answer : Triple 𝓤 (𝓣 .C #lexing·answer) (Answer 𝓤 H A mem run)) where
   lex-tokens-walks : Walks 𝓤 H A lex-tokens.ended stayed (WpFn 𝓤 H (𝓣 .C) (𝓣 .Λ) code.function) (lex-tokens.clauses 𝓤 H A mem run)
   lex-tokens-walks = walked 𝓤 H A lex-tokens.ended stayed (lex-tokens.clauses 𝓤 H A mem run) (WpFn 𝓤 H (𝓣 .C) (𝓣 .Λ) code.function)
       (λ κs. (slice-vals, (slice-vals, (slice-vals, tt))))
-          (λ κs. (shr-slice-tells (named 0) (κs .0) u8,
-          (shr-slice-tells (named 1) (κs .1 .0) u8, (mut-slice-tells (named 2) (κs .1 .1 .0) T.the-row, tt))))
+      (λ κs. (
+        shr-slice-tells (named 0) (κs .0) u8,
+        (shr-slice-tells (named 1) (κs .1 .0) u8, (mut-slice-tells (named 2) (κs .1 .1 .0) T.the-row, tt)),
+      ))
       (λ κs qs bounds a g are. via 𝓤 _ (fst∗ 𝓤 _ (emp 𝓤))
       (walk 𝓤 H A W mem run (κs .0) (κs .1 .0) (κs .1 .1 .0) (qs .0) (qs .1 .0) (qs .1 .1 .0) (a .0) (a .1 .0) (a .1 .1 .0 .ptr .0)
-          (a .1 .1 .0 .ptr .1) (a .1 .1 .0 .name) (a .1 .1 .0 .now)
+      (a .1 .1 .0 .ptr .1) (a .1 .1 .0 .name) (a .1 .1 .0 .now)
       (are .0 .0 .1) (are .1 .0 .0 .1) (are .1 .1 .0 .0 .1) 𝓣 known-begin known-next known-answer))
 
   lex-tokens-meets : Meets 𝓤 H A lex-tokens.signature (WpFn 𝓤 H (𝓣 .C) (𝓣 .Λ) code.function) (lex-tokens.spec 𝓤 H A mem run)
   lex-tokens-meets =
-      walk-meets 𝓤 H A lex-tokens.ended stayed W (goes-none-slice 𝓤 H A W 3 (0 ∷ []) tt (plain (λ _. u8)) yes,
-          (goes-none-slice 𝓤 H A W 3 (1 ∷ []) tt (plain (λ _. u8)) yes, (goes-slice 𝓤 H A W 3 2 tt (plain (λ _. T.the-row)), tt)))
-          (lex-tokens.clauses 𝓤 H A mem run)
+      walk-meets 𝓤 H A lex-tokens.ended stayed W (
+        goes-none-slice 𝓤 H A W 3 (0 ∷ []) tt (plain (λ _. u8)) yes,
+        (goes-none-slice 𝓤 H A W 3 (1 ∷ []) tt (plain (λ _. u8)) yes, (goes-slice 𝓤 H A W 3 2 tt (plain (λ _. T.the-row)), tt)),
+      )
+      (lex-tokens.clauses 𝓤 H A mem run)
       (WpFn 𝓤 H (𝓣 .C) (𝓣 .Λ) code.function) (WpFn-mono 𝓤 H (W .laws) 𝓣 code.function) lex-tokens-walks
 
 pub lex-tokens-spec : {M : Type 1} → stated.statement M
@@ -609,8 +645,8 @@ lex-tokens-spec 𝓤 H 𝓜 𝓖 𝓡 =
     (tables 𝓤 H 𝓜 𝓡 code.env .C) (tables 𝓤 H 𝓜 𝓡 code.env .Λ) #slices·lex-tokens code.function (code.unfolded 𝓤 H 𝓜 𝓡)
     (lex-tokens-meets 𝓤 H (𝓖 .A) (givenOf 𝓤 H 𝓜 𝓖) (𝓜 .mem) (𝓡 .run) (tablesOf 𝓤 H 𝓜 (tables 𝓤 H 𝓜 𝓡 code.env))
     (cited 𝓤 H (Begin 𝓤 H (𝓖 .A) (𝓜 .mem) (𝓡 .run)) 𝓜 𝓡 code.env #lexing·begin begin-def.routine code.calls-slices·lexing·begin
-        (begin-thm.met 𝓤 H 𝓜 𝓖 𝓡))
+    (begin-thm.met 𝓤 H 𝓜 𝓖 𝓡))
     (cited 𝓤 H (Next 𝓤 H (𝓖 .A) (𝓜 .mem) (𝓡 .run)) 𝓜 𝓡 code.env #lexing·next next-def.routine code.calls-slices·lexing·next
-        (next-thm.met 𝓤 H 𝓜 𝓖 𝓡))
+    (next-thm.met 𝓤 H 𝓜 𝓖 𝓡))
     (cited 𝓤 H (Answer 𝓤 H (𝓖 .A) (𝓜 .mem) (𝓡 .run)) 𝓜 𝓡 code.env #lexing·answer answer-def.routine code.calls-slices·lexing·answer
-        (answer-thm.met 𝓤 H 𝓜 𝓖 𝓡)))
+    (answer-thm.met 𝓤 H 𝓜 𝓖 𝓡)))

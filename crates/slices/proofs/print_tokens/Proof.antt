@@ -95,9 +95,13 @@ use Rattle.slices.proofs.print_tokens.Code as code
 use Rattle.slices.proofs.print_tokens.Code.Mir as body
 
 abbrev stayed : Stays (print-tokens.ended .signature .params) (print-tokens.ended .kept)
-stayed = (stay-none-slice (0 ∷ []) tt (plain (λ _. u8)) yes,
-    (stay-none-slice (1 ∷ []) tt (plain (λ _. T.the-row)) yes,
-    (stay-none-slice (2 ∷ []) tt (plain (λ _. u8)) yes, (gave-slice (3 ∷ []) tt (plain (λ _. u8)), tt))))
+stayed = (
+  stay-none-slice (0 ∷ []) tt (plain (λ _. u8)) yes,
+  (
+    stay-none-slice (1 ∷ []) tt (plain (λ _. T.the-row)) yes,
+    (stay-none-slice (2 ∷ []) tt (plain (λ _. u8)) yes, (gave-slice (3 ∷ []) tt (plain (λ _. u8)), tt)),
+  ),
+)
 
 abbrev books : Ty
 books = sliceTy (tyRef (named 0) imm (tyInt w8))
@@ -133,7 +137,7 @@ module _ {M : Type 1} (𝓤 : URA M) (H : Heap 𝓤) (A : Atoms 𝓤) (W : Given
     → Fun 𝓤) (κ₀ κ₁ κ₂ κ₃ : Lft) (q₀ q₁ q₂ q₃ : Share) (book : RefT (List ℕ)) (b o : ℕ) (γ : GName) (ys : List TokenRecord)
     (pool out : RefT (List ℕ))
     (b-room : Room u8 (length (book .now))) (room : Room T.the-row (length ys)) (p-room : Room u8 (length (pool .now)))
-        (o-room : Room u8 (length (out .now))) where
+    (o-room : Room u8 (length (out .now))) where
   abbrev bk : List ℕ
   bk = book .now
 
@@ -197,7 +201,7 @@ module _ {M : Type 1} (𝓤 : URA M) (H : Heap 𝓤) (A : Atoms 𝓤) (W : Given
   exits r u zs e p =
       qed W (Ended r u zs) ∵
       suffices ! _ (ends-at 𝓤 H A print-tokens.ended stayed (print-tokens.clauses 𝓤 H A mem run) W
-          ((κs, (q₀, (q₁, (q₂, (q₃, tt)))), tt, x, at), tt) u r (tt, (tt, (tt, (zs, tt)))) (tt, (tt, (tt, (e, tt))))) $
+      ((κs, (q₀, (q₁, (q₂, (q₃, tt)))), tt, x, at), tt) u r (tt, (tt, (tt, (zs, tt)))) (tt, (tt, (tt, (e, tt))))) $
       says ! (p .answer, p .out) $
       nothing ! $ move ! (3 ∷ 0 ∷ []) $ join ! $ move ! (8 ∷ 0 ∷ []) $ join ! $ move ! (6 ∷ 0 ∷ []) $ join ! $ move ! (4 ∷ 0 ∷ []) $
       join ! $ frame ! $ nothing ! $ move ! (2 ∷ 0 ∷ []) $ fjoin ! $ move ! (4 ∷ 0 ∷ []) $ fjoin ! $ move ! (3 ∷ 0 ∷ []) $ fjoin ! $
@@ -221,15 +225,28 @@ module _ {M : Type 1} (𝓤 : URA M) (H : Heap 𝓤) (A : Atoms 𝓤) (W : Given
     -- ---- `begin`, with the tables lent for ν₁, ν₂ and ν₃
     module _ (ν₁ ν₂ ν₃ : ℕ) (γ₁ γ₂ γ₃ : GName) where
       abbrev lent-to : RefT (List ℕ) × (RefT (List ℕ) × (RefT (List ℕ) × (RefT (List ℕ) × (ℕ × Unit {0}))))
-      lent-to = (book, (ref-at w64 32 l₅ γ₁ (replicate 32 0),
-          (ref-at w16 8192 l₆ γ₂ (replicate 8192 0), (ref-at w64 8192 l₇ γ₃ (replicate 8192 0), (n, tt)))))
+      lent-to = (
+        book,
+        (
+          ref-at w64 32 l₅ γ₁ (replicate 32 0),
+          (ref-at w16 8192 l₆ γ₂ (replicate 8192 0), (ref-at w64 8192 l₇ γ₃ (replicate 8192 0), (n, tt))),
+        ),
+      )
 
       abbrev lent-for : Lft × (Lft × (Lft × (Lft × Unit {0})))
       lent-for = (κ₀, (ν₁ ∷ [], (ν₂ ∷ [], (ν₃ ∷ [], tt))))
 
       abbrev to-begin : Begin 𝓤 H A mem run .Ghost
-      to-begin = ((lent-for, (q₀, (fullShare, (fullShare, (fullShare, tt)))), tt, lent-to,
-          (vb ∷ [], (vptr l₅ 0 ∷ [], (vptr l₆ 0 ∷ [], (vptr l₇ 0 ∷ [], (vint w64 n ∷ [], tt)))))), tt)
+      to-begin = (
+        (
+          lent-for,
+          (q₀, (fullShare, (fullShare, (fullShare, tt)))),
+          tt,
+          lent-to,
+          (vb ∷ [], (vptr l₅ 0 ∷ [], (vptr l₆ 0 ∷ [], (vptr l₇ 0 ∷ [], (vint w64 n ∷ [], tt))))),
+        ),
+        tt,
+      )
 
       abbrev LentToks : Item 𝓤
       LentToks = ‵ (flft κ₀ q₀) ⊛ (‵ (flft (ν₁ ∷ []) fullShare) ⊛ (‵ (flft (ν₂ ∷ []) fullShare) ⊛ (‵ (flft (ν₃ ∷ []) fullShare) ⊛ ‵ ftrue)))
@@ -271,13 +288,28 @@ module _ {M : Type 1} (𝓤 : URA M) (H : Heap 𝓤) (A : Atoms 𝓤) (W : Given
 
           abbrev stepped : TokenRecord → RefT (List ℕ)
               × (RefT (List ℕ) × (RefT (List ℕ) × (RefT (List ℕ) × (RefT (List ℕ) × (Stage × (TokenRecord × (ℕ × Unit {0})))))))
-          stepped k = (ref-at w64 32 l₅ γ₁ hs,
-              (ref-at w16 8192 l₆ γ₂ ss, (ref-at w64 8192 l₇ γ₃ es, (ref-at w8 65536 l₈ δ scr, (pool, (t, (k, (n, tt))))))))
+          stepped k = (
+            ref-at w64 32 l₅ γ₁ hs,
+            (ref-at w16 8192 l₆ γ₂ ss, (ref-at w64 8192 l₇ γ₃ es, (ref-at w8 65536 l₈ δ scr, (pool, (t, (k, (n, tt))))))),
+          )
 
           abbrev to-step : TokenRecord → Step 𝓤 H A mem run .Ghost
-          to-step k = ((step-for, (fullShare, (fullShare, (fullShare, (fullShare, (q₂, tt))))), tt, stepped k,
-              (vptr l₅ 0 ∷ [], (vptr l₆ 0 ∷ [],
-              (vptr l₇ 0 ∷ [], (vptr l₈ 0 ∷ [], (v ∷ [], (S′.lowered t ∷ [], (T′.lowered k ∷ [], (vint w64 n ∷ [], tt))))))))), tt)
+          to-step k = (
+            (
+              step-for,
+              (fullShare, (fullShare, (fullShare, (fullShare, (q₂, tt))))),
+              tt,
+              stepped k,
+              (
+                vptr l₅ 0 ∷ [],
+                (
+                  vptr l₆ 0 ∷ [],
+                  (vptr l₇ 0 ∷ [], (vptr l₈ 0 ∷ [], (v ∷ [], (S′.lowered t ∷ [], (T′.lowered k ∷ [], (vint w64 n ∷ [], tt)))))),
+                ),
+              ),
+            ),
+            tt,
+          )
 
           goes-step : (k : TokenRecord) → IsStage t → IsToken k → Steps hs ss es scr pl t k
               → ent 𝓤 (⋆ 𝓤 H A (StepToks ∷ ‵ Scratch ∷ Tabs ∷ [])) (Step 𝓤 H A mem run .pre (to-step k))
@@ -299,8 +331,16 @@ module _ {M : Type 1} (𝓤 : URA M) (H : Heap 𝓤) (A : Atoms 𝓤) (W : Given
           finished = (ref-at w8 65536 l₈ δ scr, (t, (out, tt)))
 
           abbrev to-finish : Finish 𝓤 H A mem run .Ghost
-          to-finish = (((ν ∷ [], (κ₃, tt)), (fullShare, (q₃, tt)), tt, finished,
-              (vptr l₈ 0 ∷ [], (S′.lowered t ∷ [], (w (length os) ∷ [], tt)))), tt)
+          to-finish = (
+            (
+              (ν ∷ [], (κ₃, tt)),
+              (fullShare, (q₃, tt)),
+              tt,
+              finished,
+              (vptr l₈ 0 ∷ [], (S′.lowered t ∷ [], (w (length os) ∷ [], tt))),
+            ),
+            tt,
+          )
 
           goes-finish : IsStage t → t .total ≤ length scr
               → ent 𝓤 (⋆ 𝓤 H A ((‵ (flft (ν ∷ []) fullShare) ⊛ (‵ (flft κ₃ q₃) ⊛ ‵ ftrue)) ∷ ‵ Read ∷ ‵ OwnOut ∷ []))
@@ -380,22 +420,22 @@ module _ {M : Type 1} (𝓤 : URA M) (H : Heap 𝓤) (A : Atoms 𝓤) (W : Given
         Around i t₁₈ = ‵ (partAt (Words w8 65536) fullShare (i .1 .0) l₈ 0) ∷ Tabs ∷ ‵ (flft (ν₁ ∷ []) fullShare)
             ∷ ‵ (flft (ν₂ ∷ []) fullShare) ∷ ‵ (flft (ν₃ ∷ []) fullShare) ∷ ‵ (flft κ₂ q₂) ∷ ‵ OwnTs ∷ ‵ (flft κ₁ q₁) ∷ Side
             ∷ ‵ (froom bytes l₂₅ 0) ∷ ‵ (fdies bytes l₂₅) ∷ ‵ (froom byte l₂₄ 0) ∷ ‵ (fdies byte l₂₄) ∷ ‵ (froom (shared w8 65536) l₂₃ 0)
-                ∷ ‵ (fdies (shared w8 65536) l₂₃)
+            ∷ ‵ (fdies (shared w8 65536) l₂₃)
             ∷ ‵ (froom T′.mir l₂₂ 0) ∷ ‵ (fdies T′.mir l₂₂) ∷ ‵ (froom tyPtr l₂₁ 0) ∷ ‵ (fdies tyPtr l₂₁) ∷ ‵ (froom word l₂₀ 0)
-                ∷ ‵ (fdies word l₂₀)
+            ∷ ‵ (fdies word l₂₀)
             ∷ ‵ (froom (lent w8 65536) l₁₉ 0) ∷ ‵ (fdies (lent w8 65536) l₁₉) ∷ t₁₈ ∷ ‵ (fdies tyBool l₁₈) ∷ ‵ (froom (lent w64 8192) l₁₇ 0)
-                ∷ ‵ (fdies (lent w64 8192) l₁₇)
+            ∷ ‵ (fdies (lent w64 8192) l₁₇)
             ∷ ‵ (froom (lent w16 8192) l₁₆ 0) ∷ ‵ (fdies (lent w16 8192) l₁₆) ∷ ‵ (froom (lent w64 32) l₁₅ 0) ∷ ‵ (fdies (lent w64 32) l₁₅)
-                ∷ ‵ (froom word l₁₄ 0) ∷ ‵ (fdies word l₁₄)
+            ∷ ‵ (froom word l₁₄ 0) ∷ ‵ (fdies word l₁₄)
             ∷ ‵ (fat fullShare (shared w64 8192) l₁₃ 0 (vptr l₇ 0)) ∷ ‵ (fdies (shared w64 8192) l₁₃)
-                ∷ ‵ (fat fullShare (shared w16 8192) l₁₂ 0 (vptr l₆ 0)) ∷ ‵ (fdies (shared w16 8192) l₁₂)
-                ∷ ‵ (fat fullShare (shared w64 32) l₁₁ 0 (vptr l₅ 0)) ∷ ‵ (fdies (shared w64 32) l₁₁)
+            ∷ ‵ (fat fullShare (shared w16 8192) l₁₂ 0 (vptr l₆ 0)) ∷ ‵ (fdies (shared w16 8192) l₁₂)
+            ∷ ‵ (fat fullShare (shared w64 32) l₁₁ 0 (vptr l₅ 0)) ∷ ‵ (fdies (shared w64 32) l₁₁)
             ∷ ‵ (fat fullShare S′.mir l₁₀ 0 (S′.lowered (i .0))) ∷ ‵ (fdies S′.mir l₁₀) ∷ ‵ (fat fullShare word l₉ 0 (vint w64 n))
-                ∷ ‵ (fdies word l₉) ∷ ‵ (fdies (words w8 65536) l₈) ∷ ‵ (fdies (words w64 8192) l₇)
+            ∷ ‵ (fdies word l₉) ∷ ‵ (fdies (words w8 65536) l₈) ∷ ‵ (fdies (words w64 8192) l₇)
             ∷ ‵ (fdies (words w16 8192) l₆) ∷ ‵ (fdies (words w64 32) l₅) ∷ ‵ (fat fullShare outs l₄ 0 (w (length os))) ∷ ‵ (fdies outs l₄)
-                ∷ ‵ (fat fullShare pools l₃ 0 v) ∷ ‵ (fdies pools l₃)
+            ∷ ‵ (fat fullShare pools l₃ 0 v) ∷ ‵ (fdies pools l₃)
             ∷ ‵ (fat fullShare tokens l₂ 0 s) ∷ ‵ (fdies tokens l₂) ∷ ‵ (fat fullShare books l₁ 0 vb) ∷ ‵ (fdies books l₁)
-                ∷ ‵ (froom L′.mir l₀ 0) ∷ ‵ (fdies L′.mir l₀) ∷ []
+            ∷ ‵ (froom L′.mir l₀ 0) ∷ ‵ (fdies L′.mir l₀) ∷ []
 
         abbrev At : Var → List (Item 𝓤)
         At i = Around i (‵ (froom tyBool l₁₈ 0))
@@ -411,29 +451,29 @@ module _ {M : Type 1} (𝓤 : URA M) (H : Heap 𝓤) (A : Atoms 𝓤) (W : Given
         leaves i off =
             assigns ! (addr ! (from ! (stop !))) (from ! (stop !)) (init ! 13 refl (tt, tt)) $
             assigns ! (addr ! (from ! (fld ! refl (hop ! (look-in ! 47 (sub ! 0 refl (whole !))) (stop !))))) (from ! (stop !))
-                (init ! 11 refl (tt, tt)) $
+            (init ! 11 refl (tt, tt)) $
             assigns ! (agg ! (and-then ! (load ! (from ! (stop !)) (look ! 11 refl))
-                (and-then ! (load ! (from ! (fld ! refl (stop !))) (look-in ! 47 (sub ! 1 refl (whole !)))) (no-more !)))) (from ! (stop !))
-                (init ! 9 refl (tt, (tt, (record { fits = o-room .0 }, tt)))) $
+            (and-then ! (load ! (from ! (fld ! refl (stop !))) (look-in ! 47 (sub ! 1 refl (whole !)))) (no-more !)))) (from ! (stop !))
+            (init ! 9 refl (tt, (tt, (record { fits = o-room .0 }, tt)))) $
             move ! (8 ∷ []) $ split ! $ move ! (1 ∷ []) $ split ! $ move ! (1 ∷ []) $ split ! $ move ! (1 ∷ []) $ split ! $
             move ! (1 ∷ []) $ split ! $ move ! (1 ∷ []) $ split ! $
             -- `finish`, with the scratch lent for a lifetime of the call
             move ! (7 ∷ []) $ shares-lying ! tt (named 0) w8 65536 l₈ (i .1 .0) (λ ν δ.
             nothing ! $ move ! (5 ∷ 0 ∷ []) $ join ! $ move ! (3 ∷ 0 ∷ []) $ join ! $ move ! (0 ∷ 1 ∷ 3 ∷ []) $
             use3 W (raw (Finish 𝓤 H A mem run .pre (to-finish ν δ (i .0) (i .1 .0))))
-                (goes-finish ν δ (i .0) (i .1 .0) (staged i) (total-in i off)) $
+            (goes-finish ν δ (i .0) (i .1 .0) (staged i) (total-in i off)) $
             calls-at ! (fmOf 𝓤 H (W .laws) 𝓣) (Finish 𝓤 H A mem run) known-finish (to-finish ν δ (i .0) (i .1 .0))
-                (and-then ! (load ! (from ! (stop !)) (look ! 18 refl))
-                (and-then ! (load ! (from ! (stop !)) (look ! 44 refl))
-                (and-then ! (load ! (from ! (stop !)) (look ! 14 refl)) (no-more !)))) (λ u.
+            (and-then ! (load ! (from ! (stop !)) (look ! 18 refl))
+            (and-then ! (load ! (from ! (stop !)) (look ! 44 refl))
+            (and-then ! (load ! (from ! (stop !)) (look ! 14 refl)) (no-more !)))) (λ u.
             use1 W (later (some (λ (r : PrintAnswer). ((‵ (flft (ν ∷ []) fullShare) ⊛ (‵ (flft κ₃ q₃) ⊛ ‵ ftrue))
-                ⊛ ‵ (L.the-row .own r (u ∷ [])))
-                ⊛ raw (ensured 𝓤 H A finish.ended (finish.clauses 𝓤 H A mem run) (ν ∷ [], (κ₃, tt)) (finished ν δ (i .0) (i .1 .0)) tt r))))
-                (id⊢ 𝓤 _) $ await ! tt $ pick ! (λ r.
+            ⊛ ‵ (L.the-row .own r (u ∷ [])))
+            ⊛ raw (ensured 𝓤 H A finish.ended (finish.clauses 𝓤 H A mem run) (ν ∷ [], (κ₃, tt)) (finished ν δ (i .0) (i .1 .0)) tt r))))
+            (id⊢ 𝓤 _) $ await ! tt $ pick ! (λ r.
             split ! $ move ! (1 ∷ []) $ use1 W
-                (some (λ (zs : Unit {0} × (Unit {0} × (List ℕ × Unit {0}))). ‵
-                (lasts finish.ended (ν ∷ [], (κ₃, tt)) (finished ν δ (i .0) (i .1 .0)) zs)
-                ⊛ raw (fact 𝓤 (Finishes (i .1 .0) (i .0) os r (zs .1 .1 .0))))) (id⊢ 𝓤 _) $ pick ! (λ zs.
+            (some (λ (zs : Unit {0} × (Unit {0} × (List ℕ × Unit {0}))). ‵
+            (lasts finish.ended (ν ∷ [], (κ₃, tt)) (finished ν δ (i .0) (i .1 .0)) zs)
+            ⊛ raw (fact 𝓤 (Finishes (i .1 .0) (i .0) os r (zs .1 .1 .0))))) (id⊢ 𝓤 _) $ pick ! (λ zs.
             split ! $ move ! (1 ∷ []) $ heard ! (Finishes (i .1 .0) (i .0) os r (zs .1 .1 .0)) (λ said.
             fsplit ! $ drop ! $ fsplit ! $ drop ! $ fsplit ! $ move ! (1 ∷ []) $ drop ! $ fsplit ! $ move ! (1 ∷ []) $ feqL ! (λ same.
             move ! (1 ∷ []) $ split ! $ move ! (1 ∷ []) $ peeks ! L.the-row (Is L.the-row) (shows 𝓤 H A L.the-row) r (u ∷ []) (λ is.
@@ -455,22 +495,22 @@ module _ {M : Type 1} (𝓤 : URA M) (H : Heap 𝓤) (A : Atoms 𝓤) (W : Given
         unfolding afterTurn
         goes-on i on =
             assigns ! (of-opd ! (load ! (from ! (fld ! refl (stop !))) (look-in ! 39 (sub ! 2 refl (whole !))))) (from ! (stop !))
-                (init ! 31 refl (tt, (fitting i) .1 .1 .1 .0)) $
+            (init ! 31 refl (tt, (fitting i) .1 .1 .1 .0)) $
             assigns ! (addr ! (from ! (stop !))) (from ! (stop !)) (init ! 21 refl (tt, tt)) $
             assigns ! (bin ! (load ! (from ! (stop !)) (look ! 31 refl)) (lit ! tt) (record { fits = scaled i on })) (from ! (stop !))
-                (init ! 19 refl (tt, record { fits = scaled i on })) $
+            (init ! 19 refl (tt, record { fits = scaled i on })) $
             assigns ! (bin ! (load ! (from ! (fld ! refl (stop !))) (look-in ! 51 (sub ! 0 refl (whole !))))
-                (load ! (from ! (stop !)) (look ! 19 refl)) tt) (from ! (stop !)) (init ! 17 refl (tt, tt)) $
+            (load ! (from ! (stop !)) (look ! 19 refl)) tt) (from ! (stop !)) (init ! 17 refl (tt, tt)) $
             rewrite ! 17 (λ (z : ℕ). ‵ (fat fullShare tyPtr l₂₁ 0 (vptr b z))) (sym (place-is 12 o (i .0 .index))) refl $
             -- the token at the index, by a copy of the slice
             move ! (6 ∷ []) $ use1 W (‵ OwnTs ⊛ ‵ OwnTs) (shr-slice-copy 𝓤 H A W (named 1) κ₁ T.the-row .twice ts (s ∷ [])) $ split ! $
             fsplit ! $ drop ! $ fsplit ! $ drop ! $ move ! (0 ∷ 8 ∷ []) $
             looks-slice ! tt T.the-row (Is T.the-row) (shows 𝓤 H A T.the-row) (LL.vals T.the-type T′.the-laws)
-                (LL.tells T.the-type T′.the-laws) ((LL.copy T.the-type T′.the-copy) 𝓤 H A W) ys b o (λ q′.
+            (LL.tells T.the-type T′.the-laws) ((LL.copy T.the-type T′.the-copy) 𝓤 H A W) ys b o (λ q′.
             elem-out ! T.the-row (Is T.the-row) (shows 𝓤 H A T.the-row) (LL.vals T.the-type T′.the-laws) (LL.tells T.the-type T′.the-laws)
-                q′ ys (i .0 .index) noRecord b o (within i on) (λ g.
+            q′ ys (i .0 .index) noRecord b o (within i on) (λ g.
             assigns ! (of-opd ! (load ! (from ! (hop ! (look ! 21 refl) (stop !))) (look-raw ! 0 refl))) (from ! (stop !))
-                (init ! 19 refl (LL.lawful T.the-type T′.the-laws 𝓤 H A W .typed (elem i) _ g .0)) $
+            (init ! 19 refl (LL.lawful T.the-type T′.the-laws 𝓤 H A W .typed (elem i) _ g .0)) $
             elem-back ! T.the-row q′ ys (i .0 .index) noRecord (T′.lowered (elem i) ∷ []) b o (within i on) $
             shuts-slice ! tt T.the-row q′ ys b o $ move ! (1 ∷ []) $ drop ! $
             -- `step`, with the scratch lent for a lifetime of the call and a copy of the tables and the pool
@@ -480,24 +520,24 @@ module _ {M : Type 1} (𝓤 : URA M) (H : Heap 𝓤) (A : Atoms 𝓤) (W : Given
             use1 W (Tabs ⊛ Tabs) (passed-on-twice 𝓤 H A W l₅ l₆ l₇ hs ss es ν₁ ν₂ ν₃ γ₁ γ₂ γ₃ (named 2) κ₂ pool v) $ split ! $
             move ! (2 ∷ 3 ∷ 0 ∷ []) $
             use3 W (raw (Step 𝓤 H A mem run .pre (to-step ν δ (i .0) (i .1 .0) (elem i))))
-                (goes-step ν δ (i .0) (i .1 .0) (elem i) (staged i) g (steps i on g)) $
+            (goes-step ν δ (i .0) (i .1 .0) (elem i) (staged i) g (steps i on g)) $
             calls-at-last ! (fmOf 𝓤 H (W .laws) 𝓣) (Step 𝓤 H A mem run) known-step (to-step ν δ (i .0) (i .1 .0) (elem i))
             (and-then ! (load ! (from ! (stop !)) (look ! 34 refl))
-                (and-then ! (load ! (from ! (stop !)) (look ! 32 refl))
-                (and-then ! (load ! (from ! (stop !)) (look ! 30 refl))
-                (and-then ! (load ! (from ! (stop !)) (look ! 18 refl))
-                (and-then ! (load ! (from ! (stop !)) (look ! 46 refl))
-                (and-then ! (load ! (from ! (stop !)) (look ! 36 refl))
-                (and-then ! (load ! (from ! (stop !)) (look ! 12 refl))
-                (and-then ! (load ! (from ! (stop !)) (look ! 38 refl)) (no-more !))))))))) (λ u.
+            (and-then ! (load ! (from ! (stop !)) (look ! 32 refl))
+            (and-then ! (load ! (from ! (stop !)) (look ! 30 refl))
+            (and-then ! (load ! (from ! (stop !)) (look ! 18 refl))
+            (and-then ! (load ! (from ! (stop !)) (look ! 46 refl))
+            (and-then ! (load ! (from ! (stop !)) (look ! 36 refl))
+            (and-then ! (load ! (from ! (stop !)) (look ! 12 refl))
+            (and-then ! (load ! (from ! (stop !)) (look ! 38 refl)) (no-more !))))))))) (λ u.
             use1 W (later (some (λ (r : Stage). (StepToks ν ⊛ ‵ (S.the-row .own r (u ∷ [])))
-                ⊛ raw (ensured 𝓤 H A step.ended (step.clauses 𝓤 H A mem run) (step-for ν) (stepped ν δ (i .0) (i .1 .0) (elem i)) tt r))))
-                (id⊢ 𝓤 _) $ await ! tt $ pick ! (λ r.
+            ⊛ raw (ensured 𝓤 H A step.ended (step.clauses 𝓤 H A mem run) (step-for ν) (stepped ν δ (i .0) (i .1 .0) (elem i)) tt r))))
+            (id⊢ 𝓤 _) $ await ! tt $ pick ! (λ r.
             split ! $ move ! (1 ∷ []) $ use1 W
-                (some (λ (zs : Unit {0} × (Unit {0}
-                × (Unit {0} × (List ℕ × (Unit {0} × (Unit {0} × (Unit {0} × (Unit {0} × Unit {0})))))))). ‵
-                (lasts step.ended (step-for ν) (stepped ν δ (i .0) (i .1 .0) (elem i)) zs)
-                ⊛ raw (fact 𝓤 (Said (i .0) (i .1 .0) (elem i) (zs .1 .1 .1 .0) r)))) (id⊢ 𝓤 _) $ pick ! (λ zs.
+            (some (λ (zs : Unit {0} × (Unit {0}
+            × (Unit {0} × (List ℕ × (Unit {0} × (Unit {0} × (Unit {0} × (Unit {0} × Unit {0})))))))). ‵
+            (lasts step.ended (step-for ν) (stepped ν δ (i .0) (i .1 .0) (elem i)) zs)
+            ⊛ raw (fact 𝓤 (Said (i .0) (i .1 .0) (elem i) (zs .1 .1 .1 .0) r)))) (id⊢ 𝓤 _) $ pick ! (λ zs.
             split ! $ move ! (1 ∷ []) $ heard ! (Said (i .0) (i .1 .0) (elem i) (zs .1 .1 .1 .0) r) (λ said.
             fsplit ! $ drop ! $ fsplit ! $ drop ! $ fsplit ! $ drop ! $ fsplit ! $ move ! (1 ∷ []) $ drop ! $ move ! (1 ∷ []) $ split ! $
             move ! (1 ∷ []) $ peeks ! S.the-row (Is S.the-row) (shows 𝓤 H A S.the-row) r (u ∷ []) (λ is.
@@ -507,15 +547,20 @@ module _ {M : Type 1} (𝓤 : URA M) (H : Heap 𝓤) (A : Atoms 𝓤) (W : Given
             rewrite ! 41 (λ (z : Val). ‵ (fat fullShare S′.mir l₁₀ 0 z)) (ap only (LL.tells S.the-type S′.the-laws r _ is)) refl $
             forget ! 25 refl $ forget ! 33 refl $ forget ! 23 refl $ forget ! 21 refl $ forget ! 19 refl $ forget ! 17 refl $
             move ! (2 ∷ 6 ∷ 0 ∷ 7 ∷ 5 ∷ 4 ∷ 3 ∷ 1 ∷ 9 ∷ 8 ∷ []) $ drop ! $ drop ! $
-            again ! Nearer At i (r, (zs .1 .1 .1 .0,
-                (i .1 .1 .0 - 1, facts-on i on g said (subst (Is S.the-row r) (LL.tells S.the-type S′.the-laws r _ is) is))))
-                (omega (arith, going-index (going i) (is-true (i .0 .more) on) .1))))))))))
+            again ! Nearer At i (
+              r,
+              (
+                zs .1 .1 .1 .0,
+                (i .1 .1 .0 - 1, facts-on i on g said (subst (Is S.the-row r) (LL.tells S.the-type S′.the-laws r _ is) is)),
+              ),
+            )
+            (omega (arith, going-index (going i) (is-true (i .0 .more) on) .1))))))))))
 
         turns : (i : Var) → Sq W (At i) (runs C Λ En body.turn-1 (anyQ (Turned i)))
         unfolding afterTurn
         turns i =
             assigns ! (of-opd ! (load ! (from ! (fld ! refl (stop !))) (look-in ! 39 (sub ! 0 refl (whole !))))) (from ! (stop !))
-                (init ! 23 refl (tt, tt)) $
+            (init ! 23 refl (tt, tt)) $
             tests ! (load ! (from ! (stop !)) (look ! 23 refl)) (λ on. goes-on i on) (λ off. exec ! C Λ En body.t-14 (atRet En Post) $
             leaves i off)
 
@@ -535,22 +580,22 @@ module _ {M : Type 1} (𝓤 : URA M) (H : Heap 𝓤) (A : Atoms 𝓤) (W : Given
             ∷ ‵ (flft κ₃ q₃)
             ∷ ‵ (flft κ₂ q₂) ∷ ‵ (flft κ₁ q₁) ∷ ‵ OwnOut ∷ ‵ OwnPool ∷ ‵ OwnTs ∷ ‵ OwnBook
             ∷ ‵ (froom bytes l₂₅ 0) ∷ ‵ (fdies bytes l₂₅) ∷ ‵ (froom byte l₂₄ 0) ∷ ‵ (fdies byte l₂₄) ∷ ‵ (froom (shared w8 65536) l₂₃ 0)
-                ∷ ‵ (fdies (shared w8 65536) l₂₃)
+            ∷ ‵ (fdies (shared w8 65536) l₂₃)
             ∷ ‵ (froom T′.mir l₂₂ 0) ∷ ‵ (fdies T′.mir l₂₂) ∷ ‵ (froom tyPtr l₂₁ 0) ∷ ‵ (fdies tyPtr l₂₁) ∷ ‵ (froom word l₂₀ 0)
-                ∷ ‵ (fdies word l₂₀)
+            ∷ ‵ (fdies word l₂₀)
             ∷ ‵ (froom (lent w8 65536) l₁₉ 0) ∷ ‵ (fdies (lent w8 65536) l₁₉) ∷ ‵ (froom tyBool l₁₈ 0) ∷ ‵ (fdies tyBool l₁₈)
-                ∷ ‵ (fat fullShare (lent w64 8192) l₁₇ 0 (vptr l₇ 0)) ∷ ‵ (fdies (lent w64 8192) l₁₇)
+            ∷ ‵ (fat fullShare (lent w64 8192) l₁₇ 0 (vptr l₇ 0)) ∷ ‵ (fdies (lent w64 8192) l₁₇)
             ∷ ‵ (fat fullShare (lent w16 8192) l₁₆ 0 (vptr l₆ 0)) ∷ ‵ (fdies (lent w16 8192) l₁₆)
-                ∷ ‵ (fat fullShare (lent w64 32) l₁₅ 0 (vptr l₅ 0)) ∷ ‵ (fdies (lent w64 32) l₁₅) ∷ ‵ (froom word l₁₄ 0)
-                ∷ ‵ (fdies word l₁₄)
+            ∷ ‵ (fat fullShare (lent w64 32) l₁₅ 0 (vptr l₅ 0)) ∷ ‵ (fdies (lent w64 32) l₁₅) ∷ ‵ (froom word l₁₄ 0)
+            ∷ ‵ (fdies word l₁₄)
             ∷ ‵ (froom (shared w64 8192) l₁₃ 0) ∷ ‵ (fdies (shared w64 8192) l₁₃) ∷ ‵ (froom (shared w16 8192) l₁₂ 0)
-                ∷ ‵ (fdies (shared w16 8192) l₁₂) ∷ ‵ (froom (shared w64 32) l₁₁ 0) ∷ ‵ (fdies (shared w64 32) l₁₁)
+            ∷ ‵ (fdies (shared w16 8192) l₁₂) ∷ ‵ (froom (shared w64 32) l₁₁ 0) ∷ ‵ (fdies (shared w64 32) l₁₁)
             ∷ ‵ (fat fullShare S′.mir l₁₀ 0 (S′.lowered r)) ∷ ‵ (fdies S′.mir l₁₀) ∷ ‵ (fat fullShare word l₉ 0 (vint w64 n))
-                ∷ ‵ (fdies word l₉) ∷ ‵ (fdies (words w8 65536) l₈) ∷ ‵ (fdies (words w64 8192) l₇)
+            ∷ ‵ (fdies word l₉) ∷ ‵ (fdies (words w8 65536) l₈) ∷ ‵ (fdies (words w64 8192) l₇)
             ∷ ‵ (fdies (words w16 8192) l₆) ∷ ‵ (fdies (words w64 32) l₅) ∷ ‵ (fat fullShare outs l₄ 0 (w (length os))) ∷ ‵ (fdies outs l₄)
-                ∷ ‵ (fat fullShare pools l₃ 0 v) ∷ ‵ (fdies pools l₃)
+            ∷ ‵ (fat fullShare pools l₃ 0 v) ∷ ‵ (fdies pools l₃)
             ∷ ‵ (fat fullShare tokens l₂ 0 s) ∷ ‵ (fdies tokens l₂) ∷ ‵ (fat fullShare books l₁ 0 vb) ∷ ‵ (fdies books l₁)
-                ∷ ‵ (froom L′.mir l₀ 0) ∷ ‵ (fdies L′.mir l₀) ∷ []) (runs (𝓣 .C) (𝓣 .Λ) Env₀ body.t-10 (atRet Env₀ Post))
+            ∷ ‵ (froom L′.mir l₀ 0) ∷ ‵ (fdies L′.mir l₀) ∷ []) (runs (𝓣 .C) (𝓣 .Λ) Env₀ body.t-10 (atRet Env₀ Post))
         shared-out =
             assigns ! (addr ! (from ! (stop !))) (from ! (stop !)) (init ! 40 refl (tt, tt)) $
             assigns ! (addr ! (from ! (stop !))) (from ! (stop !)) (init ! 38 refl (tt, tt)) $
@@ -563,41 +608,48 @@ module _ {M : Type 1} (𝓤 : URA M) (H : Heap 𝓤) (A : Atoms 𝓤) (W : Given
             move ! (4 ∷ 0 ∷ []) $ join ! $ move ! (2 ∷ 0 ∷ []) $ join ! $
             move ! (5 ∷ 1 ∷ 2 ∷ 3 ∷ 4 ∷ 6 ∷ 8 ∷ 7 ∷ 0 ∷ []) $
             first ! $ blocks ! $ loops ! 𝓣 (Nearer l₅ l₆ l₇ l₈ hs ss es ν₁ ν₂ ν₃ γ₁ γ₂ γ₃)
-                (Nearer-wf l₅ l₆ l₇ l₈ hs ss es ν₁ ν₂ ν₃ γ₁ γ₂ γ₃)
+            (Nearer-wf l₅ l₆ l₇ l₈ hs ss es ν₁ ν₂ ν₃ γ₁ γ₂ γ₃)
             (At l₅ l₆ l₇ l₈ hs ss es ν₁ ν₂ ν₃ γ₁ γ₂ γ₃ 𝓣 known-step known-finish l₀ l₁ l₂ l₃ l₄ l₉ l₁₀ l₁₁ l₁₂ l₁₃ l₁₄ l₁₅ l₁₆ l₁₇ l₁₈ l₁₉
-                l₂₀ l₂₁ l₂₂ l₂₃ l₂₄ l₂₅)
+            l₂₀ l₂₁ l₂₂ l₂₃ l₂₄ l₂₅)
             (turns l₅ l₆ l₇ l₈ hs ss es ν₁ ν₂ ν₃ γ₁ γ₂ γ₃ 𝓣 known-step known-finish l₀ l₁ l₂ l₃ l₄ l₉ l₁₀ l₁₁ l₁₂ l₁₃ l₁₄ l₁₅ l₁₆ l₁₇ l₁₈
-                l₁₉ l₂₀ l₂₁ l₂₂ l₂₃ l₂₄ l₂₅)
-            (r, (replicate 65536 0, (3 * recordCount (encoded ys),
-                (length-replicate {A = ℕ} 65536 0, (going-start (replicate 65536 0) begun (count-encoded ys), is))))))))
+            l₁₉ l₂₀ l₂₁ l₂₂ l₂₃ l₂₄ l₂₅) (
+              r,
+              (
+                replicate 65536 0,
+                (
+                  3 * recordCount (encoded ys),
+                  (length-replicate {A = ℕ} 65536 0, (going-start (replicate 65536 0) begun (count-encoded ys), is)),
+                ),
+              ),
+            ))))
 
       started : Sq W (‵ (froom bytes l₂₅ 0) ∷ ‵ (fdies bytes l₂₅) ∷ ‵ (froom byte l₂₄ 0) ∷ ‵ (fdies byte l₂₄)
           ∷ ‵ (froom (shared w8 65536) l₂₃ 0) ∷ ‵ (fdies (shared w8 65536) l₂₃)
           ∷ ‵ (froom T′.mir l₂₂ 0) ∷ ‵ (fdies T′.mir l₂₂) ∷ ‵ (froom tyPtr l₂₁ 0) ∷ ‵ (fdies tyPtr l₂₁) ∷ ‵ (froom word l₂₀ 0)
-              ∷ ‵ (fdies word l₂₀)
+          ∷ ‵ (fdies word l₂₀)
           ∷ ‵ (froom (lent w8 65536) l₁₉ 0) ∷ ‵ (fdies (lent w8 65536) l₁₉) ∷ ‵ (froom tyBool l₁₈ 0) ∷ ‵ (fdies tyBool l₁₈)
-              ∷ ‵ (froom (lent w64 8192) l₁₇ 0) ∷ ‵ (fdies (lent w64 8192) l₁₇)
+          ∷ ‵ (froom (lent w64 8192) l₁₇ 0) ∷ ‵ (fdies (lent w64 8192) l₁₇)
           ∷ ‵ (froom (lent w16 8192) l₁₆ 0) ∷ ‵ (fdies (lent w16 8192) l₁₆) ∷ ‵ (froom (lent w64 32) l₁₅ 0) ∷ ‵ (fdies (lent w64 32) l₁₅)
-              ∷ ‵ (froom word l₁₄ 0) ∷ ‵ (fdies word l₁₄)
+          ∷ ‵ (froom word l₁₄ 0) ∷ ‵ (fdies word l₁₄)
           ∷ ‵ (froom (shared w64 8192) l₁₃ 0) ∷ ‵ (fdies (shared w64 8192) l₁₃) ∷ ‵ (froom (shared w16 8192) l₁₂ 0)
-              ∷ ‵ (fdies (shared w16 8192) l₁₂) ∷ ‵ (froom (shared w64 32) l₁₁ 0) ∷ ‵ (fdies (shared w64 32) l₁₁)
+          ∷ ‵ (fdies (shared w16 8192) l₁₂) ∷ ‵ (froom (shared w64 32) l₁₁ 0) ∷ ‵ (fdies (shared w64 32) l₁₁)
           ∷ ‵ (froom S′.mir l₁₀ 0) ∷ ‵ (fdies S′.mir l₁₀) ∷ ‵ (froom word l₉ 0) ∷ ‵ (fdies word l₉) ∷ ‵ (froom (words w8 65536) l₈ 0)
-              ∷ ‵ (fdies (words w8 65536) l₈)
+          ∷ ‵ (fdies (words w8 65536) l₈)
           ∷ ‵ (froom (words w64 8192) l₇ 0) ∷ ‵ (fdies (words w64 8192) l₇) ∷ ‵ (froom (words w16 8192) l₆ 0)
-              ∷ ‵ (fdies (words w16 8192) l₆) ∷ ‵ (froom (words w64 32) l₅ 0) ∷ ‵ (fdies (words w64 32) l₅)
+          ∷ ‵ (fdies (words w16 8192) l₆) ∷ ‵ (froom (words w64 32) l₅ 0) ∷ ‵ (fdies (words w64 32) l₅)
           ∷ ‵ (fat fullShare outs l₄ 0 (w (length os))) ∷ ‵ (fdies outs l₄) ∷ ‵ (fat fullShare pools l₃ 0 v) ∷ ‵ (fdies pools l₃)
-              ∷ ‵ (fat fullShare tokens l₂ 0 s) ∷ ‵ (fdies tokens l₂)
+          ∷ ‵ (fat fullShare tokens l₂ 0 s) ∷ ‵ (fdies tokens l₂)
           ∷ ‵ (fat fullShare books l₁ 0 vb) ∷ ‵ (fdies books l₁) ∷ ‵ (froom L′.mir l₀ 0) ∷ ‵ (fdies L′.mir l₀)
-              ∷ (‵ (flft κ₀ q₀) ⊛ (‵ (flft κ₁ q₁) ⊛ (‵ (flft κ₂ q₂) ⊛ (‵ (flft κ₃ q₃) ⊛ ‵ ftrue))))
-              ∷ ‵ (owns (ShrSlice (named 0) κ₀ u8 ∷ ShrSlice (named 1) κ₁ T.the-row ∷ ShrSlice (named 2) κ₂ u8
-              ∷ MutSlice (named 3) κ₃ u8 ∷ []) x at) ∷ []) (runs (𝓣 .C) (𝓣 .Λ) Env₀ body.t-1 (atRet Env₀ Post))
+          ∷ (‵ (flft κ₀ q₀) ⊛ (‵ (flft κ₁ q₁) ⊛ (‵ (flft κ₂ q₂) ⊛ (‵ (flft κ₃ q₃) ⊛ ‵ ftrue))))
+          ∷ ‵ (owns (ShrSlice (named 0) κ₀ u8 ∷ ShrSlice (named 1) κ₁ T.the-row ∷ ShrSlice (named 2) κ₂ u8
+          ∷ MutSlice (named 3) κ₃ u8 ∷ []) x at) ∷ []) (runs (𝓣 .C) (𝓣 .Λ) Env₀ body.t-1 (atRet Env₀ Post))
       started =
           fills ! 40 tt (from ! (stop !)) refl $
           fills ! 38 tt (from ! (stop !)) refl $
           fills ! 36 tt (from ! (stop !)) refl $
           fills ! 34 tt (from ! (stop !)) refl $
           assigns ! (of-opd ! (load ! (from ! (fld ! refl (stop !))) (look-in ! 46 (sub ! 1 refl (whole !))))) (from ! (stop !))
-              (init ! 32 refl (tt, record { fits = room .0 })) $
+          (init ! 32 refl (tt, record { fits = room .0 })) $
           assigns ! (addr ! (from ! (stop !))) (from ! (stop !)) (init ! 20 refl (tt, tt)) $
           assigns ! (addr ! (from ! (stop !))) (from ! (stop !)) (init ! 18 refl (tt, tt)) $
           assigns ! (addr ! (from ! (stop !))) (from ! (stop !)) (init ! 16 refl (tt, tt)) $
@@ -615,17 +667,17 @@ module _ {M : Type 1} (𝓤 : URA M) (H : Heap 𝓤) (A : Atoms 𝓤) (W : Given
           use2 W (raw (Begin 𝓤 H A mem run .pre (to-begin l₅ l₆ l₇ l₈ ν₁ ν₂ ν₃ γ₁ γ₂ γ₃))) (goes-begin l₅ l₆ l₇ l₈ ν₁ ν₂ ν₃ γ₁ γ₂ γ₃) $
           calls-at ! (fmOf 𝓤 H (W .laws) 𝓣) (Begin 𝓤 H A mem run) known-begin (to-begin l₅ l₆ l₇ l₈ ν₁ ν₂ ν₃ γ₁ γ₂ γ₃)
           (and-then ! (load ! (from ! (stop !)) (look ! 56 refl))
-              (and-then ! (load ! (from ! (stop !)) (look ! 32 refl))
-              (and-then ! (load ! (from ! (stop !)) (look ! 30 refl))
-              (and-then ! (load ! (from ! (stop !)) (look ! 28 refl))
-              (and-then ! (load ! (from ! (stop !)) (look ! 44 refl)) (no-more !)))))) (λ u.
+          (and-then ! (load ! (from ! (stop !)) (look ! 32 refl))
+          (and-then ! (load ! (from ! (stop !)) (look ! 30 refl))
+          (and-then ! (load ! (from ! (stop !)) (look ! 28 refl))
+          (and-then ! (load ! (from ! (stop !)) (look ! 44 refl)) (no-more !)))))) (λ u.
           use1 W (later (some (λ (r : Stage). (LentToks l₅ l₆ l₇ l₈ ν₁ ν₂ ν₃ γ₁ γ₂ γ₃ ⊛ ‵ (S.the-row .own r (u ∷ [])))
-              ⊛ raw (ensured 𝓤 H A begin.ended (begin.clauses 𝓤 H A mem run) (lent-for l₅ l₆ l₇ l₈ ν₁ ν₂ ν₃ γ₁ γ₂ γ₃)
-              (lent-to l₅ l₆ l₇ l₈ ν₁ ν₂ ν₃ γ₁ γ₂ γ₃) tt r)))) (id⊢ 𝓤 _) $ await ! tt $ pick ! (λ r.
+          ⊛ raw (ensured 𝓤 H A begin.ended (begin.clauses 𝓤 H A mem run) (lent-for l₅ l₆ l₇ l₈ ν₁ ν₂ ν₃ γ₁ γ₂ γ₃)
+          (lent-to l₅ l₆ l₇ l₈ ν₁ ν₂ ν₃ γ₁ γ₂ γ₃) tt r)))) (id⊢ 𝓤 _) $ await ! tt $ pick ! (λ r.
           split ! $ move ! (1 ∷ []) $ use1 W
-              (some (λ (zs : Unit {0} × (List ℕ × (List ℕ × (List ℕ × (Unit {0} × Unit {0}))))). ‵
-              (lasts begin.ended (lent-for l₅ l₆ l₇ l₈ ν₁ ν₂ ν₃ γ₁ γ₂ γ₃) (lent-to l₅ l₆ l₇ l₈ ν₁ ν₂ ν₃ γ₁ γ₂ γ₃) zs)
-              ⊛ raw (fact 𝓤 (Begins bk n (zs .1 .0) (zs .1 .1 .0) (zs .1 .1 .1 .0) r)))) (id⊢ 𝓤 _) $ pick ! (λ zs.
+          (some (λ (zs : Unit {0} × (List ℕ × (List ℕ × (List ℕ × (Unit {0} × Unit {0}))))). ‵
+          (lasts begin.ended (lent-for l₅ l₆ l₇ l₈ ν₁ ν₂ ν₃ γ₁ γ₂ γ₃) (lent-to l₅ l₆ l₇ l₈ ν₁ ν₂ ν₃ γ₁ γ₂ γ₃) zs)
+          ⊛ raw (fact 𝓤 (Begins bk n (zs .1 .0) (zs .1 .1 .0) (zs .1 .1 .1 .0) r)))) (id⊢ 𝓤 _) $ pick ! (λ zs.
           split ! $ move ! (1 ∷ []) $ heard ! (Begins bk n (zs .1 .0) (zs .1 .1 .0) (zs .1 .1 .1 .0) r) (λ begun.
           fsplit ! $ drop ! $ fsplit ! $ move ! (1 ∷ []) $ fsplit ! $ move ! (1 ∷ []) $ fsplit ! $ move ! (1 ∷ []) $ drop ! $
           move ! (3 ∷ []) $ split ! $ move ! (1 ∷ []) $ peeks ! S.the-row (Is S.the-row) (shows 𝓤 H A S.the-row) r (u ∷ []) (λ is.
@@ -637,54 +689,61 @@ module _ {M : Type 1} (𝓤 : URA M) (H : Heap 𝓤) (A : Atoms 𝓤) (W : Given
           takes-back ! tt w16 8192 l₆ ν₂ γ₂ (zs .1 .1 .0) $ move ! (2 ∷ 14 ∷ 6 ∷ []) $ takes-back ! tt w64 8192 l₇ ν₃ γ₃ (zs .1 .1 .1 .0) $
           move ! (3 ∷ 5 ∷ 0 ∷ 1 ∷ 2 ∷ 13 ∷ 4 ∷ 7 ∷ 8 ∷ 9 ∷ 10 ∷ 11 ∷ 12 ∷ []) $ drop ! $ drop ! $
           shared-out (zs .1 .0) (zs .1 .1 .0) (zs .1 .1 .1 .0) r begun
-              (subst (Is S.the-row r) (LL.tells S.the-type S′.the-laws r _ is) is)))))))))
+          (subst (Is S.the-row r) (LL.tells S.the-type S′.the-laws r _ is) is)))))))))
 
     walk : ent 𝓤 (onEntry 𝓤 H A print-tokens.signature κs (q₀, (q₁, (q₂, (q₃, tt)))) x at)
         (WpFn 𝓤 H (𝓣 .C) (𝓣 .Λ) code.function (vb ∷ s ∷ v ∷ w (length os) ∷ []) Post)
     walk =
         qed W ((‵ (flft κ₀ q₀) ⊛ (‵ (flft κ₁ q₁) ⊛ (‵ (flft κ₂ q₂) ⊛ (‵ (flft κ₃ q₃) ⊛ ‵ ftrue))))
-            ∷ ‵ (owns (ShrSlice (named 0) κ₀ u8 ∷ ShrSlice (named 1) κ₁ T.the-row ∷ ShrSlice (named 2) κ₂ u8
-            ∷ MutSlice (named 3) κ₃ u8 ∷ []) x at) ∷ []) ∵ enter ! (𝓣 .C) (𝓣 .Λ) code.function (vb ∷ s ∷ v ∷ w (length os) ∷ []) _ $
+        ∷ ‵ (owns (ShrSlice (named 0) κ₀ u8 ∷ ShrSlice (named 1) κ₁ T.the-row ∷ ShrSlice (named 2) κ₂ u8
+        ∷ MutSlice (named 3) κ₃ u8 ∷ []) x at) ∷ []) ∵ enter ! (𝓣 .C) (𝓣 .Λ) code.function (vb ∷ s ∷ v ∷ w (length os) ∷ []) _ $
         alloc1 ! (λ l₀. alloc1 ! (λ l₁.
-            alloc1 ! (λ l₂. alloc1 ! (λ l₃.
-            alloc1 ! (λ l₄. alloc1 ! (λ l₅.
-            alloc1 ! (λ l₆. alloc1 ! (λ l₇.
-            alloc1 ! (λ l₈. alloc1 ! (λ l₉.
-            alloc1 ! (λ l₁₀. alloc1 ! (λ l₁₁.
-            alloc1 ! (λ l₁₂. alloc1 ! (λ l₁₃.
-            alloc1 ! (λ l₁₄. alloc1 ! (λ l₁₅.
-            alloc1 ! (λ l₁₆. alloc1 ! (λ l₁₇.
-            alloc1 ! (λ l₁₈. alloc1 ! (λ l₁₉.
-            alloc1 ! (λ l₂₀. alloc1 ! (λ l₂₁. alloc1 ! (λ l₂₂. alloc1 ! (λ l₂₃. alloc1 ! (λ l₂₄. alloc1 ! (λ l₂₅. alloc0 ! $ params1 ! $
+        alloc1 ! (λ l₂. alloc1 ! (λ l₃.
+        alloc1 ! (λ l₄. alloc1 ! (λ l₅.
+        alloc1 ! (λ l₆. alloc1 ! (λ l₇.
+        alloc1 ! (λ l₈. alloc1 ! (λ l₉.
+        alloc1 ! (λ l₁₀. alloc1 ! (λ l₁₁.
+        alloc1 ! (λ l₁₂. alloc1 ! (λ l₁₃.
+        alloc1 ! (λ l₁₄. alloc1 ! (λ l₁₅.
+        alloc1 ! (λ l₁₆. alloc1 ! (λ l₁₇.
+        alloc1 ! (λ l₁₈. alloc1 ! (λ l₁₉.
+        alloc1 ! (λ l₂₀. alloc1 ! (λ l₂₁. alloc1 ! (λ l₂₂. alloc1 ! (λ l₂₃. alloc1 ! (λ l₂₄. alloc1 ! (λ l₂₅. alloc0 ! $ params1 ! $
         pass1 ! (init ! 48 refl (tt, (tt, (record { fits = b-room .0 }, tt)))) $
         pass1 ! (init ! 46 refl (tt, (tt, (record { fits = room .0 }, tt)))) $
         pass1 ! (init ! 44 refl (tt, (tt, (record { fits = p-room .0 }, tt)))) $
         pass1 ! (init ! 42 refl (tt, (tt, (record { fits = o-room .0 }, tt)))) $ pass0 ! $
         started l₀ l₁ l₂ l₃ l₄ l₅ l₆ l₇ l₈ l₉ l₁₀ l₁₁ l₁₂ l₁₃ l₁₄ l₁₅ l₁₆ l₁₇ l₁₈ l₁₉ l₂₀ l₂₁ l₂₂ l₂₃ l₂₄ l₂₅))))))))))))))))))))))))))
 
-module _ {M : Type 1} (𝓤 : URA M) (H : Heap 𝓤) (A : Atoms 𝓤) (W : Given 𝓤 H A) (mem : Memory → SProp 𝓤) (run : Routine
-    → Fun 𝓤) (𝓣 : Tables 𝓤 H)
+module _ {M : Type 1} (𝓤 : URA M) (H : Heap 𝓤) (A : Atoms 𝓤) (W : Given 𝓤 H A) (mem : Memory → SProp 𝓤)
+    (run : Routine → Fun 𝓤) (𝓣 : Tables 𝓤 H)
     (known-begin : Triple 𝓤 (𝓣 .C #printing·begin) (Begin 𝓤 H A mem run)) (known-step : Triple 𝓤 (𝓣 .C #printing·step) (Step 𝓤 H A mem run))
-        (known-finish : Triple 𝓤 (𝓣 .C #printing·finish) (Finish 𝓤 H A mem run)) where
+    (known-finish : Triple 𝓤 (𝓣 .C #printing·finish) (Finish 𝓤 H A mem run)) where
   print-tokens-walks : Walks 𝓤 H A print-tokens.ended stayed (WpFn 𝓤 H (𝓣 .C) (𝓣 .Λ) code.function) (print-tokens.clauses 𝓤 H A mem run)
   print-tokens-walks = walked 𝓤 H A print-tokens.ended stayed (print-tokens.clauses 𝓤 H A mem run) (WpFn 𝓤 H (𝓣 .C) (𝓣 .Λ) code.function)
       (λ κs. (slice-vals, (slice-vals, (slice-vals, (slice-vals, tt)))))
-          (λ κs. (shr-slice-tells (named 0) (κs .0) u8,
-          (shr-slice-tells (named 1) (κs .1 .0) T.the-row,
-          (shr-slice-tells (named 2) (κs .1 .1 .0) u8, (mut-slice-tells (named 3) (κs .1 .1 .1 .0) u8, tt)))))
+      (λ κs. (
+        shr-slice-tells (named 0) (κs .0) u8,
+        (
+          shr-slice-tells (named 1) (κs .1 .0) T.the-row,
+          (shr-slice-tells (named 2) (κs .1 .1 .0) u8, (mut-slice-tells (named 3) (κs .1 .1 .1 .0) u8, tt)),
+        ),
+      ))
       (λ κs qs bounds a g are. via 𝓤 _ (fst∗ 𝓤 _ (emp 𝓤))
       (walk 𝓤 H A W mem run (κs .0) (κs .1 .0) (κs .1 .1 .0) (κs .1 .1 .1 .0) (qs .0) (qs .1 .0) (qs .1 .1 .0) (qs .1 .1 .1 .0) (a .0)
-          (a .1 .0 .ptr .0) (a .1 .0 .ptr .1) (a .1 .0 .name) (a .1 .0 .now) (a .1 .1 .0) (a .1 .1 .1 .0)
+      (a .1 .0 .ptr .0) (a .1 .0 .ptr .1) (a .1 .0 .name) (a .1 .0 .now) (a .1 .1 .0) (a .1 .1 .1 .0)
       (are .0 .0 .1) (are .1 .0 .0 .1) (are .1 .1 .0 .0 .1) (are .1 .1 .1 .0 .0 .1) 𝓣 known-begin known-step known-finish))
 
   print-tokens-meets : Meets 𝓤 H A print-tokens.signature (WpFn 𝓤 H (𝓣 .C) (𝓣 .Λ) code.function) (print-tokens.spec 𝓤 H A mem run)
   print-tokens-meets =
-      walk-meets 𝓤 H A print-tokens.ended stayed W
-      (goes-none-slice 𝓤 H A W 4 (0 ∷ []) tt (plain (λ _. u8)) yes,
-          (goes-none-slice 𝓤 H A W 4 (1 ∷ []) tt (plain (λ _. T.the-row)) yes,
-          (goes-none-slice 𝓤 H A W 4 (2 ∷ []) tt (plain (λ _. u8)) yes, (goes-gave-slice 𝓤 H A W 4 3 tt (plain (λ _. u8)), tt))))
+      walk-meets 𝓤 H A print-tokens.ended stayed W (
+        goes-none-slice 𝓤 H A W 4 (0 ∷ []) tt (plain (λ _. u8)) yes,
+        (
+          goes-none-slice 𝓤 H A W 4 (1 ∷ []) tt (plain (λ _. T.the-row)) yes,
+          (goes-none-slice 𝓤 H A W 4 (2 ∷ []) tt (plain (λ _. u8)) yes, (goes-gave-slice 𝓤 H A W 4 3 tt (plain (λ _. u8)), tt)),
+        ),
+      )
       (print-tokens.clauses 𝓤 H A mem run) (WpFn 𝓤 H (𝓣 .C) (𝓣 .Λ) code.function) (WpFn-mono 𝓤 H (W .laws) 𝓣 code.function)
-          print-tokens-walks
+      print-tokens-walks
 
 pub print-tokens-spec : {M : Type 1} → stated.statement M
 unfolding code.routine tablesOf
@@ -693,8 +752,8 @@ print-tokens-spec 𝓤 H 𝓜 𝓖 𝓡 =
     (tables 𝓤 H 𝓜 𝓡 code.env .C) (tables 𝓤 H 𝓜 𝓡 code.env .Λ) #slices·print-tokens code.function (code.unfolded 𝓤 H 𝓜 𝓡)
     (print-tokens-meets 𝓤 H (𝓖 .A) (givenOf 𝓤 H 𝓜 𝓖) (𝓜 .mem) (𝓡 .run) (tablesOf 𝓤 H 𝓜 (tables 𝓤 H 𝓜 𝓡 code.env))
     (cited 𝓤 H (Begin 𝓤 H (𝓖 .A) (𝓜 .mem) (𝓡 .run)) 𝓜 𝓡 code.env #printing·begin begin-def.routine code.calls-slices·printing·begin
-        (begin-thm.met 𝓤 H 𝓜 𝓖 𝓡))
+    (begin-thm.met 𝓤 H 𝓜 𝓖 𝓡))
     (cited 𝓤 H (Step 𝓤 H (𝓖 .A) (𝓜 .mem) (𝓡 .run)) 𝓜 𝓡 code.env #printing·step step-def.routine code.calls-slices·printing·step
-        (step-thm.met 𝓤 H 𝓜 𝓖 𝓡))
+    (step-thm.met 𝓤 H 𝓜 𝓖 𝓡))
     (cited 𝓤 H (Finish 𝓤 H (𝓖 .A) (𝓜 .mem) (𝓡 .run)) 𝓜 𝓡 code.env #printing·finish finish-def.routine code.calls-slices·printing·finish
-        (finish-thm.met 𝓤 H 𝓜 𝓖 𝓡)))
+    (finish-thm.met 𝓤 H 𝓜 𝓖 𝓡)))

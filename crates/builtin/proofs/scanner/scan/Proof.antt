@@ -34,28 +34,36 @@ shared-slice-read-step : tie.Need-shared-slice-read-step Inv-loop μ-loop
 shared-slice-read-step c = c .before .loop-test .taken
 
 step-requires : tie.Need-step-requires Inv-loop μ-loop
-step-requires c κs = (c .before .before .before .before .pre .classes-are, c .before .before .before .before .pre .next-are,
-    c .before .before .loop .inv .inside)
+step-requires c κs = (
+  c .before .before .before .before .pre .classes-are,
+  c .before .before .before .before .pre .next-are,
+  c .before .before .loop .inv .inside,
+)
 
 found-requires : tie.Need-found-requires Inv-loop μ-loop
-found-requires c κs = (c .before .before .before .before .before .before .pre .tags-are,
-    c .before .before .before .before .loop .inv .known)
+found-requires c κs = (
+  c .before .before .before .before .before .before .pre .tags-are,
+  c .before .before .before .before .loop .inv .known,
+)
 
 returns : tie.Need-returns Inv-loop μ-loop
 returns c =
     let a = c .found .ensures in
     rw (a .0, a .1) (scanned-dead (c .before .before .before .before .before .loop .inv)
-        (c .before .before .before .before .loop-test .taken)
-        (byte (c .before .before .before) (c .before .before .before .before .before .loop .i)) (c .before .before .step .ensures)
-        (c .before .if1 .taken))
+    (c .before .before .before .before .loop-test .taken)
+    (byte (c .before .before .before) (c .before .before .before .before .before .loop .i)) (c .before .before .step .ensures)
+    (c .before .if1 .taken))
 
 add-i : tie.Need-add-i Inv-loop μ-loop
 add-i c = omega (arith, c .before .before .before .loop-test .taken)
 
 run-requires : tie.Need-run-requires Inv-loop μ-loop
-run-requires c κs = let w = accepted c in
-    (c .before .before .before .before .before .before .before .pre .classes-are,
-    c .before .before .before .before .before .before .before .pre .next-are, w .inside, w .within)
+run-requires c κs = let w = accepted c in (
+  c .before .before .before .before .before .before .before .pre .classes-are,
+  c .before .before .before .before .before .before .before .pre .next-are,
+  w .inside,
+  w .within,
+)
 
 loop-less : tie.Need-loop-less Inv-loop μ-loop
 loop-less c = let r = c .run .ensures in falls _ _ _ (c .before .before .before .before .before .loop-test .taken) (r .further)

@@ -24,7 +24,7 @@ fits : (c : tie.Joined2) (rs : List Rule)
     → length ((lex rs (now (call c .args .text))) .tokens) ≤ call c .args .room
 fits c rs h =
     ⊎-elim (λ w. omega (arith, w .1 .ensures rs h .tokens-are, w .3 .left))
-        (λ w. omega (arith, w .left, lex-few rs (now (call c .args .text))))
+    (λ w. omega (arith, w .left, lex-few rs (now (call c .args .text))))
     (c .if2 .came)
 
 refuse-requires : tie.Need-refuse-requires
