@@ -10,7 +10,8 @@ use Rattle.lexer.specs.Outcome.{lexRules, lexOutcome}
 use Rattle.builtin.specs.Book.{builtinBytes, builtinRules, timestamp, word, blanks, newline, bracket}
 
 pub read-builtin : readBook builtinBytes ≡ accepted builtinRules
-unfolding readBook readFrom commandAt decode operandsOf placed apply move check overlaps builtinBytes builtinRules timestamp word blanks newline bracket
+unfolding readBook readFrom commandAt decode operandsOf placed apply move check overlaps builtinBytes builtinRules timestamp word blanks
+    newline bracket
 read-builtin = refl
 
 -- so lexing by its bytes is lexing by its rules

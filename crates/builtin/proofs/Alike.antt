@@ -87,7 +87,9 @@ class-below b l = ltb-true _ _ (entry (λ a c. ltb c (length classBytes)) 0 clas
 pub by-class : (b : ℕ) → b < 256 → All (λ (r : Rule). (s : ℕ) → step r s b ≡ step r s (byteOf (classAt b))) builtinRules
 by-class b l =
     all-map _ _ builtinRules (λ r h. alike-step b (byteOf (classAt b)) r h)
-    (every-all (alike b (byteOf (classAt b))) builtinRules (entry (λ a c. every (alike a (byteOf c)) builtinRules) 0 classTable test b (rw length-classes l)))
+    (every-all (alike b (byteOf (classAt b))) builtinRules (entry (λ a c. every (alike a (byteOf c)) builtinRules) 0 classTable test b
+    (rw length-classes l)))
 
 pub moved-alike : MovedAlike
-moved-alike = all-map _ _ builtinRules (λ r h s a b l m e. h a l s ∙ ap (λ (c : ℕ). step r s (byteOf c)) e ∙ sym (h b m s)) (all-each _ builtinRules by-class)
+moved-alike = all-map _ _ builtinRules (λ r h s a b l m e. h a l s ∙ ap (λ (c : ℕ). step r s (byteOf c)) e
+    ∙ sym (h b m s)) (all-each _ builtinRules by-class)

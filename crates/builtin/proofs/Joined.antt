@@ -81,7 +81,8 @@ module _ (s : ℕ) (l : State s) where
       let q : s / 16 * 16 ≡ s = omega (arith, l .row) in
       rw q at (entry (λ k qs. right (k * 16) qs) [] stateTable test (s / 16) (rw count (omega (arith, l .below))))
 
-  told : (sameOption (firstFinal builtinRules (statesOf s)) (tagged (tagAt s)) ≡ true) × (if (leb accepting s) (ltb 0 (tagAt s)) (eqb (tagAt s) 0) ≡ true)
+  told : (sameOption (firstFinal builtinRules (statesOf s)) (tagged (tagAt s)) ≡ true)
+      × (if (leb accepting s) (ltb 0 (tagAt s)) (eqb (tagAt s) 0) ≡ true)
   told = and-true _ _ ((and-true (tells s (statesOf s)) _ holds) .0)
 
   pub accepts : accepting ≤ s → 0 < tagAt s
@@ -90,8 +91,10 @@ module _ (s : ℕ) (l : State s) where
   pub passes : s < accepting → tagAt s ≡ 0
   passes h = eqb-true _ _ (rw (lt-leb accepting s h) at (told .1))
 
-  led : (b : ℕ) → b < 256 → (isState (nextState s b) ≡ true) × (sameList (statesOf (nextState s b)) (steps builtinRules (statesOf s) (byteOf (classAt b))) ≡ true)
-  led b m = and-true _ _ (entry (leads s (statesOf s)) 0 classBytes ((and-true (tells s (statesOf s)) _ holds) .1) (classAt b) (class-below b m))
+  led : (b : ℕ) → b < 256 → (isState (nextState s b) ≡ true)
+      × (sameList (statesOf (nextState s b)) (steps builtinRules (statesOf s) (byteOf (classAt b))) ≡ true)
+  led b m = and-true _ _ (entry (leads s (statesOf s)) 0 classBytes ((and-true (tells s (statesOf s)) _ holds) .1) (classAt b)
+      (class-below b m))
 
 -- a tag fits a byte
 small : entries (λ s t. ltb t 256) 0 tagTable ≡ true
@@ -107,7 +110,8 @@ tag-below s l = ltb-true _ _ (entry (λ k t. ltb t 256) 0 tagTable small (s / 16
 
 -- ---- every byte
 
-steps-same : (rules : List Rule) (a b : ℕ) → All (λ (r : Rule). (s : ℕ) → step r s a ≡ step r s b) rules → (qs : List ℕ) → steps rules qs a ≡ steps rules qs b
+steps-same : (rules : List Rule) (a b : ℕ) → All (λ (r : Rule). (s : ℕ) → step r s a ≡ step r s b) rules → (qs : List ℕ)
+    → steps rules qs a ≡ steps rules qs b
 steps-same [] a b h qs = refl
 steps-same (r ∷ rs) a b h [] = refl
 steps-same (r ∷ rs) a b (e, h) (q ∷ qs) = rw (e q, steps-same rs a b h qs)

@@ -5,4 +5,3 @@ pub mod Product
 pub mod Joined
 pub mod Scanned
 pub mod Accepted
-pub mod Outcome

@@ -32,7 +32,8 @@ firstFinal [] qs = none
 firstFinal (r ∷ rs) [] = none
 firstFinal (r ∷ rs) (q ∷ qs) = if (among q r.finals) (some r.tag) (firstFinal rs qs)
 
-walks-more : (rules : List Rule) (t : List ℕ) (n : ℕ) → n < length t → walks rules (take (suc n) t) ≡ steps rules (walks rules (take n t)) (getD t n 0)
+walks-more : (rules : List Rule) (t : List ℕ) (n : ℕ) → n < length t
+    → walks rules (take (suc n) t) ≡ steps rules (walks rules (take n t)) (getD t n 0)
 walks-more [] t n l = refl
 walks-more (r ∷ rs) t n l = rw (walk-more r t n r.start l, walks-more rs t n l)
 
@@ -58,7 +59,8 @@ found-front (suc t) len text p = refl
 -- ---- the automaton
 
 -- each number that is a state stands for states of the rules, and has where a byte leads and a tag
-pub record Joins (rules : List Rule) (State : ℕ → Type 0) (states : ℕ → List ℕ) (next : ℕ → ℕ → ℕ) (tag : ℕ → ℕ) (start dead : ℕ) : Type 0 where
+pub record Joins (rules : List Rule) (State : ℕ → Type 0) (states : ℕ → List ℕ) (next : ℕ → ℕ → ℕ) (tag : ℕ
+    → ℕ) (start dead : ℕ) : Type 0 where
   pub start-state : State start
   pub starts : states start ≡ walks rules []
   pub next-state : (s b : ℕ) → State s → b < 256 → State (next s b)
@@ -69,7 +71,8 @@ pub record Joins (rules : List Rule) (State : ℕ → Type 0) (states : ℕ → 
   pub stays : (b : ℕ) → steps rules (states dead) b ≡ states dead
 
 -- i bytes are read, s is the state; `last` is the last state that accepted, behind `len` bytes, or the dead state for none
-pub record Scan (rules : List Rule) (State : ℕ → Type 0) (states : ℕ → List ℕ) (tag : ℕ → ℕ) (text : List ℕ) (s last len i : ℕ) : Type 0 where
+pub record Scan (rules : List Rule) (State : ℕ → Type 0) (states : ℕ → List ℕ) (tag : ℕ → ℕ) (text : List ℕ)
+    (s last len i : ℕ) : Type 0 where
   pub within : i ≤ length text
   pub inside : State s
   pub state : states s ≡ walks rules (take i text)
@@ -115,7 +118,8 @@ module _ {rules : List Rule} {State : ℕ → Type 0} {states : ℕ → List ℕ
   dies text i (suc k) l e =
       let h = dies text i k (omega arith) e in
       let q : states dead ≡ walks rules (take (suc (k + i)) text) =
-      sym (joins .stays (getD text (k + i) 0)) ∙ ap (λ qs. steps rules qs (getD text (k + i) 0)) (h .0) ∙ sym (walks-more rules text (k + i) (omega arith)) in
+      sym (joins .stays (getD text (k + i) 0)) ∙ ap (λ qs. steps rules qs (getD text (k + i) 0)) (h .0)
+      ∙ sym (walks-more rules text (k + i) (omega arith)) in
       rw suc-add (q, more-no text dead (k + i) (joins .dead-state) q (joins .untagged) ∙ h .1)
 
   module _ {text : List ℕ} {s last len i s₁ : ℕ} (w : Scan rules State states tag text s last len i) (more : i < length text)

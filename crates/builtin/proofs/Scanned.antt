@@ -50,7 +50,8 @@ run-on (suc n) {text} {s} {i} w h byte r =
     let v = run-on n w h byte (record { further = omega arith; within = omega arith; same = λ k a b. r .same k a (omega arith) }) in
     rw q (walked-accept v l (byte (n + i)) (sym (r .same (n + i) (omega arith) (omega arith))) h)
 
-pub walked-run : {text : List ℕ} {s i j : ℕ} → Walked text s s i i → accepting ≤ s → ((k : ℕ) → getD text k 0 < 256) → Stays s text i j → Walked text s s j j
+pub walked-run : {text : List ℕ} {s i j : ℕ} → Walked text s s i i → accepting ≤ s → ((k : ℕ) → getD text k 0 < 256) → Stays s text i j
+    → Walked text s s j j
 walked-run {text} {s} {i} {j} w h byte r =
     let l = r .further in
     let q : j ≡ j - i + i = omega arith in
@@ -60,7 +61,8 @@ walked-run {text} {s} {i} {j} w h byte r =
 pub stays-none : {s : ℕ} {text : List ℕ} (from : ℕ) → from ≤ length text → Stays s text from from
 stays-none from l = record { further = omega arith; within = l; same = λ k a b. absurd (omega arith) }
 
-pub stays-more : {s from i : ℕ} {text : List ℕ} → Stays s text from i → i < length text → nextState s (getD text i 0) ≡ s → Stays s text from (i + 1)
+pub stays-more : {s from i : ℕ} {text : List ℕ} → Stays s text from i → i < length text → nextState s (getD text i 0) ≡ s
+    → Stays s text from (i + 1)
 stays-more {s} {from} {i} {text} w l e =
     record {
       further = omega (arith, w .further);
@@ -96,10 +98,12 @@ all-at P [] d h k l = absurd (omega arith)
 all-at P (x ∷ xs) d (p, h) zero l = p
 all-at P (x ∷ xs) d (p, h) (suc k) l = all-at P xs d h k (omega arith)
 
-module _ (rules : List Rule) (text : List ℕ) (tag len : ℕ) (p : 0 < len) (within : len ≤ length text) (e : choose rules text ≡ some (front tag len text))
+module _ (rules : List Rule) (text : List ℕ) (tag len : ℕ) (p : 0 < len) (within : len ≤ length text)
+    (e : choose rules text ≡ some (front tag len text))
     (first : Earliest rules (take len text) tag) where
   there : ruleAt rules (length (first .before)) ≡ first .rule
-  there = ap (λ (rs : List Rule). ruleAt rs (length (first .before))) (first .splits) ∙ getD-append-seam (first .before) (first .rule) (first .behind) blank
+  there = ap (λ (rs : List Rule). ruleAt rs (length (first .before))) (first .splits)
+      ∙ getD-append-seam (first .before) (first .rule) (first .behind) blank
 
   earlier-at : (k : ℕ) → k < length (first .before) → matches (ruleAt rules k) (take len text) ≡ false
   earlier-at k l =
@@ -141,4 +145,5 @@ picked {text} {tag} {len = zero} s = record {
 }
 picked {text} {tag} {len = suc n} s =
     let e = s .chosen (omega arith) in
-    picked-some builtinRules text tag (suc n) (omega arith) (s .within) e ((choose-some builtinRules text (front tag (suc n) text) e) .earliest)
+    picked-some builtinRules text tag (suc n) (omega arith) (s .within) e
+    ((choose-some builtinRules text (front tag (suc n) text) e) .earliest)

@@ -22,7 +22,8 @@ all-map P Q [] g h = tt
 all-map P Q (x ∷ xs) g (p, h) = (g x p, all-map P Q xs g h)
 
 -- what each byte shows of all elements, each element shows of all bytes
-pub all-each : {A : Type 0} (P : ℕ → A → Type 0) (xs : List A) → ((b : ℕ) → b < 256 → All (P b) xs) → All (λ (x : A). (b : ℕ) → b < 256 → P b x) xs
+pub all-each : {A : Type 0} (P : ℕ → A → Type 0) (xs : List A) → ((b : ℕ) → b < 256 → All (P b) xs)
+    → All (λ (x : A). (b : ℕ) → b < 256 → P b x) xs
 all-each P [] h = tt
 all-each P (x ∷ xs) h = (λ b l. (h b l) .0, all-each P xs (λ b l. (h b l) .1))
 

@@ -8,7 +8,7 @@ use answer::Refusal;
 use book::Book;
 use longest_match::Cut;
 ghost use mathlib.Core.Path.{_≡_};
-ghost use Prim.Native.Nat.{_*_, _≤_, _<_};
+ghost use Prim.Native.Nat.{_*_, _≤_};
 ghost use lib.ListN.{length};
 ghost use Rattle.longest_match.specs.Lexer.{lex};
 ghost use Rattle.longest_match.specs.Contracts.{Cuts};

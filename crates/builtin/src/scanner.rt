@@ -1,6 +1,6 @@
 // One automaton for all five rules of the built-in book of document 01, by byte classes: one table step a byte.
 ghost use mathlib.Core.Path.{_≡_};
-ghost use Prim.Native.Nat.{_+_, _≤_, _<_};
+ghost use Prim.Native.Nat.{_≤_};
 ghost use lib.ListN.{length, drop};
 ghost use Rattle.builtin.specs.Classes.{classTable};
 ghost use Rattle.builtin.specs.Joined.{State, nextTable, tagTable, nextState, tagAt, Lent, Stays, Scanned};

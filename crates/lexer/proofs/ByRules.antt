@@ -16,7 +16,8 @@ use Rattle.lexer.specs.Outcome.{lexRules, restRules}
 use Rattle.answer.specs.declared.LexAnswer.the-variants as lexed
 
 module _ (rules : List Rule) (text records : List ℕ) where
-  pub answered-long : maxText < length text → LexAnswered (lexRules rules text records) (lexed.Refused (record { number = 14; place = 0 })) records
+  pub answered-long : maxText < length text
+      → LexAnswered (lexRules rules text records) (lexed.Refused (record { number = 14; place = 0 })) records
   unfolding lexRules
   answered-long l = rw (lt-ltb _ _ l) (record { answer = refl; records = refl })
 
@@ -28,17 +29,20 @@ module _ (rules : List Rule) (text records : List ℕ) where
       rw (le-ltb _ _ l, ← e, lt-ltb _ _ f) (record { answer = refl; records = refl })
 
   pub answered-lexed : {tokens rest : ℕ} {exit : List ℕ} → length text ≤ maxText → length ((lex rules text) .tokens) ≤ recordCount records
-      → Cuts rules text tokens rest → Fills rules text records exit → LexAnswered (lexRules rules text records) (lexed.Lexed tokens rest) exit
+      → Cuts rules text tokens rest → Fills rules text records exit
+      → LexAnswered (lexRules rules text records) (lexed.Lexed tokens rest) exit
   unfolding lexRules
   answered-lexed l m c w =
       rw (le-ltb _ _ l, le-ltb _ _ m) (record { answer = cc (c .tokens-are, c .rest-is); records = w .written })
 
 -- records that are as many as the text's bytes are enough
-pub enough : (rules : List Rule) (text records : List ℕ) → length text ≤ recordCount records → length ((lex rules text) .tokens) ≤ recordCount records
+pub enough : (rules : List Rule) (text records : List ℕ) → length text ≤ recordCount records
+    → length ((lex rules text) .tokens) ≤ recordCount records
 enough rules text records l = omega (arith, lex-few rules text)
 
 pub room-of : {hs ss es : List ℕ} {n : ℕ} {text records : List ℕ} → Held hs ss es n
-    → ((rules : List Rule) → Holds hs ss es n rules → length ((lex rules text) .tokens) ≤ recordCount records) → RecordsRoom hs ss es n text records
+    → ((rules : List Rule) → Holds hs ss es n rules → length ((lex rules text) .tokens) ≤ recordCount records)
+    → RecordsRoom hs ss es n text records
 room-of {hs} {ss} {es} {n} {text} {records} held f = record { held = held; room = λ rules h. omega (arith, f rules h) }
 
 -- ---- the rest

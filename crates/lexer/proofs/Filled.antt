@@ -24,7 +24,8 @@ pub filling-start : (rules : List Rule) (text entry : List ℕ) → Filling rule
 filling-start rules text entry = record { cut = cutting-start rules text; same = refl; written = refl; kept = refl }
 
 module _ {rules : List Rule} {text entry records : List ℕ} {at n : ℕ} (w : Filling rules text entry records at n)
-    (room : 10 * length ((lex rules text) .tokens) ≤ length entry) {rule len : ℕ} (c : Chooses rules (drop at text) rule len) (p : 0 < len) where
+    (room : 10 * length ((lex rules text) .tokens) ≤ length entry) {rule len : ℕ} (c : Chooses rules (drop at text) rule len)
+    (p : 0 < len) where
   pub filling-room : 10 * n + 10 ≤ length records
   filling-room =
       let k = rw (lex-more rules text at rule len c p) at (w .cut .count) in
@@ -43,7 +44,8 @@ module _ {rules : List Rule} {text entry records : List ℕ} {at n : ℕ} (w : F
     ahead : take (10 * (n + 1)) after ≡ take (10 * n) records ++ recordOf tag at len
     ahead = rw e (take-at (take (10 * n) records ++ recordOf tag at len) (drop (10 * n + 10) records) (10 * (n + 1)) head-length)
 
-    recorded : recordsAt at ((lex rules (drop at text)) .tokens) ≡ recordOf tag at len ++ recordsAt (at + len) ((lex rules (drop (at + len) text)) .tokens)
+    recorded : recordsAt at ((lex rules (drop at text)) .tokens) ≡ recordOf tag at len
+        ++ recordsAt (at + len) ((lex rules (drop (at + len) text)) .tokens)
     unfolding recordsAt
     recorded = rw (lex-more rules text at rule len c p, length-take-le len (drop at text) (c .within), tagged)
 
@@ -57,11 +59,13 @@ module _ {rules : List Rule} {text entry records : List ℕ} {at n : ℕ} (w : F
           omega (arith, length-drop (10 * n + 10) records, filling-room, w .same);
       written =
           w .written ∙ ap (λ (x : List ℕ). take (10 * n) records ++ x) recorded
-          ∙ sym (append-assoc (take (10 * n) records) (recordOf tag at len) (recordsAt (at + len) ((lex rules (drop (at + len) text)) .tokens)))
+          ∙ sym (append-assoc (take (10 * n) records) (recordOf tag at len)
+          (recordsAt (at + len) ((lex rules (drop (at + len) text)) .tokens)))
           ∙ ap (λ (x : List ℕ). x ++ recordsAt (at + len) ((lex rules (drop (at + len) text)) .tokens)) (sym ahead);
       kept =
           let q : 10 * (n + 1) ≡ 10 * n + 10 = omega arith in
-          behind ∙ sym (drop-drop 10 (10 * n) records) ∙ ap (drop 10) (w .kept) ∙ drop-drop 10 (10 * n) entry ∙ ap (λ (x : ℕ). drop x entry) (sym q);
+          behind ∙ sym (drop-drop 10 (10 * n) records) ∙ ap (drop 10) (w .kept) ∙ drop-drop 10 (10 * n) entry
+          ∙ ap (λ (x : ℕ). drop x entry) (sym q);
     }
 
 module _ {rules : List Rule} {text entry records : List ℕ} {at n : ℕ} (w : Filling rules text entry records at n)

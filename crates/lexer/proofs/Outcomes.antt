@@ -40,7 +40,8 @@ module _ {bytes hs ss es : List ℕ} {b : BookAnswer} {n : ℕ} (l : Loaded byte
   pub loaded-held : Held hs ss es n
   loaded-held = record { rules = loaded-rules .0; holds = loaded-rules .1 .1 }
 
-  pub answered-book : (text records exit : List ℕ) (r : LexAnswer) → ((rules : List Rule) → Holds hs ss es n rules → LexAnswered (lexRules rules text records) r exit)
+  pub answered-book : (text records exit : List ℕ) (r : LexAnswer)
+      → ((rules : List Rule) → Holds hs ss es n rules → LexAnswered (lexRules rules text records) r exit)
       → LexAnswered (lexOutcome bytes text records) r exit
   unfolding lexOutcome
   answered-book text records exit r h = rw (loaded-rules .1 .0) (h (loaded-rules .0) (loaded-rules .1 .1))
@@ -90,7 +91,9 @@ rest-agrees book text records tokens rest e = by (readBook book) e
     refused-not q = let z : _≡_ {A = ℕ} 0 1 = cc in absurd (omega arith)
 
     rules-agree : (rules : List Rule) (t u : Bool)
-        → (if t (lexRefused 14 0 records) (if u (lexRefused 15 (length ((lex rules text) .tokens)) records) (lexAccepted (lex rules text) text records))) .answer ≡ lexed.Lexed tokens rest
+        → (if t (lexRefused 14 0 records)
+        (if u (lexRefused 15 (length ((lex rules text) .tokens)) records) (lexAccepted (lex rules text) text records))) .answer
+        ≡ lexed.Lexed tokens rest
         → if t text ((lex rules text) .rest) ≡ drop rest text
     rules-agree rules true u q = refused-not q
     rules-agree rules false true q = refused-not q

@@ -9,9 +9,8 @@ use Rattle.longest_match.specs.Lexer.{lex}
 use Rattle.longest_match.specs.Contracts.{Holds, Held}
 use Rattle.record.specs.Records.{recordsAt}
 use Rattle.lexer.specs.Outcome.{LexOutcome}
-use Rattle.answer.specs.declared.LexAnswer.the-variants as answer
 
--- ---- What `fill` asks and leaves, said of the rules that the tables hold.
+-- ---- Module filling, said of the rules that the tables hold.
 
 -- there is room for a record of each token, whichever rules the tables hold
 pub record RecordsRoom (hs ss es : List ℕ) (n : ℕ) (text records : List ℕ) : Type 0 where
@@ -21,6 +20,8 @@ pub record RecordsRoom (hs ss es : List ℕ) (n : ℕ) (text records : List ℕ)
 -- the records of the tokens, and every byte past them as it was
 pub record Fills (rules : List Rule) (text : List ℕ) (entry exit : List ℕ) : Type 0 where
   pub written : exit ≡ recordsAt 0 ((lex rules text) .tokens) ++ drop (10 * length ((lex rules text) .tokens)) entry
+
+-- ---- Module by_rules, and the operations.
 
 -- an answer, and what the records hold afterwards, are those of the outcome
 pub record LexAnswered (o : LexOutcome) (r : LexAnswer) (exit : List ℕ) : Type 0 where

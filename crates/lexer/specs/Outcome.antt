@@ -1,4 +1,4 @@
--- The paper's cutting: from the rules, the text and the lent records to the answer and what the records hold afterwards.
+-- "Cutting" of document 01, as a function from what a call is lent to what it answers and leaves behind; and the rest of a text.
 use mathlib.Core.List.{List, _++_}
 use Prim.Native.Nat.{ℕ, _-_, _*_}
 use lib.Dec.{ltb}
@@ -12,16 +12,19 @@ use Rattle.longest_match.specs.Lexer.{Lexed, lex}
 use Rattle.record.specs.Records.{recordsAt, recordCount}
 use Rattle.answer.specs.declared.LexAnswer.the-variants as answer
 
+-- ---- The cut.
+
+-- the answer, and what the lent records hold afterwards
 pub record LexOutcome : Type 0 where
   pub answer : LexAnswer
   pub records : List ℕ
 
--- a refusal by this number at this place leaves the records as they are
+-- refused by this number at this place: "Every lent buffer then stands as at entry"
 abbrev pub lexRefused : ℕ → ℕ → List ℕ → LexOutcome
 lexRefused number place records =
     record { answer = answer.Refused (record { number = number; place = place }); records = records }
 
--- the records of the tokens, and every byte past them as it was
+-- "Accepted: the token count and the place of the rest"; the records of the tokens, and every byte past them as it was
 abbrev pub lexAccepted : Lexed → List ℕ → List ℕ → LexOutcome
 lexAccepted cut text records =
     record {
@@ -29,36 +32,35 @@ lexAccepted cut text records =
       records = recordsAt 0 (cut .tokens) ++ drop (10 * length (cut .tokens)) records;
     }
 
--- 14, then 15, then the cut
+-- by the rules of an accepted book: "14 text over 65,536 bytes (place 0); 15 fewer records than the cut has tokens (place: tokens in
+-- the cut)"
 unfoldable pub lexRules : List Rule → List ℕ → List ℕ → LexOutcome
 lexRules rules text records =
     if (ltb maxText (length text)) (lexRefused 14 0 records)
-    (if (ltb (recordCount records) (length ((lex rules text) .tokens))) (lexRefused 15 (length ((lex rules text) .tokens)) records)
+    (if (ltb (recordCount records) (length ((lex rules text) .tokens)))
+    (lexRefused 15 (length ((lex rules text) .tokens)) records)
     (lexAccepted (lex rules text) text records))
 
--- ---- the rest
-
--- "where the book is refused or 14 applies it is the whole text": here 14
-abbrev pub restRules : List Rule → List ℕ → List ℕ
-restRules rules text = if (ltb maxText (length text)) text ((lex rules text) .rest)
-
--- ---- The paper's cutting, as a whole: from the book's bytes, the text and the lent records to the answer and what the records hold afterwards.
-
--- the book's refusals first
+-- before them "The book's refusals"
 abbrev pub lexReading : Reading → List ℕ → List ℕ → LexOutcome
 lexReading (refused number place) text records = lexRefused number place records
 lexReading (accepted rules) text records = lexRules rules text records
 
+-- by the bytes of a book
 unfoldable pub lexOutcome : List ℕ → List ℕ → List ℕ → LexOutcome
 lexOutcome book text records = lexReading (readBook book) text records
 
--- ---- the rest
+-- ---- The rest: "where the book is refused or 14 applies it is the whole text".
 
--- the whole text where the book is refused
+-- 14
+abbrev pub restRules : List Rule → List ℕ → List ℕ
+restRules rules text = if (ltb maxText (length text)) text ((lex rules text) .rest)
+
+-- the book is refused
 abbrev pub restReading : Reading → List ℕ → List ℕ
 restReading (refused number place) text = text
 restReading (accepted rules) text = restRules rules text
 
--- "A second call hands back the rest"
+-- "A second call hands back the rest", by the bytes of a book
 unfoldable pub restOf : List ℕ → List ℕ → List ℕ
 restOf book text = restReading (readBook book) text

@@ -15,8 +15,10 @@ pub fn fill(
     records: &mut [u8],
 ) -> Cut
     requires { ⌜ RecordsRoom (now headers) (now states) (now edges) rules (now text) (now records) ⌝ }
-    ensures { λ r. ⌜ ((rs : List Rule) → Holds (now (headers .entry)) (now (states .entry)) (now (edges .entry)) rules rs → Cuts rs (now (text .entry)) (r .tokens) (r .rest)) ⌝ }
-    ensures { λ r. ⌜ ((rs : List Rule) → Holds (now (headers .entry)) (now (states .entry)) (now (edges .entry)) rules rs → Fills rs (now (text .entry)) (now (records .entry)) (now (records .exit))) ⌝ }
+    ensures { λ r. ⌜ ((rs : List Rule) → Holds (now (headers .entry)) (now (states .entry)) (now (edges .entry)) rules rs
+        → Cuts rs (now (text .entry)) (r .tokens) (r .rest)) ⌝ }
+    ensures { λ r. ⌜ ((rs : List Rule) → Holds (now (headers .entry)) (now (states .entry)) (now (edges .entry)) rules rs
+        → Fills rs (now (text .entry)) (now (records .entry)) (now (records .exit))) ⌝ }
 {
     let mut tokens = 0;
     let mut place = 0;

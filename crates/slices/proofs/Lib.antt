@@ -1,9 +1,11 @@
--- What the proofs of this crate share, and the laws for the layers above.
+-- What the proofs of this crate share: to walk code by hand (Tests, Arrays, Tables, Locals), of lexing (Opening, Starting, Storing),
+-- of printing (Passes, Staging).
 pub mod Tests
 pub mod Arrays
+pub mod Tables
 pub mod Locals
-pub mod Passes
 pub mod Opening
 pub mod Starting
-pub mod Turning
+pub mod Storing
+pub mod Passes
 pub mod Staging

@@ -1,13 +1,14 @@
--- The loop of `print_tokens`: what holds of a stage and of the scratch, and how a step keeps it, by the printer's three passes over the records that the tokens say. Assumes nothing.
+-- The loop of `print_tokens`: what holds of a stage and of the scratch, and how a step keeps it, by the printer's three passes over the
+-- records that the tokens say. Assumes nothing.
 use mathlib.Core.Path.{_≡_, refl, sym, _∙_, ap, subst}
 use mathlib.Core.Bool.{Bool, true, false}
-use mathlib.Core.Option.{none}
+use mathlib.Core.Option.{Option, none, some}
 use mathlib.Core.List.{List, [], _∷_}
 use Prim.Native.Nat.{ℕ, zero, suc, _+_, _-_, _*_, _<_, _≤_}
 use native.Mathlib.Omega.{arith}
 use lib.Dec.{ltb, eqb}
 use lib.ListN.{length, take, drop}
-use lib.Seq.{paste, take-append-seam, length-take-le}
+use lib.Seq.{paste, length-take-le}
 use borrow.Author.Tests.{ltb-true, ltb-false, eqb-true, eqb-false}
 use Rattle.answer.specs.declared.Refusal.{Refusal}
 use Rattle.answer.specs.declared.BookAnswer.{BookAnswer}
@@ -24,19 +25,20 @@ use Rattle.longest_match.proofs.Held.{held-empty}
 use Rattle.record.specs.Records.{recordCount}
 use Rattle.record.specs.declared.TokenRecord.{TokenRecord}
 use Rattle.record.specs.Tokens.{recordAt, recordsOf, tokensOf}
-use Rattle.record.specs.Contracts.{Small}
+use Rattle.record.specs.Contracts.{Fits}
 use Rattle.lexer.proofs.Outcomes.{loaded-rules}
 use Rattle.token_list.specs.Faults.{faultOf}
-use Rattle.token_list.specs.Checks.{firstFault, firstExtended}
-use Rattle.token_list.specs.Contracts.{Fitting, Laid, extendedAt}
-use Rattle.token_list.proofs.Passes.{faultless-pool, Measuring, measuring-start, measuring-refused, measuring-next, measuring-end, Joining, joining-start, joining-pool, joining-room, joining-next, joining-end, Extending, extending-start, extending-found, extending-next, extending-end}
+use Rattle.token_list.specs.Contracts.{Spanned, Faultless}
+use Rattle.token_list.proofs.Passes.{faultless-pool, Joining, joining-start, joining-pool, joining-room, joining-next, joining-end}
 use Rattle.printer.specs.Outcome.{printChecked, printRules, printOutcome}
-use Rattle.printer.specs.Contracts.{PrintAnswered}
-use Rattle.printer.proofs.Finding.{measured-bytes}
-use Rattle.printer.proofs.ByRules.{answered-long, answered-extended, answered-short, answered-printed, answered-many, answered-fault, answered-checked}
+use Rattle.printer.specs.Contracts.{PrintAnswered, Clean}
+use Rattle.printer.proofs.Rehearsing.{spanned-fitting, spanned-laid}
+use Rattle.printer.proofs.ByRules.{answered-long, answered-extended, answered-many, answered-fault, answered-checked, clean-written}
 use Rattle.printer.proofs.Outcomes.{answered-book, answered-refused}
 use Rattle.slices.specs.declared.printing.Stage.{Stage}
-use Rattle.slices.specs.Contracts.{going, done, refusedStage, passOver, movedOn, Steps, Stepped, firstStage, begun, Begins, Finishes}
+use Rattle.slices.specs.Contracts.{going, done, refusedStage, passOver, movedOn, Steps, Stepped, firstStage, begun, Begins, Finishes, checked}
+use Rattle.slices.proofs.Passes.{Measuring, measuring-start, measuring-refused, measuring-next, measuring-end}
+use Rattle.slices.proofs.Passes.{Extending, extending-start, extending-found, extending-next, extending-end}
 use Rattle.answer.specs.declared.BookAnswer.the-variants as book
 use Rattle.answer.specs.declared.PrintAnswer.the-variants as print
 
@@ -44,7 +46,8 @@ use Rattle.answer.specs.declared.PrintAnswer.the-variants as print
 
 module _ {bytes hs ss es : List ℕ} {count : ℕ} {b : BookAnswer} {r : Stage} (l : Loaded bytes b hs ss es) where
   refused : (number place : ℕ) → r ≡ refusedStage number place
-      → ((records pool out : List ℕ) → recordCount records ≡ count → PrintAnswered (printOutcome bytes records pool out) (print.Refused (record { number = number; place = place })) out)
+      → ((records pool out : List ℕ) → recordCount records ≡ count
+      → PrintAnswered (printOutcome bytes records pool out) (print.Refused (record { number = number; place = place })) out)
       → Begins bytes count hs ss es r
   refused number place e f =
       subst (Begins bytes count hs ss es) (sym e) (record { refuses = λ _. (refl, f); starts = λ p. clash refl p })
@@ -53,7 +56,8 @@ module _ {bytes hs ss es : List ℕ} {count : ℕ} {b : BookAnswer} {r : Stage} 
     many : maxTokens < count → r ≡ refusedStage 16 0 → Begins bytes count hs ss es r
     many m e =
         refused 16 0 e
-        (λ records pool out q. answered-book l a records pool out out _ (λ rules h. answered-many rules records pool out (subst (λ (k : ℕ). maxTokens < k) (sym q) m) refl))
+        (λ records pool out q. answered-book l a records pool out out _
+        (λ rules h. answered-many rules records pool out (subst (λ (k : ℕ). maxTokens < k) (sym q) m) refl))
 
     started : count ≤ maxTokens → r .refused ≡ false → r ≡ firstStage n count → Begins bytes count hs ss es r
     started m f e =
@@ -78,112 +82,122 @@ module _ {bytes hs ss es : List ℕ} {count : ℕ} {b : BookAnswer} {r : Stage} 
 
 -- no token is at fault, and there are so many bytes, not too many
 pub record Counted (rules : List Rule) (records pool : List ℕ) (total : ℕ) : Type 0 where
-  pub faultless : firstFault (faultOf rules pool) (recordsOf records) 0 ≡ none
-  pub bytes : total ≡ length (join (tokensOf records pool))
-  pub short : total ≤ maxText
+  pub faultless : Faultless rules records pool
+  pub spanned : Spanned records pool total
 
 -- a stage of a list that is not refused yet; at most `left` steps follow
 pub data Phase (rules : List Rule) (n : ℕ) (records pool scratch : List ℕ) (left : ℕ) (s : Stage) : Type 0 where
-  checking : (k at : ℕ) → s ≡ going 0 k at 0 n → k < recordCount records → 3 * recordCount records ≤ left + k → Measuring rules records pool at k
-      → Phase rules n records pool scratch left s
+  checking : (k at : ℕ) → s ≡ going 0 k at 0 n → k < recordCount records → 3 * recordCount records ≤ left + k
+      → Measuring rules records pool at k → Phase rules n records pool scratch left s
   joining : (k at total : ℕ) (entry : List ℕ) → s ≡ going 1 k at total n → k < recordCount records → 2 * recordCount records ≤ left + k
-      → Counted rules records pool total → length entry ≡ maxText → Joining records pool entry scratch at k → Phase rules n records pool scratch left s
+      → Counted rules records pool total → length entry ≡ maxText → Joining records pool entry scratch at k
+      → Phase rules n records pool scratch left s
   reading : (k at total : ℕ) → s ≡ going 2 k at total n → k < recordCount records → recordCount records ≤ left + k
-      → Counted rules records pool total → Laid rules records pool (take total scratch) → Extending rules records pool (take total scratch) at k
-      → Phase rules n records pool scratch left s
-  over : (k total : ℕ) → s ≡ done total → Counted rules records pool total → take total scratch ≡ join (tokensOf records pool)
-      → firstExtended rules (tokensOf records pool) 0 ≡ extendedAt k (recordCount records) → recordCount records ≤ k
-      → Phase rules n records pool scratch left s
+      → Counted rules records pool total → take total scratch ≡ join (tokensOf records pool)
+      → Extending rules records pool (take total scratch) at k → Phase rules n records pool scratch left s
+  over : (total : ℕ) → s ≡ done total → Clean rules records pool scratch total → Phase rules n records pool scratch left s
 
 pub data Going (book hs ss es records pool scratch : List ℕ) (left : ℕ) (s : Stage) : Type 0 where
   refuses : (number place : ℕ) → s ≡ refusedStage number place
-      → ((out : List ℕ) → PrintAnswered (printOutcome book records pool out) (print.Refused (record { number = number; place = place })) out)
+      → ((out : List ℕ)
+      → PrintAnswered (printOutcome book records pool out) (print.Refused (record { number = number; place = place })) out)
       → Going book hs ss es records pool scratch left s
   stands : (rules : List Rule) (n : ℕ) → readBook book ≡ accepted rules → Holds hs ss es n rules → recordCount records ≤ maxTokens
       → Phase rules n records pool scratch left s → Going book hs ss es records pool scratch left s
 
 -- the three passes, in a book's rules that the tables hold
-module _ (book hs ss es records pool : List ℕ) (rules : List Rule) (n : ℕ) (accepts : readBook book ≡ accepted rules) (holds : Holds hs ss es n rules) (few : recordCount records ≤ maxTokens) where
-  outcome : (out exit : List ℕ) (a : PrintAnswer) → PrintAnswered (printRules rules records pool out) a exit → PrintAnswered (printOutcome book records pool out) a exit
+module _ (book hs ss es records pool : List ℕ) (rules : List Rule) (n : ℕ) (accepts : readBook book ≡ accepted rules)
+    (holds : Holds hs ss es n rules) (few : recordCount records ≤ maxTokens) where
+  outcome : (out exit : List ℕ) (a : PrintAnswer) → PrintAnswered (printRules rules records pool out) a exit
+      → PrintAnswered (printOutcome book records pool out) a exit
   unfolding printOutcome
   outcome out exit a h = rw accepts h
 
-  counted-outcome : (out exit : List ℕ) (a : PrintAnswer) → firstFault (faultOf rules pool) (recordsOf records) 0 ≡ none
+  counted-outcome : (out exit : List ℕ) (a : PrintAnswer) → Faultless rules records pool
       → PrintAnswered (printChecked rules (tokensOf records pool) out) a exit → PrintAnswered (printOutcome book records pool out) a exit
   counted-outcome out exit a f h = outcome out exit a (answered-checked rules records pool out few f h)
 
-  module _ (t : TokenRecord) (small : Small t) (scratch : List ℕ) (sized : length scratch ≡ maxText) (left : ℕ) (r : Stage) where
+  module _ (t : TokenRecord) (small : Fits t) (scratch : List ℕ) (sized : length scratch ≡ maxText) (left : ℕ) (r : Stage) where
     -- the first pass
-    module _ (k at : ℕ) (more : k < recordCount records) (bound : 3 * recordCount records ≤ left + k) (w : Measuring rules records pool at k) (e : t ≡ recordAt records k) where
-      check-refused : (faultOf rules pool t ≡ 0 → ⊥) → r ≡ refusedStage (faultOf rules pool t) k → Going book hs ss es records pool scratch (left - 1) r
-      check-refused ne q = refuses _ _ q (λ out. outcome out out _ (answered-fault rules records pool out few (measuring-refused w more e refl ne)))
+    module _ (k at : ℕ) (more : k < recordCount records) (bound : 3 * recordCount records ≤ left + k)
+        (w : Measuring rules records pool at k) (e : t ≡ recordAt records k) where
+      check-refused : {number : ℕ} → faultOf rules pool t ≡ some number → r ≡ refusedStage number k
+          → Going book hs ss es records pool scratch (left - 1) r
+      check-refused f q =
+          refuses _ _ q (λ out. outcome out out _ (answered-fault rules records pool out few (measuring-refused w more e f)))
 
-      check-passed : faultOf rules pool t ≡ 0 → (b : Bool) → ltb (k + 1) (recordCount records) ≡ b
-          → r ≡ if b (going 0 (k + 1) (at + t .len) 0 n) (passOver 0 (at + t .len) 0 n) → Going book hs ss es records pool scratch (left - 1) r
+      check-passed : faultOf rules pool t ≡ none → (b : Bool) → ltb (k + 1) (recordCount records) ≡ b
+          → r ≡ if b (going 0 (k + 1) (at + t .len) 0 n) (passOver 0 (at + t .len) 0 n)
+          → Going book hs ss es records pool scratch (left - 1) r
       check-passed z true l q =
-          stands rules n accepts holds few (checking (k + 1) (at + t .len) q (ltb-true _ _ l) (omega arith) (measuring-next w more e refl z (small .len-below)))
+          stands rules n accepts holds few
+          (checking (k + 1) (at + t .len) q (ltb-true _ _ l) (omega arith) (measuring-next w more e z (small .len)))
       check-passed z false l q = go (ltb maxText (at + t .len)) refl q
         where
-          m : (firstFault (faultOf rules pool) (recordsOf records) 0 ≡ none) × (at + t .len ≡ length (join (tokensOf records pool)))
-          m = measured-bytes rules records pool (measuring-end (measuring-next w more e refl z (small .len-below)) (ltb-false _ _ l))
+          m : Faultless rules records pool × (at + t .len ≡ length (join (tokensOf records pool)))
+          m = measuring-end (measuring-next w more e z (small .len)) (ltb-false _ _ l)
 
-          go : (b : Bool) → ltb maxText (at + t .len) ≡ b → r ≡ if b (refusedStage 20 0) (going 1 0 0 (at + t .len) n) → Going book hs ss es records pool scratch (left - 1) r
-          go true y q₁ = refuses 20 0 q₁ (λ out. counted-outcome out out _ (m .0) (answered-long rules (tokensOf records pool) out (m .1) (ltb-true _ _ y) refl))
+          go : (b : Bool) → ltb maxText (at + t .len) ≡ b → r ≡ if b (refusedStage 20 0) (going 1 0 0 (at + t .len) n)
+              → Going book hs ss es records pool scratch (left - 1) r
+          go true y q₁ =
+              refuses 20 0 q₁
+              (λ out. counted-outcome out out _ (m .0) (answered-long rules (tokensOf records pool) out (m .1) (ltb-true _ _ y) refl))
           go false y q₁ =
-              let c : Counted rules records pool (at + t .len) = record { faultless = m .0; bytes = m .1; short = ltb-false _ _ y } in
-              let f : Fitting records pool scratch = record { each = faultless-pool rules pool (recordsOf records) 0 (m .0); room = omega (arith, m .1, c .short, sized) } in
+              let s : Spanned records pool (at + t .len) =
+              record { each = faultless-pool rules pool (recordsOf records) 0 (m .0); bytes = m .1; short = ltb-false _ _ y } in
               let d : recordCount records ≤ k + 1 = ltb-false _ _ l in
-              stands rules n accepts holds few (joining 0 0 (at + t .len) scratch q₁ (omega arith) (omega (arith, bound)) c sized (joining-start records pool scratch f))
+              stands rules n accepts holds few
+              (joining 0 0 (at + t .len) scratch q₁ (omega arith) (omega (arith, bound)) (record { faultless = m .0; spanned = s }) sized
+              (joining-start records pool scratch (spanned-fitting s sized)))
 
-      check-next : (b : Bool) → eqb (faultOf rules pool t) 0 ≡ b → r ≡ if b (movedOn (going 0 k at 0 n) (t .len) (recordCount records)) (refusedStage (faultOf rules pool t) k)
+      check-next : (o : Option ℕ) → faultOf rules pool t ≡ o → r ≡ checked o (going 0 k at 0 n) (t .len) (recordCount records)
           → Going book hs ss es records pool scratch (left - 1) r
-      check-next true z q = check-passed (eqb-true _ _ z) (ltb (k + 1) (recordCount records)) refl q
-      check-next false z q = check-refused (eqb-false _ _ z) q
+      check-next none z q = check-passed z (ltb (k + 1) (recordCount records)) refl q
+      check-next (some number) z q = check-refused z q
 
     -- the second
-    module _ (k at total : ℕ) (entry : List ℕ) (more : k < recordCount records) (bound : 2 * recordCount records ≤ left + k) (c : Counted rules records pool total) (long : length entry ≡ maxText)
-        (w : Joining records pool entry scratch at k) (e : t ≡ recordAt records k) (after : List ℕ) (p : after ≡ paste scratch at (drop (t .place) pool) (t .len)) where
-      join-next : (b : Bool) → ltb (k + 1) (recordCount records) ≡ b → r ≡ if b (going 1 (k + 1) (at + t .len) total n) (passOver 1 (at + t .len) total n)
+    module _ (k at total : ℕ) (entry : List ℕ) (more : k < recordCount records) (bound : 2 * recordCount records ≤ left + k)
+        (c : Counted rules records pool total) (long : length entry ≡ maxText) (w : Joining records pool entry scratch at k)
+        (e : t ≡ recordAt records k) (after : List ℕ) (p : after ≡ paste scratch at (drop (t .place) pool) (t .len)) where
+      join-next : (b : Bool) → ltb (k + 1) (recordCount records) ≡ b
+          → r ≡ if b (going 1 (k + 1) (at + t .len) total n) (passOver 1 (at + t .len) total n)
           → Going book hs ss es records pool after (left - 1) r
-      join-next true l q = stands rules n accepts holds few (joining (k + 1) (at + t .len) total entry q (ltb-true _ _ l) (omega arith) c long (joining-next w more e p))
+      join-next true l q =
+          stands rules n accepts holds few
+          (joining (k + 1) (at + t .len) total entry q (ltb-true _ _ l) (omega arith) c long (joining-next w more e p))
       join-next false l q =
           let d : recordCount records ≤ k + 1 = ltb-false _ _ l in
-          let j = joining-end (joining-next w more e p) d in
-          let x : take total after ≡ join (tokensOf records pool) = rw (c .bytes, j .written, take-append-seam) in
-          let y : Laid rules records pool (take total after) = record { faultless = c .faultless; written = x } in
-          stands rules n accepts holds few (reading 0 0 total q (omega arith) (omega (arith, bound)) c y (extending-start y))
+          let x = spanned-laid (c .spanned) (joining-end (joining-next w more e p) d) in
+          stands rules n accepts holds few
+          (reading 0 0 total q (omega arith) (omega (arith, bound)) c x (extending-start (c .faultless) x))
 
       join-sized : length after ≡ maxText
       join-sized = joining-next w more e p .same ∙ long
 
     -- the third
-    module _ (k at total : ℕ) (more : k < recordCount records) (bound : recordCount records ≤ left + k) (c : Counted rules records pool total) (y : Laid rules records pool (take total scratch))
-        (w : Extending rules records pool (take total scratch) at k) (e : t ≡ recordAt records k) {rule most : ℕ} (h : Chooses rules (drop at (take total scratch)) rule most) where
+    module _ (k at total : ℕ) (more : k < recordCount records) (bound : recordCount records ≤ left + k)
+        (c : Counted rules records pool total) (x : take total scratch ≡ join (tokensOf records pool))
+        (w : Extending rules records pool (take total scratch) at k) (e : t ≡ recordAt records k)
+        {rule most : ℕ} (h : Chooses rules (drop at (take total scratch)) rule most) where
       read-passed : most ≡ t .len → (b : Bool) → ltb (k + 1) (recordCount records) ≡ b
-          → r ≡ if b (going 2 (k + 1) (at + t .len) total n) (passOver 2 (at + t .len) total n) → Going book hs ss es records pool scratch (left - 1) r
+          → r ≡ if b (going 2 (k + 1) (at + t .len) total n) (passOver 2 (at + t .len) total n)
+          → Going book hs ss es records pool scratch (left - 1) r
       read-passed z true l q =
-          stands rules n accepts holds few (reading (k + 1) (at + t .len) total q (ltb-true _ _ l) (omega arith) c y (extending-next w (held-empty holds) more e h z))
+          stands rules n accepts holds few
+          (reading (k + 1) (at + t .len) total q (ltb-true _ _ l) (omega arith) c x (extending-next w (held-empty holds) more e h z))
       read-passed z false l q =
-          stands rules n accepts holds few (over (k + 1) total q c (y .written) (extending-end (extending-next w (held-empty holds) more e h z) (ltb-false _ _ l)) (ltb-false _ _ l))
+          let a = extending-end (extending-next w (held-empty holds) more e h z) (ltb-false _ _ l) in
+          stands rules n accepts holds few
+          (over total q (record { settled = record { faultless = c .faultless; apart = a }; spanned = c .spanned; laid = x }))
 
-      read-next : (b : Bool) → eqb most (t .len) ≡ b → r ≡ if b (movedOn (going 2 k at total n) (t .len) (recordCount records)) (refusedStage 21 k)
+      read-next : (b : Bool) → eqb most (t .len) ≡ b
+          → r ≡ if b (movedOn (going 2 k at total n) (t .len) (recordCount records)) (refusedStage 21 k)
           → Going book hs ss es records pool scratch (left - 1) r
       read-next true z q = read-passed (eqb-true _ _ z) (ltb (k + 1) (recordCount records)) refl q
       read-next false z q =
           refuses 21 k q (λ out. counted-outcome out out _ (c .faultless)
-          (answered-extended rules (tokensOf records pool) out (c .bytes) (c .short) (extending-found w (held-empty holds) more e h (eqb-false _ _ z)) more refl))
-
-  -- what is answered once all have passed
-  ends : (k total : ℕ) (scratch out exit : List ℕ) (a : PrintAnswer) → Counted rules records pool total → take total scratch ≡ join (tokensOf records pool)
-      → firstExtended rules (tokensOf records pool) 0 ≡ extendedAt k (recordCount records) → recordCount records ≤ k → Finishes scratch (done total) out a exit
-      → (b : Bool) → ltb (length out) total ≡ b → PrintAnswered (printOutcome book records pool out) a exit
-  ends k total scratch out exit a c x f all h true l =
-      let g = h .lacks refl (ltb-true _ _ l) in
-      counted-outcome out exit a (c .faultless) (subst (PrintAnswered (printChecked rules (tokensOf records pool) out) a) (sym (g .1)) (answered-short rules (tokensOf records pool) out (c .bytes) (c .short) f all (ltb-true _ _ l) (g .0)))
-  ends k total scratch out exit a c x f all h false l =
-      let g = h .prints refl (ltb-false _ _ l) in
-      counted-outcome out exit a (c .faultless)
-      (subst (λ (z : PrintAnswer). PrintAnswered (printChecked rules (tokensOf records pool) out) z exit) (sym (g .0)) (answered-printed rules (tokensOf records pool) out (c .bytes) (c .short) f all (ltb-false _ _ l) scratch x (g .1)))
+          (answered-extended rules (tokensOf records pool) out (c .spanned .bytes) (c .spanned .short)
+          (extending-found w (held-empty holds) more e h (eqb-false _ _ z)) refl))
 
 pos : (n : ℕ) → (n ≡ 0 → ⊥) → 0 < n
 pos zero h = absurd (h refl)
@@ -205,13 +219,17 @@ module _ {book hs ss es records pool : List ℕ} where
   going-start {count} {r} scratch b q = go (r .refused) refl
     where
       first : (rules : List Rule) (n : ℕ) → readBook book ≡ accepted rules → Holds hs ss es n rules → recordCount records ≤ maxTokens
-          → (z : Bool) → eqb count 0 ≡ z → r ≡ if z (done 0) (going 0 0 0 0 n) → Going book hs ss es records pool scratch (3 * recordCount records) r
+          → (z : Bool) → eqb count 0 ≡ z → r ≡ if z (done 0) (going 0 0 0 0 n)
+          → Going book hs ss es records pool scratch (3 * recordCount records) r
       first rules n a h m true z e =
           let none-left : recordCount records ≤ 0 = omega (arith, q, eqb-true count 0 z) in
-          let c = measured-bytes rules records pool (measuring-end (measuring-start rules records pool) none-left) in
+          let c = measuring-end (measuring-start rules records pool) none-left in
           let x : take 0 scratch ≡ join (tokensOf records pool) = empty (join (tokensOf records pool)) (c .1) in
-          let y : Laid rules records pool (take 0 scratch) = record { faultless = c .0; written = x } in
-          stands rules n a h m (over 0 0 e (record { faultless = c .0; bytes = c .1; short = omega arith }) x (extending-end (extending-start y) none-left) none-left)
+          let s : Spanned records pool 0 =
+          record { each = faultless-pool rules pool (recordsOf records) 0 (c .0); bytes = c .1; short = omega arith } in
+          let p = extending-end (extending-start (c .0) x) none-left in
+          stands rules n a h m
+          (over 0 e (record { settled = record { faultless = c .0; apart = p }; spanned = s; laid = x }))
       first rules n a h m false z e =
           let some-left : 0 < recordCount records = pos (recordCount records) (λ w. eqb-false count 0 z (sym q ∙ w)) in
           stands rules n a h m (checking 0 0 e some-left (omega arith) (measuring-start rules records pool))
@@ -226,18 +244,20 @@ module _ {book hs ss es records pool : List ℕ} where
     pub going-index : Going book hs ss es records pool scratch left s → s .more ≡ true → (s .index < recordCount records) × (0 < left)
     going-index (refuses number place e f) m = halts m e refl
     going-index (stands rules n a h few (checking k at e l b w)) m = let i = ap (λ (z : Stage). z .index) e in (omega arith, omega arith)
-    going-index (stands rules n a h few (joining k at total entry e l b c d w)) m = let i = ap (λ (z : Stage). z .index) e in (omega arith, omega arith)
-    going-index (stands rules n a h few (reading k at total e l b c y w)) m = let i = ap (λ (z : Stage). z .index) e in (omega arith, omega arith)
-    going-index (stands rules n a h few (over k total e c x f all)) m = halts m e refl
+    going-index (stands rules n a h few (joining k at total entry e l b c d w)) m = let i = ap (λ (z : Stage). z .index) e in
+        (omega arith, omega arith)
+    going-index (stands rules n a h few (reading k at total e l b c y w)) m = let i = ap (λ (z : Stage). z .index) e in
+        (omega arith, omega arith)
+    going-index (stands rules n a h few (over total e c)) m = halts m e refl
 
-    module _ {t : TokenRecord} (sized : length scratch ≡ maxText) (small : Small t) where
-      pub going-steps : Going book hs ss es records pool scratch left s → s .more ≡ true → t ≡ recordAt records (s .index) → Steps hs ss es scratch pool s t
+    module _ {t : TokenRecord} (sized : length scratch ≡ maxText) (small : Fits t) where
+      pub going-steps : Going book hs ss es records pool scratch left s → s .more ≡ true → t ≡ recordAt records (s .index)
+          → Steps hs ss es scratch pool s t
       going-steps (refuses number place e f) m t-is = halts m e refl
       going-steps (stands rules n a h few (checking k at e l b w)) m t-is =
           subst (λ (z : Stage). Steps hs ss es scratch pool z t) (sym e) (record {
             held = record { rules = rules; holds = h };
             sized = sized;
-            small = small;
             few = omega arith;
             checks = λ _. w .few;
             joins = λ p. absurd (omega (arith, p));
@@ -248,7 +268,6 @@ module _ {book hs ss es records pool : List ℕ} where
           subst (λ (z : Stage). Steps hs ss es scratch pool z t) (sym e) (record {
             held = record { rules = rules; holds = h };
             sized = sized;
-            small = small;
             few = omega arith;
             checks = λ p. absurd (omega (arith, p));
             joins = λ _. (joining-pool w l i, joining-room w l i);
@@ -258,45 +277,58 @@ module _ {book hs ss es records pool : List ℕ} where
           subst (λ (z : Stage). Steps hs ss es scratch pool z t) (sym e) (record {
             held = record { rules = rules; holds = h };
             sized = sized;
-            small = small;
             few = omega arith;
             checks = λ p. absurd (omega (arith, p));
             joins = λ p. absurd (omega (arith, p));
-            reads = λ _ _. (omega (arith, w .within, length-take-le total scratch (omega (arith, c .short, sized))), c .short);
+            reads = λ _ _. (
+              omega (arith, w .within, length-take-le total scratch (omega (arith, c .spanned .short, sized))),
+              c .spanned .short,
+            );
           })
-      going-steps (stands rules n a h few (over k total e c x f all)) m t-is = halts m e refl
+      going-steps (stands rules n a h few (over total e c)) m t-is = halts m e refl
 
       -- t is the token at the stage's number, and r the stage after it
-      pub going-next : {after : List ℕ} {r : Stage} → Going book hs ss es records pool scratch left s → s .more ≡ true → t ≡ recordAt records (s .index)
-          → Stepped hs ss es scratch after pool s t (recordCount records) r → Going book hs ss es records pool after (left - 1) r × (length after ≡ maxText)
+      pub going-next : {after : List ℕ} {r : Stage} → Going book hs ss es records pool scratch left s → s .more ≡ true
+          → t ≡ recordAt records (s .index)
+          → Stepped hs ss es scratch after pool s t (recordCount records) r
+          → Going book hs ss es records pool after (left - 1) r × (length after ≡ maxText)
       going-next {after} {r} (refuses number place e f) m t-is st = halts m e refl
       going-next {after} {r} (stands rules n a h few (checking k at e l b w)) m t-is st =
           let i : t ≡ recordAt records k = t-is ∙ ap (λ (z : Stage). recordAt records (z .index)) e in
           let g = (subst (λ (z : Stage). Stepped hs ss es scratch after pool z t (recordCount records) r) e st) .checks refl in
-          subst (λ (z : List ℕ). Going book hs ss es records pool z (left - 1) r × (length z ≡ maxText)) (sym (g .0))
-          (check-next book hs ss es records pool rules n a h few t small scratch sized left r k at l b w i (eqb (faultOf rules pool t) 0) refl (g .1 rules h), sized)
+          subst (λ (z : List ℕ). Going book hs ss es records pool z (left - 1) r × (length z ≡ maxText)) (sym (g .0)) (
+            check-next book hs ss es records pool rules n a h few t small scratch sized left r k at l b w i (faultOf rules pool t)
+                refl (g .1 rules h),
+            sized,
+          )
       going-next {after} {r} (stands rules n a h few (joining k at total entry e l b c d w)) m t-is st =
           let i : t ≡ recordAt records k = t-is ∙ ap (λ (z : Stage). recordAt records (z .index)) e in
           let g = (subst (λ (z : Stage). Stepped hs ss es scratch after pool z t (recordCount records) r) e st) .joins refl in (
-            join-next book hs ss es records pool rules n a h few t small scratch sized left r k at total entry l b c d w i after (g .0) (ltb (k + 1) (recordCount records)) refl (g .1),
+            join-next book hs ss es records pool rules n a h few t small scratch sized left r k at total entry l b c d w i after (g .0)
+                (ltb (k + 1) (recordCount records)) refl (g .1),
             join-sized book hs ss es records pool rules n a h few t small scratch sized left r k at total entry l b c d w i after (g .0),
           )
       going-next {after} {r} (stands rules n a h few (reading k at total e l b c y w)) m t-is st =
           let i : t ≡ recordAt records k = t-is ∙ ap (λ (z : Stage). recordAt records (z .index)) e in
-          let g = (subst (λ (z : Stage). Stepped hs ss es scratch after pool z t (recordCount records) r) e st) .reads (λ p. absurd (omega (arith, p))) (λ p. absurd (omega (arith, p))) in
+          let g = (subst (λ (z : Stage). Stepped hs ss es scratch after pool z t (recordCount records) r) e st) .reads
+          (λ p. absurd (omega (arith, p))) (λ p. absurd (omega (arith, p))) in
           let d = g .1 rules h in
-          subst (λ (z : List ℕ). Going book hs ss es records pool z (left - 1) r × (length z ≡ maxText)) (sym (g .0))
-          (read-next book hs ss es records pool rules n a h few t small scratch sized left r k at total l b c y w i (d .chooses) (eqb (d .most) (t .len)) refl (d .result), sized)
-      going-next {after} {r} (stands rules n a h few (over k total e c x f all)) m t-is st = halts m e refl
+          subst (λ (z : List ℕ). Going book hs ss es records pool z (left - 1) r × (length z ≡ maxText)) (sym (g .0)) (
+            read-next book hs ss es records pool rules n a h few t small scratch sized left r k at total l b c y w i (d .chooses)
+                (eqb (d .most) (t .len)) refl (d .result),
+            sized,
+          )
+      going-next {after} {r} (stands rules n a h few (over total e c)) m t-is st = halts m e refl
 
     pub going-total : Going book hs ss es records pool scratch left s → s .more ≡ false → s .total ≤ maxText
     going-total (refuses number place e f) m = let i = ap (λ (z : Stage). z .total) e in omega arith
     going-total (stands rules n a h few (checking k at e l b w)) m = goes m e refl
     going-total (stands rules n a h few (joining k at total entry e l b c d w)) m = goes m e refl
     going-total (stands rules n a h few (reading k at total e l b c y w)) m = goes m e refl
-    going-total (stands rules n a h few (over k total e c x f all)) m = let i = ap (λ (z : Stage). z .total) e in omega (arith, c .short)
+    going-total (stands rules n a h few (over total e c)) m = let i = ap (λ (z : Stage). z .total) e in omega (arith, c .spanned .short)
 
-    pub going-finish : {out exit : List ℕ} {r : PrintAnswer} → Going book hs ss es records pool scratch left s → s .more ≡ false → Finishes scratch s out r exit
+    pub going-finish : {out exit : List ℕ} {r : PrintAnswer} → Going book hs ss es records pool scratch left s → s .more ≡ false
+        → Finishes scratch s out r exit
         → PrintAnswered (printOutcome book records pool out) r exit
     going-finish {out} {exit} {r} (refuses number place e f) m h =
         let g = (subst (λ (z : Stage). Finishes scratch z out r exit) e h) .refuses refl in
@@ -304,5 +336,6 @@ module _ {book hs ss es records pool : List ℕ} where
     going-finish (stands rules n a h few (checking k at e l b w)) m fin = goes m e refl
     going-finish (stands rules n a h few (joining k at total entry e l b c d w)) m fin = goes m e refl
     going-finish (stands rules n a h few (reading k at total e l b c y w)) m fin = goes m e refl
-    going-finish {out} {exit} {r} (stands rules n a h few (over k total e c x f all)) m fin =
-        ends book hs ss es records pool rules n a h few k total scratch out exit r c x f all (subst (λ (z : Stage). Finishes scratch z out r exit) e fin) (ltb (length out) total) refl
+    going-finish {out} {exit} {r} (stands rules n a h few (over total e c)) m fin =
+        let g = (subst (λ (z : Stage). Finishes scratch z out r exit) e fin) .writes refl in
+        outcome book hs ss es records pool rules n a h few out exit r (clean-written rules records pool out few c g)

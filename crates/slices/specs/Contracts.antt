@@ -1,7 +1,7 @@
 -- What the layers of the code ask and answer between themselves. Nobody needs to believe it: the operations' contracts do not rest on it.
 use mathlib.Core.Path.{_≡_}
 use mathlib.Core.Bool.{true, false}
-use mathlib.Core.Option.{none}
+use mathlib.Core.Option.{Option, none, some}
 use mathlib.Core.List.{List}
 use Prim.Native.Nat.{ℕ, _+_, _%_, _^_, _<_, _≤_, _*_}
 use lib.ListN.{length, drop, take}
@@ -18,79 +18,81 @@ use Rattle.reader.specs.Reading.{readBook, accepted}
 use Rattle.longest_match.specs.Lexer.{choose, lex}
 use Rattle.longest_match.specs.Contracts.{Held, Chooses, Holds}
 use Rattle.record.specs.Records.{recordCount}
-use Rattle.record.specs.Encoding.{noToken}
+use Rattle.record.specs.Contracts.{noRecord}
 use Rattle.record.specs.declared.TokenRecord.{TokenRecord}
-use Rattle.record.specs.Contracts.{Small}
 use Rattle.lexer.specs.Outcome.{lexRules, lexOutcome}
 use Rattle.lexer.specs.Contracts.{LexAnswered}
+use Rattle.output.specs.Contracts.{WritesOut}
 use Rattle.token_list.specs.Faults.{faultOf}
 use Rattle.printer.specs.Contracts.{PrintAnswered}
 use Rattle.printer.specs.Outcome.{printOutcome}
-use Rattle.slices.specs.declared.lexing.Turn.{Turn}
+use Rattle.slices.specs.declared.lexing.Pending.{Pending}
 use Rattle.slices.specs.declared.printing.Stage.{Stage}
 use Rattle.answer.specs.declared.LexAnswer.the-variants as answer
 use Rattle.answer.specs.declared.PrintAnswer.the-variants as print
 
--- ---- The turns of lexing into a slice of tokens, said of the rules that the tables hold.
+-- ==== Module lexing: what is pending.
 
-abbrev pub refusedTurn : ℕ → ℕ → Turn
-refusedTurn number place =
-    record { more = false; index = 0; token = noToken; next = 0; rules = 0; refused = true; number = number; place = place }
+abbrev pub refusedPending : ℕ → ℕ → Pending
+refusedPending number place =
+    record { more = false; index = 0; token = noRecord; next = 0; rules = 0; refused = true; number = number; place = place }
 
-abbrev pub turnRefusal : Turn → Refusal
-turnRefusal t = record { number = t .number; place = t .place }
+abbrev pub pendingRefusal : Pending → Refusal
+pendingRefusal p = record { number = p .number; place = p .place }
 
--- what a turn without a token answers
-abbrev pub answerOf : Turn → LexAnswer
-answerOf t = if (t .refused) (answer.Refused (turnRefusal t)) (answer.Lexed (t .index) (t .next))
+-- what is answered where no token is pending
+abbrev pub answerOf : Pending → LexAnswer
+answerOf p = if (p .refused) (answer.Refused (pendingRefusal p)) (answer.Lexed (p .index) (p .next))
 
--- the token of the turn is the one that is chosen at `at`
-pub record Chosen (rules : List Rule) (text : List ℕ) (at : ℕ) (t : Turn) : Type 0 where
+-- the pending token is the one that is chosen at `at`
+pub record Chosen (rules : List Rule) (text : List ℕ) (at : ℕ) (p : Pending) : Type 0 where
   pub rule : ℕ
-  pub chooses : Chooses rules (drop at text) rule (t .token .length)
-  pub some : 0 < t .token .length
-  pub tag : t .token .tag ≡ (ruleAt rules rule) .tag % 65536
-  pub place : t .token .place ≡ at
-  pub next : t .next ≡ at + t .token .length
+  pub chooses : Chooses rules (drop at text) rule (p .token .len)
+  pub some : 0 < p .token .len
+  pub tag : p .token .tag ≡ (ruleAt rules rule) .tag % 65536
+  pub place : p .token .place ≡ at
+  pub next : p .next ≡ at + p .token .len
 
--- the turn after `index` tokens, where the text goes on at `at`
-pub record Turns (rules : List Rule) (text : List ℕ) (n index at : ℕ) (t : Turn) : Type 0 where
-  pub plain : t .refused ≡ false
-  pub count : t .rules ≡ n
-  pub stored : t .index ≡ index
-  pub stops : t .more ≡ false → (choose rules (drop at text) ≡ none) × (t .next ≡ at)
-  pub goes : t .more ≡ true → Chosen rules text at t
+-- p is pending after `index` tokens, where the text goes on at `at`, by n rules
+pub record PendingAt (rules : List Rule) (text : List ℕ) (n index at : ℕ) (p : Pending) : Type 0 where
+  pub plain : p .refused ≡ false
+  pub count : p .rules ≡ n
+  pub stored : p .index ≡ index
+  pub stops : p .more ≡ false → (choose rules (drop at text) ≡ none) × (p .next ≡ at)
+  pub goes : p .more ≡ true → Chosen rules text at p
 
--- the tables and the text by which a turn goes on
-pub record Ready (hs ss es text : List ℕ) (t : Turn) : Type 0 where
-  pub held : Held hs ss es (t .rules)
-  pub counts : t .index + 1 < 2 ^ 64
-  pub within : t .next ≤ length text
+-- the tables and the text by which it goes on behind p
+pub record Ready (hs ss es text : List ℕ) (p : Pending) : Type 0 where
+  pub held : Held hs ss es (p .rules)
+  pub counts : p .index + 1 < 2 ^ 64
+  pub within : p .next ≤ length text
   pub short : length text ≤ maxText
 
--- the first turn where neither 14 nor 15 applies
-pub record Started (rules : List Rule) (text : List ℕ) (n room : ℕ) (t : Turn) : Type 0 where
+-- ---- What is pending first.
+
+-- neither 14 nor 15 applies, and p is pending at the start of the text
+pub record Started (rules : List Rule) (text : List ℕ) (n room : ℕ) (p : Pending) : Type 0 where
   pub short : length text ≤ maxText
   pub enough : length ((lex rules text) .tokens) ≤ room
-  pub turns : Turns rules text n 0 0 t
+  pub pending : PendingAt rules text n 0 0 p
 
--- the first turn by these rules: 14, 15, or the first token
-pub record Opens (rules : List Rule) (text : List ℕ) (n room : ℕ) (t : Turn) : Type 0 where
-  pub idle : t .refused ≡ true → t .more ≡ false
-  pub refuses : t .refused ≡ true → (records : List ℕ) → recordCount records ≡ room → LexAnswered (lexRules rules text records) (answer.Refused (turnRefusal t)) records
-  pub starts : t .refused ≡ false → Started rules text n room t
+-- by rules that the tables hold: 14, 15, or the first token
+pub record Opens (rules : List Rule) (text : List ℕ) (n room : ℕ) (p : Pending) : Type 0 where
+  pub idle : p .refused ≡ true → p .more ≡ false
+  pub refuses : p .refused ≡ true → (records : List ℕ) → recordCount records ≡ room
+      → LexAnswered (lexRules rules text records) (answer.Refused (pendingRefusal p)) records
+  pub starts : p .refused ≡ false → Started rules text n room p
 
--- ---- The first turn by a book.
+-- by a book: refused, or the first token by its rules
+pub record Begun (book text : List ℕ) (room : ℕ) (hs ss es : List ℕ) (p : Pending) : Type 0 where
+  pub idle : p .refused ≡ true → p .more ≡ false
+  pub refuses : p .refused ≡ true → (records : List ℕ) → recordCount records ≡ room
+      → LexAnswered (lexOutcome book text records) (answer.Refused (pendingRefusal p)) records
+  pub starts : p .refused ≡ false
+      → (rules : List Rule) × ((readBook book ≡ accepted rules)
+      × (Holds hs ss es (p .rules) rules × Started rules text (p .rules) room p))
 
--- refused, or the first turn by the rules of the book
-pub record Begun (book text : List ℕ) (room : ℕ) (hs ss es : List ℕ) (t : Turn) : Type 0 where
-  pub idle : t .refused ≡ true → t .more ≡ false
-  pub refuses : t .refused ≡ true → (records : List ℕ) → recordCount records ≡ room → LexAnswered (lexOutcome book text records) (answer.Refused (turnRefusal t)) records
-  pub starts : t .refused ≡ false → (rules : List Rule) × ((readBook book ≡ accepted rules) × (Holds hs ss es (t .rules) rules × Started rules text (t .rules) room t))
-
--- ---- The stages of printing a slice of tokens.
-
--- ---- the stages
+-- ==== Module printing: the stages.
 
 abbrev pub going : ℕ → ℕ → ℕ → ℕ → ℕ → Stage
 going pass index at total rules =
@@ -108,7 +110,7 @@ refusedStage number place =
 abbrev pub stageRefusal : Stage → Refusal
 stageRefusal s = record { number = s .number; place = s .place }
 
--- ---- from stage to stage
+-- ---- From stage to stage.
 
 -- a pass is over after `at` bytes: the first with 20 where they are too many
 abbrev pub passOver : ℕ → ℕ → ℕ → ℕ → Stage
@@ -123,9 +125,10 @@ movedOn s len count =
     if (ltb (s .index + 1) count) (going (s .pass) (s .index + 1) (s .at + len) (s .total) (s .rules))
     (passOver (s .pass) (s .at + len) (s .total) (s .rules))
 
--- the first pass: the token's fault, 0 for none
-abbrev pub checked : ℕ → Stage → ℕ → ℕ → Stage
-checked number s len count = if (eqb number 0) (movedOn s len count) (refusedStage number (s .index))
+-- the first pass: the token's fault, if it has one
+abbrev pub checked : Option ℕ → Stage → ℕ → ℕ → Stage
+checked none s len count = movedOn s len count
+checked (some number) s len count = refusedStage number (s .index)
 
 -- the third pass: as many bytes are chosen at the token's place as it has, or 21
 pub record Reads (rules : List Rule) (text : List ℕ) (s : Stage) (len count : ℕ) (r : Stage) : Type 0 where
@@ -138,7 +141,6 @@ pub record Reads (rules : List Rule) (text : List ℕ) (s : Stage) (len count : 
 pub record Steps (hs ss es scratch pool : List ℕ) (s : Stage) (t : TokenRecord) : Type 0 where
   pub held : Held hs ss es (s .rules)
   pub sized : length scratch ≡ maxText
-  pub small : Small t
   pub few : s .index < maxTokens
   pub checks : s .pass ≡ 0 → s .at ≤ s .index * 4294967295
   pub joins : s .pass ≡ 1 → (t .place + t .len ≤ length pool) × (s .at + t .len ≤ length scratch)
@@ -146,12 +148,13 @@ pub record Steps (hs ss es scratch pool : List ℕ) (s : Stage) (t : TokenRecord
 
 -- what a step does with token t
 pub record Stepped (hs ss es scratch after pool : List ℕ) (s : Stage) (t : TokenRecord) (count : ℕ) (r : Stage) : Type 0 where
-  pub checks : s .pass ≡ 0 → (after ≡ scratch) × ((rules : List Rule) → Holds hs ss es (s .rules) rules → r ≡ checked (faultOf rules pool t) s (t .len) count)
+  pub checks : s .pass ≡ 0 → (after ≡ scratch)
+      × ((rules : List Rule) → Holds hs ss es (s .rules) rules → r ≡ checked (faultOf rules pool t) s (t .len) count)
   pub joins : s .pass ≡ 1 → (after ≡ paste scratch (s .at) (drop (t .place) pool) (t .len)) × (r ≡ movedOn s (t .len) count)
-  pub reads : (s .pass ≡ 0 → ⊥) → (s .pass ≡ 1 → ⊥)
-      → (after ≡ scratch) × ((rules : List Rule) → Holds hs ss es (s .rules) rules → Reads rules (take (s .total) scratch) s (t .len) count r)
+  pub reads : (s .pass ≡ 0 → ⊥) → (s .pass ≡ 1 → ⊥) → (after ≡ scratch)
+      × ((rules : List Rule) → Holds hs ss es (s .rules) rules → Reads rules (take (s .total) scratch) s (t .len) count r)
 
--- ---- the first stage and the last
+-- ---- The first stage and the last.
 
 abbrev pub firstStage : ℕ → ℕ → Stage
 firstStage rules count = if (eqb count 0) (done 0) (going 0 0 0 0 rules)
@@ -163,12 +166,13 @@ begun rules count = if (ltb maxTokens count) (refusedStage 16 0) (firstStage rul
 -- the first stage of printing `count` tokens: refused by the book or by 16, or the first token
 pub record Begins (book : List ℕ) (count : ℕ) (hs ss es : List ℕ) (r : Stage) : Type 0 where
   pub refuses : r .refused ≡ true → (r ≡ refusedStage (r .number) (r .place))
-      × ((records pool out : List ℕ) → recordCount records ≡ count → PrintAnswered (printOutcome book records pool out) (print.Refused (stageRefusal r)) out)
+      × ((records pool out : List ℕ) → recordCount records ≡ count
+      → PrintAnswered (printOutcome book records pool out) (print.Refused (stageRefusal r)) out)
   pub starts : r .refused ≡ false
-      → (rules : List Rule) × ((n : ℕ) × ((readBook book ≡ accepted rules) × (Holds hs ss es n rules × ((count ≤ maxTokens) × (r ≡ firstStage n count)))))
+      → (rules : List Rule) × ((n : ℕ) × ((readBook book ≡ accepted rules)
+      × (Holds hs ss es n rules × ((count ≤ maxTokens) × (r ≡ firstStage n count)))))
 
 -- the answer, by the joined bytes in the scratch
 pub record Finishes (scratch : List ℕ) (s : Stage) (out : List ℕ) (r : PrintAnswer) (exit : List ℕ) : Type 0 where
   pub refuses : s .refused ≡ true → (r ≡ print.Refused (stageRefusal s)) × (exit ≡ out)
-  pub lacks : s .refused ≡ false → length out < s .total → (r ≡ print.Refused (record { number = 22; place = s .total })) × (exit ≡ out)
-  pub prints : s .refused ≡ false → s .total ≤ length out → (r ≡ print.Printed (s .total)) × (exit ≡ paste out 0 (drop 0 scratch) (s .total))
+  pub writes : s .refused ≡ false → WritesOut scratch 0 (s .total) out r exit

@@ -1,2 +1,3 @@
--- The definitions of this crate.
+-- What the layers of this crate ask and answer between themselves. What `lex_tokens` and `print_tokens` answer is defined in lexer and
+-- printer, of the records that the slice says.
 pub mod Contracts

@@ -1,26 +1,25 @@
-// Lexing into a slice of tokens. A turn holds the next token to store; all that is decided of it stands in `begin_rules` and `next`.
-// The first turn of lexing by a book into a slice of tokens.
+// Lexing into a slice of tokens, by functions over plain data: which token is to be stored next, and what is answered where there is none.
 use answer::BookAnswer;
 use answer::LexAnswer;
 use answer::Refusal;
 use book::Book;
-use record::Token;
+use record::TokenRecord;
 ghost use mathlib.Core.Path.{_≡_};
 ghost use mathlib.Core.List.{List};
-ghost use Prim.Native.Nat.{_+_, _<_, _≤_};
+ghost use Prim.Native.Nat.{_+_, _≤_};
 ghost use lib.ListN.{length};
 ghost use Rattle.automaton.specs.Rule.{Rule};
 ghost use Rattle.book.specs.Limits.{maxText};
 ghost use Rattle.book.specs.Contracts.{Fresh};
 ghost use Rattle.longest_match.specs.Contracts.{Holds, Held};
-ghost use Rattle.slices.specs.Contracts.{answerOf, refusedTurn, Turns, Ready, Opens, Begun};
+ghost use Rattle.slices.specs.Contracts.{answerOf, refusedPending, PendingAt, Ready, Opens, Begun};
 
-// Where lexing stands: whether `token` is to be stored, as number `index`, and where the text goes on behind it; where
-// there is none, `index` tokens are stored and the rest is at `next`, or the call is refused.
-pub struct Turn {
+// What is pending: whether `token` is to be stored, as number `index`, and where the text goes on behind it; where there is none,
+// `index` tokens are stored and the rest is at `next`, or the call is refused.
+pub struct Pending {
     pub more: bool,
     pub index: usize,
-    pub token: Token,
+    pub token: TokenRecord,
     pub next: usize,
     pub rules: usize,
     pub refused: bool,
@@ -28,17 +27,17 @@ pub struct Turn {
     pub place: usize,
 }
 
-// The turn of a refused call.
-pub fn refuse(number: u8, place: usize) -> Turn
-    ensures { λ r. ⌜ r ≡ refusedTurn number place ⌝ }
+// What is pending in a refused call.
+pub fn refuse(number: u8, place: usize) -> Pending
+    ensures { λ r. ⌜ r ≡ refusedPending number place ⌝ }
 {
-    Turn {
+    Pending {
         more: false,
         index: 0,
-        token: Token {
+        token: TokenRecord {
             tag: 0,
             place: 0,
-            length: 0,
+            len: 0,
         },
         next: 0,
         rules: 0,
@@ -48,8 +47,8 @@ pub fn refuse(number: u8, place: usize) -> Turn
     }
 }
 
-// The turn after `index` tokens, where the text goes on at `at`.
-fn turn_at(
+// What is pending after `index` tokens, where the text goes on at `at`.
+fn pending_at(
     headers: &[u64],
     states: &[u16],
     edges: &[u64],
@@ -57,22 +56,23 @@ fn turn_at(
     text: &[u8],
     index: usize,
     at: usize,
-) -> Turn
+) -> Pending
     requires { ⌜ Held (now headers) (now states) (now edges) rules ⌝ }
     requires { ⌜ (at ≤ length (now text)) × (length (now text) ≤ maxText) ⌝ }
-    ensures { λ r. ⌜ ((rs : List Rule) → Holds (now (headers .entry)) (now (states .entry)) (now (edges .entry)) rules rs → Turns rs (now (text .entry)) rules index at r) ⌝ }
+    ensures { λ r. ⌜ ((rs : List Rule) → Holds (now (headers .entry)) (now (states .entry)) (now (edges .entry)) rules rs
+        → PendingAt rs (now (text .entry)) rules index at r) ⌝ }
 {
-    let c = longest_match::choose_at(headers, states, edges, rules, text, at);
+    let c = longest_match::choose(headers, states, edges, rules, text, at, text.len());
     let rule = c.rule;
     let len = c.len;
     if len == 0 {
-        return Turn {
+        return Pending {
             more: false,
             index,
-            token: Token {
+            token: TokenRecord {
                 tag: 0,
                 place: 0,
-                length: 0,
+                len: 0,
             },
             next: at,
             rules,
@@ -83,13 +83,13 @@ fn turn_at(
     }
     let header = headers[rule];
     let tag = automaton::tag_of(header);
-    Turn {
+    Pending {
         more: true,
         index,
-        token: Token {
+        token: TokenRecord {
             tag: (tag % 65536) as u16,
             place: at as u32,
-            length: len as u32,
+            len: len as u32,
         },
         next: at + len,
         rules,
@@ -99,7 +99,7 @@ fn turn_at(
     }
 }
 
-// The first turn of lexing `text` by the rules of the tables into `room` tokens.
+// What is pending first in lexing `text` by the rules of the tables into `room` tokens.
 pub fn begin_rules(
     headers: &[u64],
     states: &[u16],
@@ -107,9 +107,10 @@ pub fn begin_rules(
     rules: usize,
     text: &[u8],
     room: usize,
-) -> Turn
+) -> Pending
     requires { ⌜ Held (now headers) (now states) (now edges) rules ⌝ }
-    ensures { λ r. ⌜ ((rs : List Rule) → Holds (now (headers .entry)) (now (states .entry)) (now (edges .entry)) rules rs → Opens rs (now (text .entry)) rules room r) ⌝ }
+    ensures { λ r. ⌜ ((rs : List Rule) → Holds (now (headers .entry)) (now (states .entry)) (now (edges .entry)) rules rs
+        → Opens rs (now (text .entry)) rules room r) ⌝ }
 {
     if Book::TEXT < text.len() {
         return refuse(Refusal::TEXT_TOO_LONG, 0);
@@ -120,40 +121,40 @@ pub fn begin_rules(
             return refuse(Refusal::TOO_FEW_RECORDS, needed.tokens);
         }
     }
-    turn_at(headers, states, edges, rules, text, 0, 0)
+    pending_at(headers, states, edges, rules, text, 0, 0)
 }
 
-// The turn after `turn`.
+// What is pending once the token of `pending` is stored.
 pub fn next(
     headers: &[u64; Book::RULES],
     states: &[u16; Book::CELLS],
     edges: &[u64; Book::EDGES],
     text: &[u8],
-    turn: Turn,
-) -> Turn
-    requires { ⌜ Ready (now headers) (now states) (now edges) (now text) turn ⌝ }
-    ensures { λ r. ⌜ ((rs : List Rule) → Holds (now (headers .entry)) (now (states .entry)) (now (edges .entry)) (turn .rules) rs
-        → Turns rs (now (text .entry)) (turn .rules) (turn .index + 1) (turn .next) r) ⌝ }
+    pending: Pending,
+) -> Pending
+    requires { ⌜ Ready (now headers) (now states) (now edges) (now text) pending ⌝ }
+    ensures { λ r. ⌜ ((rs : List Rule) → Holds (now (headers .entry)) (now (states .entry)) (now (edges .entry)) (pending .rules) rs
+        → PendingAt rs (now (text .entry)) (pending .rules) (pending .index + 1) (pending .next) r) ⌝ }
 {
-    let rules = turn.rules;
-    let index = turn.index + 1;
-    let at = turn.next;
-    turn_at(headers, states, edges, rules, text, index, at)
+    let rules = pending.rules;
+    let index = pending.index + 1;
+    let at = pending.next;
+    pending_at(headers, states, edges, rules, text, index, at)
 }
 
 // What is answered when there is no token to store.
-pub fn answer(turn: Turn) -> LexAnswer
-    ensures { λ r. ⌜ r ≡ answerOf turn ⌝ }
+pub fn answer(pending: Pending) -> LexAnswer
+    ensures { λ r. ⌜ r ≡ answerOf pending ⌝ }
 {
-    if turn.refused {
+    if pending.refused {
         return LexAnswer::Refused(Refusal {
-            number: turn.number,
-            place: turn.place,
+            number: pending.number,
+            place: pending.place,
         });
     }
     LexAnswer::Lexed {
-        tokens: turn.index,
-        rest: turn.next,
+        tokens: pending.index,
+        rest: pending.next,
     }
 }
 
@@ -164,14 +165,15 @@ fn begin_arrays(
     rules: usize,
     text: &[u8],
     room: usize,
-) -> Turn
+) -> Pending
     requires { ⌜ Held (now headers) (now states) (now edges) rules ⌝ }
-    ensures { λ r. ⌜ ((rs : List Rule) → Holds (now (headers .entry)) (now (states .entry)) (now (edges .entry)) rules rs → Opens rs (now (text .entry)) rules room r) ⌝ }
+    ensures { λ r. ⌜ ((rs : List Rule) → Holds (now (headers .entry)) (now (states .entry)) (now (edges .entry)) rules rs
+        → Opens rs (now (text .entry)) rules room r) ⌝ }
 {
     begin_rules(headers, states, edges, rules, text, room)
 }
 
-// The first turn of lexing `text` by a book into `room` tokens; the tables are lent fresh, and hold the book's rules afterwards.
+// What is pending first in lexing `text` by a book into `room` tokens; the tables are lent fresh, and hold the book's rules afterwards.
 pub fn begin(
     book: &[u8],
     headers: &mut [u64; Book::RULES],
@@ -179,9 +181,10 @@ pub fn begin(
     edges: &mut [u64; Book::EDGES],
     text: &[u8],
     room: usize,
-) -> Turn
+) -> Pending
     requires { ⌜ Fresh (now headers) (now states) (now edges) ⌝ }
-    ensures { λ r. ⌜ Begun (now (book .entry)) (now (text .entry)) room (now (headers .exit)) (now (states .exit)) (now (edges .exit)) r ⌝ }
+    ensures { λ r. ⌜ Begun (now (book .entry)) (now (text .entry)) room
+        (now (headers .exit)) (now (states .exit)) (now (edges .exit)) r ⌝ }
 {
     match reader::load_arrays(book, headers, states, edges) {
         BookAnswer::Accepted(rules) => begin_arrays(headers, states, edges, rules, text, room),

@@ -1,14 +1,12 @@
-// Lexing into a slice of token structs, for callers inside the server.
-// What is decided stands below, in functions over plain data; the function that holds the slice is one loop.
-// Printing a slice of token structs, for callers inside the server.
-// What is decided stands below, in functions over plain data; the function that holds the slice is one loop.
+// Lexing into and printing from a slice of token structs, for callers inside the server.
+// All that is decided stands in the modules, in functions over plain data; a function that holds the slice is one loop.
 pub mod lexing;
 pub mod printing;
 
 use answer::LexAnswer;
 use answer::PrintAnswer;
 use book::Book;
-use record::Token;
+use record::TokenRecord;
 ghost use mathlib.Core.Path.{_≡_};
 ghost use Rattle.record.specs.Encoding.{encoded};
 ghost use Rattle.lexer.specs.Outcome.{lexOutcome};
@@ -16,14 +14,14 @@ ghost use Rattle.printer.specs.Outcome.{printOutcome};
 
 // Cuts `text` by the rules of a book, as `lexer::lex` does, into tokens of a slice: the number of tokens and the
 // place of the rest, or the refusal of document 01. The tokens past the count stay as they were.
-pub fn lex_tokens(book: &[u8], text: &[u8], tokens: &mut [Token]) -> LexAnswer
+pub fn lex_tokens(book: &[u8], text: &[u8], tokens: &mut [TokenRecord]) -> LexAnswer
     ensures { λ r. ⌜ (r ≡ (lexOutcome (now (book .entry)) (now (text .entry)) (encoded (now (tokens .entry)))) .answer)
         × (encoded (now (tokens .exit)) ≡ (lexOutcome (now (book .entry)) (now (text .entry)) (encoded (now (tokens .entry)))) .records) ⌝ }
 {
     let mut headers = [0u64; Book::RULES];
     let mut states = [0u16; Book::CELLS];
     let mut edges = [0u64; Book::EDGES];
-    let mut turn = crate::lexing::begin(
+    let mut pending = crate::lexing::begin(
         book,
         &mut headers,
         &mut states,
@@ -34,19 +32,20 @@ pub fn lex_tokens(book: &[u8], text: &[u8], tokens: &mut [Token]) -> LexAnswer
     let h = &headers;
     let s = &states;
     let e = &edges;
-    while turn.more {
-        let index = turn.index;
-        tokens[index] = turn.token;
-        turn = crate::lexing::next(h, s, e, text, turn);
+    while pending.more {
+        let index = pending.index;
+        tokens[index] = pending.token;
+        pending = crate::lexing::next(h, s, e, text, pending);
     }
-    crate::lexing::answer(turn)
+    crate::lexing::answer(pending)
 }
 
 // Prints tokens whose bytes lie in `pool`, as `printer::print` does: the number of bytes, which stand at the start of `out`, or
 // the refusal of document 01. Every other byte of `out` stays as it was.
-pub fn print_tokens(book: &[u8], tokens: &[Token], pool: &[u8], out: &mut [u8]) -> PrintAnswer
+pub fn print_tokens(book: &[u8], tokens: &[TokenRecord], pool: &[u8], out: &mut [u8]) -> PrintAnswer
     ensures { λ r. ⌜ (r ≡ (printOutcome (now (book .entry)) (encoded (now (tokens .entry))) (now (pool .entry)) (now (out .entry))) .answer)
-        × (now (out .exit) ≡ (printOutcome (now (book .entry)) (encoded (now (tokens .entry))) (now (pool .entry)) (now (out .entry))) .out) ⌝ }
+        × (now (out .exit)
+        ≡ (printOutcome (now (book .entry)) (encoded (now (tokens .entry))) (now (pool .entry)) (now (out .entry))) .out) ⌝ }
 {
     let mut headers = [0u64; Book::RULES];
     let mut states = [0u16; Book::CELLS];

@@ -1,13 +1,11 @@
-// Printing a slice of tokens. The tokens are read in three passes, a token at a time: each is checked and their bytes are counted,
-// the bytes are joined in a scratch, and at each token it is asked whether a rule reads on into what follows. All that is decided
-// stands in `begin`, `step` and `finish`.
+// Printing a slice of tokens, by functions over plain data. The tokens are read in three passes, one at a time: each is checked and
+// their bytes are counted, the bytes are joined in a scratch, and at each token it is asked whether a rule reads on into what follows.
 use answer::BookAnswer;
 use answer::PrintAnswer;
 use answer::Refusal;
 use book::Book;
-use longest_match::Choice;
-use record::Token;
 use record::TokenRecord;
+use token_list::faults::Fault;
 ghost use mathlib.Core.Path.{_≡_};
 ghost use mathlib.Core.List.{List};
 ghost use Prim.Native.Nat.{_+_, _*_, _^_, _<_, _≤_};
@@ -16,11 +14,10 @@ ghost use lib.Seq.{paste};
 ghost use Rattle.automaton.specs.Rule.{Rule};
 ghost use Rattle.book.specs.Contracts.{Fresh};
 ghost use Rattle.book.specs.Limits.{maxText, maxTokens};
-ghost use Rattle.longest_match.specs.Contracts.{Holds, Held, Chooses};
-ghost use Rattle.record.specs.Contracts.{Small};
-ghost use Rattle.record.specs.Encoding.{recordIn};
+ghost use Rattle.longest_match.specs.Contracts.{Holds, Held};
 ghost use Rattle.token_list.specs.Faults.{faultOf};
-ghost use Rattle.slices.specs.Contracts.{going, done, refusedStage, movedOn, checked, Reads, Steps, Stepped, begun, Begins, Finishes};
+ghost use Rattle.slices.specs.Contracts.{going, done, refusedStage, movedOn, checked, Reads, Steps, Stepped};
+ghost use Rattle.slices.specs.Contracts.{begun, Begins, Finishes};
 
 // Where printing stands: the pass, the number of the token to be read, and how many bytes its pass is past; `total` is known
 // after the first pass. Where no token is to be read, all have passed, or the call is refused.
@@ -125,48 +122,29 @@ fn check(
     count: usize,
 ) -> Stage
     requires { ⌜ Held (now headers) (now states) (now edges) (stage .rules) ⌝ }
-    requires { ⌜ Small token ⌝ }
     requires { ⌜ (stage .index < maxTokens) × (stage .at ≤ stage .index * 4294967295) ⌝ }
     ensures { λ r. ⌜ ((rs : List Rule) → Holds (now (headers .entry)) (now (states .entry)) (now (edges .entry)) (stage .rules) rs
         → r ≡ checked (faultOf rs (now (pool .entry)) token) stage (token .len) count) ⌝ }
 {
-    let len = token.len;
+    let len = token.len as usize;
     let rules = stage.rules;
-    let number = token_list::faults::token_fault(headers, states, edges, rules, pool, token);
-    if number != 0 {
-        return refuse(number, stage.index);
+    match token_list::faults::token_fault(headers, states, edges, rules, pool, token) {
+        Fault::By(number) => refuse(number, stage.index),
+        Fault::Nothing => move_on(stage, len, count),
     }
-    move_on(stage, len, count)
 }
 
 fn join(pool: &[u8], scratch: &mut [u8], stage: Stage, token: TokenRecord, count: usize) -> Stage
     requires { ⌜ (token .place + token .len ≤ length (now pool)) × (stage .at + token .len ≤ length (now scratch)) ⌝ }
     requires { ⌜ stage .index < maxTokens ⌝ }
-    ensures { λ r. ⌜ (now (scratch .exit) ≡ paste (now (scratch .entry)) (stage .at) (drop (token .place) (now (pool .entry))) (token .len)) × (r ≡ movedOn stage (token .len) count) ⌝ }
+    ensures { λ r. ⌜ (now (scratch .exit) ≡ paste (now (scratch .entry)) (stage .at) (drop (token .place) (now (pool .entry))) (token .len))
+        × (r ≡ movedOn stage (token .len) count) ⌝ }
 {
-    let place = token.place;
-    let len = token.len;
+    let place = token.place as usize;
+    let len = token.len as usize;
     let at = stage.at;
     output::copy(pool, place, len, scratch, at);
     move_on(stage, len, count)
-}
-
-// What is chosen from `at` on of the first `total` bytes of the scratch.
-fn choose_within(
-    headers: &[u64],
-    states: &[u16],
-    edges: &[u64],
-    rules: usize,
-    scratch: &[u8],
-    total: usize,
-    at: usize,
-) -> Choice
-    requires { ⌜ Held (now headers) (now states) (now edges) rules ⌝ }
-    requires { ⌜ (at ≤ total) × (total ≤ length (now scratch)) ⌝ }
-    ensures { λ r. ⌜ ((rs : List Rule) → Holds (now (headers .entry)) (now (states .entry)) (now (edges .entry)) rules rs
-        → Chooses rs (drop at (take total (now (scratch .entry)))) (r .rule) (r .len)) ⌝ }
-{
-    longest_match::choose_at(headers, states, edges, rules, &scratch[..total], at)
 }
 
 fn read_on(
@@ -187,7 +165,7 @@ fn read_on(
     let rules = stage.rules;
     let total = stage.total;
     let at = stage.at;
-    let chosen = choose_within(headers, states, edges, rules, scratch, total, at);
+    let chosen = longest_match::choose(headers, states, edges, rules, scratch, at, total);
     if chosen.len != len {
         return refuse(Refusal::READ_ON, stage.index);
     }
@@ -205,7 +183,8 @@ fn step_pass(
     count: usize,
 ) -> Stage
     requires { ⌜ Steps (now headers) (now states) (now edges) (now scratch) (now pool) stage token ⌝ }
-    ensures { λ r. ⌜ Stepped (now (headers .entry)) (now (states .entry)) (now (edges .entry)) (now (scratch .entry)) (now (scratch .exit)) (now (pool .entry)) stage token count r ⌝ }
+    ensures { λ r. ⌜ Stepped (now (headers .entry)) (now (states .entry)) (now (edges .entry))
+        (now (scratch .entry)) (now (scratch .exit)) (now (pool .entry)) stage token count r ⌝ }
 {
     if stage.pass == Stage::CHECK {
         return check(headers, states, edges, pool, stage, token, count);
@@ -213,7 +192,15 @@ fn step_pass(
     if stage.pass == Stage::JOIN {
         return join(pool, scratch, stage, token, count);
     }
-    read_on(headers, states, edges, scratch, stage, token.len, count)
+    read_on(
+        headers,
+        states,
+        edges,
+        scratch,
+        stage,
+        token.len as usize,
+        count,
+    )
 }
 
 // The stage after token number `stage.index` of `count`.
@@ -224,18 +211,14 @@ pub fn step(
     scratch: &mut [u8; Book::TEXT],
     pool: &[u8],
     stage: Stage,
-    token: Token,
+    token: TokenRecord,
     count: usize,
 ) -> Stage
-    requires { ⌜ Steps (now headers) (now states) (now edges) (now scratch) (now pool) stage (recordIn token) ⌝ }
-    ensures { λ r. ⌜ Stepped (now (headers .entry)) (now (states .entry)) (now (edges .entry)) (now (scratch .entry)) (now (scratch .exit)) (now (pool .entry)) stage (recordIn token) count r ⌝ }
+    requires { ⌜ Steps (now headers) (now states) (now edges) (now scratch) (now pool) stage token ⌝ }
+    ensures { λ r. ⌜ Stepped (now (headers .entry)) (now (states .entry)) (now (edges .entry))
+        (now (scratch .entry)) (now (scratch .exit)) (now (pool .entry)) stage token count r ⌝ }
 {
-    let said = TokenRecord {
-        tag: token.tag as u64,
-        place: token.place as usize,
-        len: token.length as usize,
-    };
-    step_pass(headers, states, edges, scratch, pool, stage, said, count)
+    step_pass(headers, states, edges, scratch, pool, stage, token, count)
 }
 
 fn begin_rules(rules: usize, count: usize) -> Stage

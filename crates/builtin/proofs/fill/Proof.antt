@@ -16,24 +16,34 @@ Inv-loop classes next tags text records₀ tokens₀ place₀ records tokens pla
 abbrev μ-loop : tie.MeasureT-loop
 μ-loop classes next tags text records₀ tokens₀ place₀ records tokens place = length text - place
 
--- the token that is found at this place
-token : (c : tie.Else1 Inv-loop μ-loop) → Picked builtinRules (drop (c .before .before .before .before .loop .place) (now (c .before .before .before .before .before .before .before .args .text))) (c .before .before .scan-at .result .tag) (c .before .before .scan-at .result .len)
-token c = picked (c .before .before .scan-at .ensures)
+-- the call, from the loop's head
+abbrev call : tie.At-loop Inv-loop μ-loop → tie.Start Inv-loop μ-loop
+call c = c .before .before .before
 
-more : (c : tie.Else1 Inv-loop μ-loop) → c .before .before .before .before .loop .place + c .before .before .scan-at .result .len ≤ length (now (c .before .before .before .before .before .before .before .args .text))
-more c = cutting-within (c .before .before .before .before .loop .inv .cut) (token c .chooses) (omega arith)
+-- the loop's head, from where a token is found
+abbrev head : tie.Else1 Inv-loop μ-loop → tie.At-loop Inv-loop μ-loop
+head c = c .before .before .before .before
 
-room : (c : tie.Else1 Inv-loop μ-loop) → 10 * c .before .before .before .before .loop .tokens + 10 ≤ length (c .before .before .before .before .loop .records)
-room c = filling-room (c .before .before .before .before .loop .inv) (c .before .before .before .before .before .before .before .pre .1) (token c .chooses) (omega arith)
+module _ (c : tie.Else1 Inv-loop μ-loop) where
+  -- the token that is found at this place
+  token : Picked builtinRules (drop (head c .loop .place) (now (call (head c) .args .text)))
+      (c .before .before .scan-at .result .tag) (c .before .before .scan-at .result .len)
+  token = picked (c .before .before .scan-at .ensures)
 
-ended : (c : tie.After-loop Inv-loop μ-loop) → length (now (c .before .before .before .before .args .text)) ≤ c .before .loop .place
+  more : head c .loop .place + c .before .before .scan-at .result .len ≤ length (now (call (head c) .args .text))
+  more = cutting-within (head c .loop .inv .cut) (token .chooses) (omega arith)
+
+  room : 10 * head c .loop .tokens + 10 ≤ length (head c .loop .records)
+  room = filling-room (head c .loop .inv) (call (head c) .pre .1) (token .chooses) (omega arith)
+
+ended : (c : tie.After-loop Inv-loop μ-loop) → length (now (call (c .before) .args .text)) ≤ c .before .loop .place
 ended c = omega arith
 
 loop-holds : tie.Need-loop-holds Inv-loop μ-loop
 loop-holds c = filling-start builtinRules _ _
 
 scan-at-requires : tie.Need-scan-at-requires Inv-loop μ-loop
-scan-at-requires c κs = (c .before .before .before .before .pre .0, c .before .loop .inv .cut .within)
+scan-at-requires c κs = (call (c .before) .pre .0, c .before .loop .inv .cut .within)
 
 same-length : tie.Need-same-length Inv-loop μ-loop
 same-length c = c .before .before .before .before .loop .inv .same
@@ -45,17 +55,24 @@ returns c = let e = lex-stop builtinRules _ (c .before .before .scan-at .ensures
 put-record-requires : tie.Need-put-record-requires Inv-loop μ-loop
 put-record-requires c κs = omega (arith, room (c .before))
 
+-- where a token is found, from the end of the turn
+abbrev turn : tie.After-slice-known2 Inv-loop μ-loop → tie.Else1 Inv-loop μ-loop
+turn c = c .before .before .before .before
+
 add-tokens : tie.Need-add-tokens Inv-loop μ-loop
-add-tokens c = let w = c .before .before .before .before .before .before .before .before .loop .inv .cut in omega (arith, more (c .before .before .before .before), w .few, w .within)
+add-tokens c = let w = head (turn c) .loop .inv .cut in omega (arith, more (turn c), w .few, w .within)
 
 add-place : tie.Need-add-place Inv-loop μ-loop
-add-place c = omega (arith, more (c .before .before .before .before))
+add-place c = omega (arith, more (turn c))
 
 loop-less : tie.Need-loop-less Inv-loop μ-loop
-loop-less c = omega (arith, more (c .before .before .before .before))
+loop-less c = omega (arith, more (turn c))
 
 loop-again : tie.Need-loop-again Inv-loop μ-loop
-loop-again c = filling-next (c .before .before .before .before .before .before .before .before .loop .inv) (c .before .before .before .before .before .before .before .before .before .before .before .pre .1) (token (c .before .before .before .before) .chooses) (omega arith) (token (c .before .before .before .before) .names (omega arith)) (c .before .before .put-record .ensures)
+loop-again c =
+    let t = token (turn c) in
+    filling-next (head (turn c) .loop .inv) (call (head (turn c)) .pre .1) (t .chooses) (omega arith) (t .names (omega arith))
+    (c .before .before .put-record .ensures)
 
 same-length-2 : tie.Need-same-length-2 Inv-loop μ-loop
 same-length-2 c = c .before .loop .inv .same

@@ -21,7 +21,9 @@ same-length : tie.Need-same-length
 same-length c = search needs
 
 returns : tie.Need-returns
-returns c = let e = builtin-outcome (now (c .before .before .before .before .before .before .before .before .before .before .before .before .args .text)) (now (c .before .before .before .before .before .before .before .before .before .before .before .before .args .records)) in
+returns c = let e = builtin-outcome
+    (now (c .before .before .before .before .before .before .before .before .before .before .before .before .args .text))
+    (now (c .before .before .before .before .before .before .before .before .before .before .before .before .args .records)) in
     (rw e (c .before .before .lex-lent .ensures .0), rw e (c .before .before .lex-lent .ensures .1))
 
 pub lex-builtin-spec : {M : Type 1} → statement M

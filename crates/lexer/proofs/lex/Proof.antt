@@ -12,7 +12,9 @@ enum-known-rules : tie.Need-enum-known-rules
 enum-known-rules c = search needs
 
 lex-arrays-requires : tie.Need-lex-arrays-requires
-lex-arrays-requires c κs = loaded-held (c .before .before .before .before .before .before .before .load-arrays .ensures) (c .before .before .before .before .before .rules .given .1)
+lex-arrays-requires c κs =
+    let accepted = c .before .before .before .before .before in
+    loaded-held (accepted .before .before .load-arrays .ensures) (accepted .rules .given .1)
 
 enum-known-refusal : tie.Need-enum-known-refusal
 enum-known-refusal c = search needs
@@ -22,7 +24,10 @@ same-length c = search needs
 
 returns : tie.Need-returns
 returns c =
-    let a = answered-book (c .before .before .before .before .before .before .before .before .before .before .load-arrays .ensures) (c .before .before .before .before .before .before .before .before .rules .given .1) _ _ _ _ (c .before .before .lex-arrays .ensures) in
+    let lexed = c .before .before in
+    let accepted = lexed .before .before .before .before .before .before in
+    let a = answered-book (accepted .before .before .load-arrays .ensures) (accepted .rules .given .1) _ _ _ _
+    (lexed .lex-arrays .ensures) in
     (a .answer, a .records)
 
 returns-2 : tie.Need-returns-2

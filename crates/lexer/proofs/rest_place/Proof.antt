@@ -12,13 +12,17 @@ enum-known-rules : tie.Need-enum-known-rules
 enum-known-rules c = search needs
 
 rest-arrays-requires : tie.Need-rest-arrays-requires
-rest-arrays-requires c κs = loaded-held (c .before .before .before .before .before .before .load-arrays .ensures) (c .before .before .before .before .rules .given .1)
+rest-arrays-requires c κs =
+    let accepted = c .before .before .before .before in
+    loaded-held (accepted .before .before .load-arrays .ensures) (accepted .rules .given .1)
 
 enum-told : tie.Need-enum-told
 enum-told c = search needs
 
 returns : tie.Need-returns
-returns c = rest-book (c .before .before .before .before .before .before .before .load-arrays .ensures) (c .before .before .before .before .before .rules .given .1) _ _ (c .rest-arrays .ensures)
+returns c =
+    let accepted = c .before .before .before .before .before in
+    rest-book (accepted .before .before .load-arrays .ensures) (accepted .rules .given .1) _ _ (c .rest-arrays .ensures)
 
 returns-2 : tie.Need-returns-2
 returns-2 c = rest-refused (c .before .before .load-arrays .ensures) (c .enum-told .given .1) _

@@ -14,7 +14,8 @@ element-copy-out-tag c = search needs
 
 cast-t9 : tie.Need-cast-t9
 cast-t9 c =
-    let h : getD (now (c .before .args .tags)) (c .before .args .s / 16) 0 < 256 = rw (c .before .pre .0) (tag-below (c .before .args .s) (c .before .pre .1)) in
+    let h : getD (now (c .before .args .tags)) (c .before .args .s / 16) 0 < 256 =
+    rw (c .before .pre .0) (tag-below (c .before .args .s) (c .before .pre .1)) in
     omega arith
 
 returns : tie.Need-returns

@@ -16,8 +16,13 @@ abbrev μ-loop : tie.MeasureT-loop
 byte : (c : tie.After-shared-slice-known2 Inv-loop μ-loop) (k : ℕ) → getD (now (c .before .before .before .before .args .text)) k 0 < 256
 byte c k = omega (arith, c .shared-slice-known2 .given k)
 
-accepted : (c : tie.Then2 Inv-loop μ-loop) → Walked (now (c .before .before .before .before .before .before .before .args .text)) (c .before .before .step .result) (c .before .before .step .result) (c .before .before .before .before .before .loop .i + 1) (c .before .before .before .before .before .loop .i + 1)
-accepted c = walked-accept (c .before .before .before .before .before .loop .inv) (c .before .before .before .before .loop-test .taken) (byte (c .before .before .before) (c .before .before .before .before .before .loop .i)) (c .before .before .step .ensures) (c .if2 .taken)
+accepted : (c : tie.Then2 Inv-loop μ-loop)
+    → Walked (now (c .before .before .before .before .before .before .before .args .text)) (c .before .before .step .result)
+    (c .before .before .step .result) (c .before .before .before .before .before .loop .i + 1)
+    (c .before .before .before .before .before .loop .i + 1)
+accepted c = walked-accept (c .before .before .before .before .before .loop .inv) (c .before .before .before .before .loop-test .taken)
+    (byte (c .before .before .before) (c .before .before .before .before .before .loop .i)) (c .before .before .step .ensures)
+    (c .if2 .taken)
 
 falls : (n i j : ℕ) → i < n → i + 1 ≤ j → n - j < n - i
 falls n i j l h = omega arith
@@ -29,21 +34,36 @@ shared-slice-read-step : tie.Need-shared-slice-read-step Inv-loop μ-loop
 shared-slice-read-step c = c .before .loop-test .taken
 
 step-requires : tie.Need-step-requires Inv-loop μ-loop
-step-requires c κs = (c .before .before .before .before .pre .classes-are, c .before .before .before .before .pre .next-are, c .before .before .loop .inv .inside)
+step-requires c κs = (
+  c .before .before .before .before .pre .classes-are,
+  c .before .before .before .before .pre .next-are,
+  c .before .before .loop .inv .inside,
+)
 
 found-requires : tie.Need-found-requires Inv-loop μ-loop
-found-requires c κs = (c .before .before .before .before .before .before .pre .tags-are, c .before .before .before .before .loop .inv .known)
+found-requires c κs = (
+  c .before .before .before .before .before .before .pre .tags-are,
+  c .before .before .before .before .loop .inv .known,
+)
 
 returns : tie.Need-returns Inv-loop μ-loop
 returns c =
     let a = c .found .ensures in
-    rw (a .0, a .1) (scanned-dead (c .before .before .before .before .before .loop .inv) (c .before .before .before .before .loop-test .taken) (byte (c .before .before .before) (c .before .before .before .before .before .loop .i)) (c .before .before .step .ensures) (c .before .if1 .taken))
+    rw (a .0, a .1) (scanned-dead (c .before .before .before .before .before .loop .inv)
+    (c .before .before .before .before .loop-test .taken)
+    (byte (c .before .before .before) (c .before .before .before .before .before .loop .i)) (c .before .before .step .ensures)
+    (c .before .if1 .taken))
 
 add-i : tie.Need-add-i Inv-loop μ-loop
 add-i c = omega (arith, c .before .before .before .loop-test .taken)
 
 run-requires : tie.Need-run-requires Inv-loop μ-loop
-run-requires c κs = let w = accepted c in (c .before .before .before .before .before .before .before .pre .classes-are, c .before .before .before .before .before .before .before .pre .next-are, w .inside, w .within)
+run-requires c κs = let w = accepted c in (
+  c .before .before .before .before .before .before .before .pre .classes-are,
+  c .before .before .before .before .before .before .before .pre .next-are,
+  w .inside,
+  w .within,
+)
 
 loop-less : tie.Need-loop-less Inv-loop μ-loop
 loop-less c = let r = c .run .ensures in falls _ _ _ (c .before .before .before .before .before .loop-test .taken) (r .further)
@@ -55,7 +75,9 @@ loop-less-2 : tie.Need-loop-less-2 Inv-loop μ-loop
 loop-less-2 c = omega (arith, c .before .before .before .before .loop-test .taken)
 
 loop-again-2 : tie.Need-loop-again-2 Inv-loop μ-loop
-loop-again-2 c = walked-pass (c .before .before .before .before .before .loop .inv) (c .before .before .before .before .loop-test .taken) (byte (c .before .before .before) (c .before .before .before .before .before .loop .i)) (c .before .before .step .ensures) (c .if2 .left)
+loop-again-2 c = walked-pass (c .before .before .before .before .before .loop .inv) (c .before .before .before .before .loop-test .taken)
+    (byte (c .before .before .before) (c .before .before .before .before .before .loop .i)) (c .before .before .step .ensures)
+    (c .if2 .left)
 
 found-requires-2 : tie.Need-found-requires-2 Inv-loop μ-loop
 found-requires-2 c κs = (c .before .before .before .pre .tags-are, c .before .loop .inv .known)

@@ -15,7 +15,8 @@ class-small : (c : tie.Start) → getD (now (c .args .classes)) (c .args .byte) 
 unfolding classBytes
 class-small c = rw (c .pre .0) (class-below (c .args .byte) (omega arith))
 
-next-is : (c : tie.Start) → getD (now (c .args .next)) (c .args .s + getD (now (c .args .classes)) (c .args .byte) 0) 0 ≡ nextState (c .args .s) (c .args .byte)
+next-is : (c : tie.Start) → getD (now (c .args .next)) (c .args .s + getD (now (c .args .classes)) (c .args .byte) 0) 0
+    ≡ nextState (c .args .s) (c .args .byte)
 next-is c = rw (c .pre .0, c .pre .1)
 
 element-copy-out-class : tie.Need-element-copy-out-class
@@ -31,7 +32,8 @@ element-copy-out-result : tie.Need-element-copy-out-result
 element-copy-out-result c = let h = class-small (c .before) in omega arith
 
 cast-result-2 : tie.Need-cast-result-2
-cast-result-2 c = let h = joined .next-state (c .before .before .args .s) (c .before .before .args .byte) (c .before .before .pre .2) (omega arith) in
+cast-result-2 c = let h = joined .next-state (c .before .before .args .s) (c .before .before .args .byte) (c .before .before .pre .2)
+    (omega arith) in
     rw (next-is (c .before .before)) (omega arith)
 
 returns : tie.Need-returns

@@ -14,9 +14,17 @@ use Rattle.lexer.proofs.ByRules.{answered-long, answered-few, answered-
 use Rattle.lexer.proofs.by_rules.lex_rules.Statement.{statement}
 use Rattle.lexer.proofs.by_rules.lex_rules.Tie as tie
 
+-- the call, from where the records are enough
+abbrev call : tie.Joined2 → tie.Start
+call c = c .before .before .before .before .before .before .before
+
 -- the records are enough, counted or not
-fits : (c : tie.Joined2) (rs : List Rule) → Holds (now (c .before .before .before .before .before .before .before .args .headers)) (now (c .before .before .before .before .before .before .before .args .states)) (now (c .before .before .before .before .before .before .before .args .edges)) (c .before .before .before .before .before .before .before .args .rules) rs → length ((lex rs (now (c .before .before .before .before .before .before .before .args .text))) .tokens) ≤ recordCount (now (c .before .before .before .before .before .before .before .args .records))
-fits c rs h = ⊎-elim (λ w. omega (arith, w .1 .ensures rs h .tokens-are, w .3 .left)) (λ w. enough rs _ (now (c .before .before .before .before .before .before .before .args .records)) (w .left)) (c .if2 .came)
+fits : (c : tie.Joined2) (rs : List Rule)
+    → Holds (now (call c .args .headers)) (now (call c .args .states)) (now (call c .args .edges)) (call c .args .rules) rs
+    → length ((lex rs (now (call c .args .text))) .tokens) ≤ recordCount (now (call c .args .records))
+fits c rs h =
+    ⊎-elim (λ w. omega (arith, w .1 .ensures rs h .tokens-are, w .3 .left)) (λ w. enough rs _ (now (call c .args .records)) (w .left))
+    (c .if2 .came)
 
 refused-requires : tie.Need-refused-requires
 refused-requires c κs = search needs
@@ -31,16 +39,22 @@ refused-requires-2 : tie.Need-refused-requires-2
 refused-requires-2 c κs = search needs
 
 returns-2 : tie.Need-returns-2
-returns-2 c = λ rs h. rw (c .refused2 .ensures) (answered-few rs _ _ (c .before .before .before .before .before .if1 .left) (c .before .before .before .count .ensures rs h) (c .before .if3 .taken))
+returns-2 c = λ rs h.
+    let counted = c .before .before .before in
+    rw (c .refused2 .ensures)
+    (answered-few rs _ _ (counted .before .before .if1 .left) (counted .count .ensures rs h) (c .before .if3 .taken))
 
 fill-requires : tie.Need-fill-requires
-fill-requires c κs = room-of (c .before .before .before .before .before .before .before .before .pre) (fits (c .before))
+fill-requires c κs = room-of (call (c .before) .pre) (fits (c .before))
 
 same-length : tie.Need-same-length
 same-length c = search needs
 
 returns-3 : tie.Need-returns-3
-returns-3 c = λ rs h. answered-lexed rs _ _ (c .before .before .before .before .before .if1 .left) (fits (c .before .before .before .before) rs h) (c .before .before .fill .ensures .0 rs h) (c .before .before .fill .ensures .1 rs h)
+returns-3 c = λ rs h.
+    let filled = c .before .before in
+    answered-lexed rs _ _ (filled .before .before .before .if1 .left) (fits (filled .before .before) rs h)
+    (filled .fill .ensures .0 rs h) (filled .fill .ensures .1 rs h)
 
 pub lex-rules-spec : {M : Type 1} → statement M
 lex-rules-spec =

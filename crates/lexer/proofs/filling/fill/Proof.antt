@@ -34,13 +34,16 @@ head c = c .before .before .before
 
 -- by one list of rules that the tables hold
 some : (c : tie.At-loop Inv-loop μ-loop)
-    → Filling (call c .pre .held .rules) (now (call c .args .text)) (now (call c .args .records)) (c .loop .records) (c .loop .place) (c .loop .tokens)
+    → Filling (call c .pre .held .rules) (now (call c .args .text)) (now (call c .args .records)) (c .loop .records) (c .loop .place)
+    (c .loop .tokens)
 some c = c .loop .inv (call c .pre .held .rules) (call c .pre .held .holds)
 
 module _ (c : tie.After-struct-known Inv-loop μ-loop) where
   chosen : (rs : List Rule)
-      → Holds (now (call (head c) .args .headers)) (now (call (head c) .args .states)) (now (call (head c) .args .edges)) (call (head c) .args .rules) rs
-      → Chooses rs (drop (head c .loop .place) (now (call (head c) .args .text))) (c .before .choose .result .rule) (c .before .choose .result .len)
+      → Holds (now (call (head c) .args .headers)) (now (call (head c) .args .states)) (now (call (head c) .args .edges))
+      (call (head c) .args .rules) rs
+      → Chooses rs (drop (head c .loop .place) (now (call (head c) .args .text))) (c .before .choose .result .rule)
+      (c .before .choose .result .len)
   chosen rs h = c .before .choose .ensures rs _ h (part-end _ _)
 
   one : Chooses (call (head c) .pre .held .rules) (drop (head c .loop .place) (now (call (head c) .args .text)))
@@ -48,8 +51,10 @@ module _ (c : tie.After-struct-known Inv-loop μ-loop) where
   one = chosen (call (head c) .pre .held .rules) (call (head c) .pre .held .holds)
 
 module _ (e : tie.Else1 Inv-loop μ-loop) where
-  known : Table (now (call (head (e .before)) .args .headers)) (now (call (head (e .before)) .args .states)) (now (call (head (e .before)) .args .edges))
-      (e .before .before .choose .result .rule) (ruleAt (call (head (e .before)) .pre .held .rules) (e .before .before .choose .result .rule))
+  known : Table (now (call (head (e .before)) .args .headers)) (now (call (head (e .before)) .args .states))
+      (now (call (head (e .before)) .args .edges))
+      (e .before .before .choose .result .rule)
+      (ruleAt (call (head (e .before)) .pre .held .rules) (e .before .before .choose .result .rule))
   known = call (head (e .before)) .pre .held .holds .tables .each _ (one (e .before) .known (omega arith))
 
   more : head (e .before) .loop .place + e .before .before .choose .result .len ≤ length (now (call (head (e .before)) .args .text))
@@ -74,8 +79,7 @@ same-length c = some (c .before .before .before .before) .same
 
 returns : tie.Need-returns Inv-loop μ-loop
 returns c =
-    let inv = head (c .before) .loop .inv in
-    (
+    let inv = head (c .before) .loop .inv in (
       λ rs h. cutting-stop (inv rs h .cut) (lex-stop rs _ (chosen (c .before) rs h .nothing (c .if1 .taken))),
       λ rs h. filling-stop (inv rs h) (lex-stop rs _ (chosen (c .before) rs h .nothing (c .if1 .taken))),
     )

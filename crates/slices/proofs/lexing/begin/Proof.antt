@@ -12,7 +12,9 @@ enum-known-rules : tie.Need-enum-known-rules
 enum-known-rules c = search needs
 
 begin-arrays-requires : tie.Need-begin-arrays-requires
-begin-arrays-requires c κs = loaded-held (c .before .before .before .before .before .before .load-arrays .ensures) (c .before .before .before .before .rules .given .1)
+begin-arrays-requires c κs =
+    let accepted = c .before .before .before .before in
+    loaded-held (accepted .before .before .load-arrays .ensures) (accepted .rules .given .1)
 
 enum-known-refusal : tie.Need-enum-known-refusal
 enum-known-refusal c = search needs
@@ -21,10 +23,14 @@ refuse-requires : tie.Need-refuse-requires
 refuse-requires c κs = search needs
 
 returns : tie.Need-returns
-returns c = begun-book (c .before .before .before .before .before .before .before .load-arrays .ensures) (c .before .before .before .before .before .rules .given .1) (c .begin-arrays .ensures)
+returns c =
+    let accepted = c .before .before .before .before .before in
+    begun-book (accepted .before .before .load-arrays .ensures) (accepted .rules .given .1) (c .begin-arrays .ensures)
 
 returns-2 : tie.Need-returns-2
-returns-2 c = begun-refused (c .before .before .before .before .load-arrays .ensures) (c .before .before .refusal .given .1) (c .refuse .ensures)
+returns-2 c =
+    let refused = c .before .before in
+    begun-refused (refused .before .before .load-arrays .ensures) (refused .refusal .given .1) (c .refuse .ensures)
 
 pub begin-spec : {M : Type 1} → statement M
 begin-spec =

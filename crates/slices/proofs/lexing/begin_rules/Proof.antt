@@ -10,13 +10,22 @@ use Rattle.automaton.specs.Rule.{Rule}
 use Rattle.longest_match.specs.Lexer.{lex}
 use Rattle.longest_match.specs.Contracts.{Holds}
 use Rattle.longest_match.proofs.Lexing.{lex-few}
-use Rattle.slices.proofs.Opening.{opens-long, opens-few, opens-turn}
+use Rattle.slices.proofs.Opening.{opens-long, opens-few, opens-pending}
 use Rattle.slices.proofs.lexing.begin_rules.Statement.{statement}
 use Rattle.slices.proofs.lexing.begin_rules.Tie as tie
 
+-- the call, from where there is room
+abbrev call : tie.Joined2 → tie.Start
+call c = c .before .before .before .before .before .before
+
 -- there is room for the tokens, counted or not
-fits : (c : tie.Joined2) (rs : List Rule) → Holds (now (c .before .before .before .before .before .before .args .headers)) (now (c .before .before .before .before .before .before .args .states)) (now (c .before .before .before .before .before .before .args .edges)) (c .before .before .before .before .before .before .args .rules) rs → length ((lex rs (now (c .before .before .before .before .before .before .args .text))) .tokens) ≤ c .before .before .before .before .before .before .args .room
-fits c rs h = ⊎-elim (λ w. omega (arith, w .1 .ensures rs h .tokens-are, w .3 .left)) (λ w. omega (arith, w .left, lex-few rs (now (c .before .before .before .before .before .before .args .text)))) (c .if2 .came)
+fits : (c : tie.Joined2) (rs : List Rule)
+    → Holds (now (call c .args .headers)) (now (call c .args .states)) (now (call c .args .edges)) (call c .args .rules) rs
+    → length ((lex rs (now (call c .args .text))) .tokens) ≤ call c .args .room
+fits c rs h =
+    ⊎-elim (λ w. omega (arith, w .1 .ensures rs h .tokens-are, w .3 .left))
+    (λ w. omega (arith, w .left, lex-few rs (now (call c .args .text))))
+    (c .if2 .came)
 
 refuse-requires : tie.Need-refuse-requires
 refuse-requires c κs = search needs
@@ -31,14 +40,16 @@ refuse-requires-2 : tie.Need-refuse-requires-2
 refuse-requires-2 c κs = search needs
 
 returns-2 : tie.Need-returns-2
-returns-2 c = λ rs h. opens-few (c .before .before .before .before .before .if1 .left) (c .before .before .before .count .ensures rs h) (c .before .if3 .taken) (c .refuse2 .ensures)
+returns-2 c = λ rs h.
+    let counted = c .before .before .before in
+    opens-few (counted .before .before .if1 .left) (counted .count .ensures rs h) (c .before .if3 .taken) (c .refuse2 .ensures)
 
-turn-at-requires : tie.Need-turn-at-requires
-turn-at-requires c κs = search needs
+pending-at-requires : tie.Need-pending-at-requires
+pending-at-requires c κs = search needs
 
 returns-3 : tie.Need-returns-3
-returns-3 c = λ rs h. opens-turn (c .before .before .if1 .left) (fits (c .before) rs h) (c .turn-at .ensures rs h)
+returns-3 c = λ rs h. opens-pending (c .before .before .if1 .left) (fits (c .before) rs h) (c .pending-at .ensures rs h)
 
 pub begin-rules-spec : {M : Type 1} → statement M
 begin-rules-spec =
-    tie.close (tie.spec refuse-requires returns count-requires refuse-requires-2 returns-2 turn-at-requires returns-3)
+    tie.close (tie.spec refuse-requires returns count-requires refuse-requires-2 returns-2 pending-at-requires returns-3)

@@ -20,10 +20,14 @@ refuse-requires : tie.Need-refuse-requires
 refuse-requires c κs = search needs
 
 returns : tie.Need-returns
-returns c = begins-book (c .before .before .before .before .load-arrays .ensures) (c .before .before .rules .given .1) (c .begin-rules .ensures)
+returns c =
+    let accepted = c .before .before in
+    begins-book (accepted .before .before .load-arrays .ensures) (accepted .rules .given .1) (c .begin-rules .ensures)
 
 returns-2 : tie.Need-returns-2
-returns-2 c = begins-refused (c .before .before .before .before .load-arrays .ensures) (c .before .before .refusal .given .1) (c .refuse .ensures)
+returns-2 c =
+    let refused = c .before .before in
+    begins-refused (refused .before .before .load-arrays .ensures) (refused .refusal .given .1) (c .refuse .ensures)
 
 pub begin-spec : {M : Type 1} → statement M
 begin-spec =

@@ -6,7 +6,7 @@ use Rattle.slices.proofs.printing.finish_scratch.Statement.{statement}
 use Rattle.slices.proofs.printing.finish_scratch.Tie as tie
 
 returns : tie.Need-returns
-returns c = record { refuses = λ _. (refl, refl); lacks = λ p _. clash (c .if1 .taken) p; prints = λ p _. clash (c .if1 .taken) p }
+returns c = record { refuses = λ _. (refl, refl); writes = λ p. clash (c .if1 .taken) p }
 
 write-requires : tie.Need-write-requires
 write-requires c κs = search needs
@@ -15,7 +15,10 @@ same-length : tie.Need-same-length
 same-length c = search needs
 
 returns-2 : tie.Need-returns-2
-returns-2 c = record { refuses = λ p. clash p (c .before .before .before .before .if1 .left); lacks = λ _. c .before .before .write .ensures .lacks; prints = λ _. c .before .before .write .ensures .prints }
+returns-2 c = record {
+  refuses = λ p. clash p (c .before .before .before .before .if1 .left);
+  writes = λ _. c .before .before .write .ensures;
+}
 
 pub finish-scratch-spec : {M : Type 1} → statement M
 finish-scratch-spec = tie.close (tie.spec returns write-requires same-length returns-2)

@@ -20,25 +20,41 @@ refuse-requires : tie.Need-refuse-requires
 refuse-requires c κs = search needs
 
 returns-2 : tie.Need-returns-2
-returns-2 c = rw (le-ltb _ _ (c .before .before .before .before .if1 .left), eq-eqb _ _ (c .before .before .if2 .taken), lt-ltb _ _ (c .before .if3 .taken)) (c .refuse .ensures)
+returns-2 c = rw (
+  le-ltb _ _ (c .before .before .before .before .if1 .left),
+  eq-eqb _ _ (c .before .before .if2 .taken),
+  lt-ltb _ _ (c .before .if3 .taken),
+) (c .refuse .ensures)
 
 go-requires-2 : tie.Need-go-requires-2
 go-requires-2 c κs = search needs
 
 returns-3 : tie.Need-returns-3
-returns-3 c = rw (le-ltb _ _ (c .before .before .before .before .if1 .left), eq-eqb _ _ (c .before .before .if2 .taken), le-ltb _ _ (c .before .if3 .left)) (c .go2 .ensures)
+returns-3 c = rw (
+  le-ltb _ _ (c .before .before .before .before .if1 .left),
+  eq-eqb _ _ (c .before .before .if2 .taken),
+  le-ltb _ _ (c .before .if3 .left),
+) (c .go2 .ensures)
 
 go-requires-3 : tie.Need-go-requires-3
 go-requires-3 c κs = search needs
 
 returns-4 : tie.Need-returns-4
-returns-4 c = rw (le-ltb _ _ (c .before .before .before .before .before .if1 .left), ne-eqb _ _ (c .before .before .before .if2 .left), eq-eqb _ _ (c .before .if4 .taken)) (c .go3 .ensures)
+returns-4 c = rw (
+  le-ltb _ _ (c .before .before .before .before .before .if1 .left),
+  ne-eqb _ _ (c .before .before .before .if2 .left),
+  eq-eqb _ _ (c .before .if4 .taken),
+) (c .go3 .ensures)
 
 end-requires : tie.Need-end-requires
 end-requires c κs = search needs
 
 returns-5 : tie.Need-returns-5
-returns-5 c = rw (le-ltb _ _ (c .before .before .before .before .before .if1 .left), ne-eqb _ _ (c .before .before .before .if2 .left), ne-eqb _ _ (c .before .if4 .left)) (c .end .ensures)
+returns-5 c = rw (
+  le-ltb _ _ (c .before .before .before .before .before .if1 .left),
+  ne-eqb _ _ (c .before .before .before .if2 .left),
+  ne-eqb _ _ (c .before .if4 .left),
+) (c .end .ensures)
 
 pub move-on-spec : {M : Type 1} → statement M
 move-on-spec =

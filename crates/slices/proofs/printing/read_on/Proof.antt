@@ -1,20 +1,21 @@
 -- `read_on`: what is chosen is as long as the token, or longer. Assumes nothing.
 use borrow.Author.Tests.{eq-eqb, ne-eqb}
 use borrow.Author.Needs.{needs}
+use Rattle.longest_match.proofs.Parts.{part-front}
 use Rattle.slices.proofs.printing.read_on.Statement.{statement}
 use Rattle.slices.proofs.printing.read_on.Tie as tie
 
-choose-within-requires : tie.Need-choose-within-requires
-choose-within-requires c κs = search needs
+choose-requires : tie.Need-choose-requires
+choose-requires c κs = search needs
 
 refuse-requires : tie.Need-refuse-requires
 refuse-requires c κs = search needs
 
 returns : tie.Need-returns
 returns c = λ rs h. record {
-  rule = c .before .before .before .choose-within .result .rule;
-  most = c .before .before .before .choose-within .result .len;
-  chooses = c .before .before .before .choose-within .ensures rs h;
+  rule = c .before .before .before .choose .result .rule;
+  most = c .before .before .before .choose .result .len;
+  chooses = c .before .before .before .choose .ensures rs _ h (part-front _ _ _);
   result = rw (ne-eqb _ _ (c .before .if1 .taken)) (c .refuse .ensures);
 }
 
@@ -23,12 +24,12 @@ move-on-requires c κs = search needs
 
 returns-2 : tie.Need-returns-2
 returns-2 c = λ rs h. record {
-  rule = c .before .before .before .choose-within .result .rule;
-  most = c .before .before .before .choose-within .result .len;
-  chooses = c .before .before .before .choose-within .ensures rs h;
+  rule = c .before .before .before .choose .result .rule;
+  most = c .before .before .before .choose .result .len;
+  chooses = c .before .before .before .choose .ensures rs _ h (part-front _ _ _);
   result = rw (eq-eqb _ _ (c .before .if1 .left)) (c .move-on .ensures);
 }
 
 pub read-on-spec : {M : Type 1} → statement M
 read-on-spec =
-    tie.close (tie.spec choose-within-requires refuse-requires returns move-on-requires returns-2)
+    tie.close (tie.spec choose-requires refuse-requires returns move-on-requires returns-2)

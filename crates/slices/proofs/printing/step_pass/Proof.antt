@@ -5,8 +5,15 @@ use borrow.Author.Needs.{needs}
 use Rattle.slices.proofs.printing.step_pass.Statement.{statement}
 use Rattle.slices.proofs.printing.step_pass.Tie as tie
 
+-- the call, from behind the first test, and the first test, from behind the second
+abbrev call : tie.After-struct-known → tie.Start
+call c = c .before .before .before .before .before .before
+
+abbrev first : tie.Else2 → tie.Else1
+first c = c .before .before
+
 check-requires : tie.Need-check-requires
-check-requires c κs = let w = c .before .before .before .before .before .before .before .pre in (w .held, (w .small, (w .few, w .checks (c .if1 .taken))))
+check-requires c κs = let w = call (c .before) .pre in (w .held, (w .few, w .checks (c .if1 .taken)))
 
 returns : tie.Need-returns
 returns c = record {
@@ -16,7 +23,7 @@ returns c = record {
 }
 
 join-requires : tie.Need-join-requires
-join-requires c κs = let w = c .before .before .before .before .before .before .before .before .before .before .pre in (w .joins (c .before .if2 .taken), w .few)
+join-requires c κs = let w = call (c .before .before .before .before) .pre in (w .joins (c .before .if2 .taken), w .few)
 
 same-length : tie.Need-same-length
 same-length c = search needs
@@ -28,18 +35,27 @@ returns-2 c = record {
   reads = λ _ n. absurd (n (c .before .before .before .before .if2 .taken));
 }
 
+cast-read-on : tie.Need-cast-read-on
+cast-read-on c = search needs
+
 read-on-requires : tie.Need-read-on-requires
-read-on-requires c κs = let w = c .before .before .before .before .before .before .before .before .before .before .pre in let b = w .reads (c .before .before .before .if1 .left) (c .before .if2 .left) in (w .held, ((b .0, b .1, w .sized), (w .small .len-below, w .few)))
+read-on-requires c κs =
+    let second = c .before .before in
+    let w = call (first second .before) .pre in
+    let b = w .reads (first second .if1 .left) (second .if2 .left) in
+    (w .held, ((b .0, b .1, w .sized), (omega arith, w .few)))
 
 same-length-2 : tie.Need-same-length-2
 same-length-2 c = search needs
 
 returns-3 : tie.Need-returns-3
-returns-3 c = record {
-  checks = λ p. absurd (c .before .before .before .before .if1 .left p);
-  joins = λ p. absurd (c .before .before .if2 .left p);
-  reads = λ _ _. (refl, c .read-on .ensures);
-}
+returns-3 c =
+    let second = c .before .before .before in
+    record {
+      checks = λ p. absurd (first second .if1 .left p);
+      joins = λ p. absurd (second .if2 .left p);
+      reads = λ _ _. (refl, c .read-on .ensures);
+    }
 
 pub step-pass-spec : {M : Type 1} → statement M
 step-pass-spec =
@@ -50,6 +66,7 @@ step-pass-spec =
     join-requires
     same-length
     returns-2
+    cast-read-on
     read-on-requires
     same-length-2
     returns-3)

@@ -1,4 +1,5 @@
--- The loop of `lex_tokens`: what holds of a turn and of the records that the tokens say, and how a turn keeps it. Assumes nothing.
+-- The loop of `lex_tokens`: what holds of what is pending and of the records that the tokens say, and how storing a token keeps it.
+-- Assumes nothing.
 use mathlib.Core.Path.{_≡_, refl, sym, _∙_, ap, subst}
 use mathlib.Core.Bool.{Bool, true, false}
 use mathlib.Core.List.{List, _++_}
@@ -19,35 +20,36 @@ use Rattle.lexer.specs.Contracts.{LexAnswered}
 use Rattle.lexer.specs.Outcome.{lexOutcome}
 use Rattle.lexer.proofs.Filled.{Filling, filling-start, filling-room, filling-next, filling-stop}
 use Rattle.lexer.proofs.ByRules.{answered-lexed}
-use Rattle.slices.specs.declared.lexing.Turn.{Turn}
-use Rattle.slices.specs.Contracts.{answerOf, turnRefusal, Chosen, Turns, Ready, Begun}
+use Rattle.slices.specs.declared.lexing.Pending.{Pending}
+use Rattle.slices.specs.Contracts.{answerOf, pendingRefusal, Chosen, PendingAt, Ready, Begun}
 use Rattle.answer.specs.declared.LexAnswer.the-variants as answer
 
--- the turn t stands after t .index tokens of the text, which are in the records; at most `left` turns follow
-pub record Standing (book text entry hs ss es records : List ℕ) (left : ℕ) (t : Turn) (rules : List Rule) : Type 0 where
+-- t is pending after t .index tokens of the text, which are in the records; at most `left` tokens follow
+pub record Standing (book text entry hs ss es records : List ℕ) (left : ℕ) (t : Pending) (rules : List Rule) : Type 0 where
   pub accepts : readBook book ≡ accepted rules
   pub holds : Holds hs ss es (t .rules) rules
   pub short : length text ≤ maxText
   pub enough : length ((lex rules text) .tokens) ≤ recordCount entry
   pub at : ℕ
   pub filling : Filling rules text entry records at (t .index)
-  pub turns : Turns rules text (t .rules) (t .index) at t
+  pub pending : PendingAt rules text (t .rules) (t .index) at t
   pub further : t .more ≡ true → length text < t .next + left
 
-pub record Going (book text entry hs ss es records : List ℕ) (left : ℕ) (t : Turn) : Type 0 where
+pub record Going (book text entry hs ss es records : List ℕ) (left : ℕ) (t : Pending) : Type 0 where
   pub idle : t .refused ≡ true → t .more ≡ false
-  pub refuses : t .refused ≡ true → LexAnswered (lexOutcome book text entry) (answer.Refused (turnRefusal t)) records
+  pub refuses : t .refused ≡ true → LexAnswered (lexOutcome book text entry) (answer.Refused (pendingRefusal t)) records
   pub stands : t .refused ≡ false → (rules : List Rule) × Standing book text entry hs ss es records left t rules
 
 module _ {book text entry hs ss es : List ℕ} where
-  pub going-start : {room : ℕ} {t : Turn} → Begun book text room hs ss es t → recordCount entry ≡ room → Going book text entry hs ss es entry (length text) t
+  pub going-start : {room : ℕ} {t : Pending} → Begun book text room hs ss es t → recordCount entry ≡ room
+      → Going book text entry hs ss es entry (length text) t
   going-start {room} {t} b e = record {
     idle = b .idle;
     refuses = λ p. b .refuses p entry e;
     stands = λ p.
         let s = b .starts p in
         let o = s .1 .1 .1 in
-        let i : t .index ≡ 0 = o .turns .stored in (
+        let i : t .index ≡ 0 = o .pending .stored in (
           s .0,
           record {
             accepts = s .1 .0;
@@ -56,13 +58,13 @@ module _ {book text entry hs ss es : List ℕ} where
             enough = subst (λ (n : ℕ). length ((lex (s .0) text) .tokens) ≤ n) (sym e) (o .enough);
             at = 0;
             filling = subst (Filling (s .0) text entry entry 0) (sym i) (filling-start (s .0) text entry);
-            turns = subst (λ (n : ℕ). Turns (s .0) text (t .rules) n 0 t) (sym i) (o .turns);
-            further = λ m. let c = o .turns .goes m in omega (arith, c .some, c .next);
+            pending = subst (λ (n : ℕ). PendingAt (s .0) text (t .rules) n 0 t) (sym i) (o .pending);
+            further = λ m. let c = o .pending .goes m in omega (arith, c .some, c .next);
           },
         );
   }
 
-  module _ {records : List ℕ} {left : ℕ} {t : Turn} (g : Going book text entry hs ss es records left t) where
+  module _ {records : List ℕ} {left : ℕ} {t : Pending} (g : Going book text entry hs ss es records left t) where
     pub going-stop : t .more ≡ false → LexAnswered (lexOutcome book text entry) (answerOf t) records
     unfolding lexOutcome
     going-stop m = go (t .refused) refl
@@ -71,9 +73,10 @@ module _ {book text entry hs ss es : List ℕ} where
         go true e = rw e (g .refuses e)
         go false e =
             let s = g .stands e in
-            let o = s .1 .turns .stops m in
+            let o = s .1 .pending .stops m in
             let k = lex-stop (s .0) (drop (s .1 .at) text) (o .0) in
-            let a = answered-lexed (s .0) text entry (s .1 .short) (s .1 .enough) (cutting-stop (s .1 .filling .cut) k) (filling-stop (s .1 .filling) k) in
+            let a = answered-lexed (s .0) text entry (s .1 .short) (s .1 .enough) (cutting-stop (s .1 .filling .cut) k)
+            (filling-stop (s .1 .filling) k) in
             rw (e, o .1, s .1 .accepts) a
 
     module _ (m : t .more ≡ true) where
@@ -91,7 +94,7 @@ module _ {book text entry hs ss es : List ℕ} where
       s = g .stands plain .1
 
       c : Chosen rules text (s .at) t
-      c = s .turns .goes m
+      c = s .pending .goes m
 
       room : 10 * length ((lex rules text) .tokens) ≤ length entry
       room = omega (arith, s .enough)
@@ -113,9 +116,11 @@ module _ {book text entry hs ss es : List ℕ} where
       pub going-left : 0 < left
       going-left = omega (arith, s .further m, within)
 
-      -- the token is stored, and r is the turn after t
-      pub going-next : {after : List ℕ} {r : Turn} → after ≡ take (10 * t .index) records ++ tenBytes (t .token) ++ drop (10 * t .index + 10) records
-          → ((rs : List Rule) → Holds hs ss es (t .rules) rs → Turns rs text (t .rules) (t .index + 1) (t .next) r) → Going book text entry hs ss es after (left - 1) r
+      -- the token is stored, and r is pending behind t
+      pub going-next : {after : List ℕ} {r : Pending}
+          → after ≡ take (10 * t .index) records ++ tenBytes (t .token) ++ drop (10 * t .index + 10) records
+          → ((rs : List Rule) → Holds hs ss es (t .rules) rs → PendingAt rs text (t .rules) (t .index + 1) (t .next) r)
+          → Going book text entry hs ss es after (left - 1) r
       going-next {after} {r} e f =
           let u = f rules (s .holds) in
           record {
@@ -130,25 +135,28 @@ module _ {book text entry hs ss es : List ℕ} where
                 enough = s .enough;
                 at = t .next;
                 filling = filled u;
-                turns = turned u;
+                pending = moved u;
                 further = λ m₂. let d = u .goes m₂ in omega (arith, s .further m, d .some, d .next, going-left);
               },
             );
           }
         where
-          same : tenBytes (t .token) ≡ recordOf ((ruleAt rules (c .rule)) .tag) (s .at) (t .token .length)
+          same : tenBytes (t .token) ≡ recordOf ((ruleAt rules (c .rule)) .tag) (s .at) (t .token .len)
           same =
-              ap (λ (x : ℕ). recordOf x (t .token .place) (t .token .length)) (c .tag)
-              ∙ ap (λ (x : ℕ). recordOf ((ruleAt rules (c .rule)) .tag % 65536) x (t .token .length)) (c .place)
-              ∙ two-bytes ((ruleAt rules (c .rule)) .tag) (s .at) (t .token .length)
+              ap (λ (x : ℕ). recordOf x (t .token .place) (t .token .len)) (c .tag)
+              ∙ ap (λ (x : ℕ). recordOf ((ruleAt rules (c .rule)) .tag % 65536) x (t .token .len)) (c .place)
+              ∙ two-bytes ((ruleAt rules (c .rule)) .tag) (s .at) (t .token .len)
 
-          stored : after ≡ take (10 * t .index) records ++ recordOf ((ruleAt rules (c .rule)) .tag) (s .at) (t .token .length) ++ drop (10 * t .index + 10) records
+          stored : after ≡ take (10 * t .index) records ++ recordOf ((ruleAt rules (c .rule)) .tag) (s .at) (t .token .len)
+              ++ drop (10 * t .index + 10) records
           stored = e ∙ ap (λ (x : List ℕ). take (10 * t .index) records ++ x ++ drop (10 * t .index + 10) records) same
 
-          filled : Turns rules text (t .rules) (t .index + 1) (t .next) r → Filling rules text entry after (t .next) (r .index)
+          filled : PendingAt rules text (t .rules) (t .index + 1) (t .next) r → Filling rules text entry after (t .next) (r .index)
           filled u =
               subst (Filling rules text entry after (t .next)) (sym (u .stored))
-              (subst (λ (n : ℕ). Filling rules text entry after n (t .index + 1)) (sym (c .next)) (filling-next (s .filling) room (c .chooses) (c .some) refl stored))
+              (subst (λ (n : ℕ). Filling rules text entry after n (t .index + 1)) (sym (c .next))
+              (filling-next (s .filling) room (c .chooses) (c .some) refl stored))
 
-          turned : Turns rules text (t .rules) (t .index + 1) (t .next) r → Turns rules text (r .rules) (r .index) (t .next) r
-          turned u = subst (λ (n : ℕ). Turns rules text n (r .index) (t .next) r) (sym (u .count)) (subst (λ (n : ℕ). Turns rules text (t .rules) n (t .next) r) (sym (u .stored)) u)
+          moved : PendingAt rules text (t .rules) (t .index + 1) (t .next) r → PendingAt rules text (r .rules) (r .index) (t .next) r
+          moved u = subst (λ (n : ℕ). PendingAt rules text n (r .index) (t .next) r) (sym (u .count))
+              (subst (λ (n : ℕ). PendingAt rules text (t .rules) n (t .next) r) (sym (u .stored)) u)
