@@ -1,6 +1,8 @@
 -- `check`: the fault of the token, or the next stage. Assumes nothing.
 use mathlib.Core.Path.{sym, _∙_}
 use borrow.Author.Needs.{needs}
+use denote.Ref.{now}
+use Rattle.token_list.specs.Faults.{faultOf}
 use Rattle.token_list.proofs.Passes.{by-number, by-none}
 use Rattle.slices.proofs.printing.check.Statement.{statement}
 use Rattle.slices.proofs.printing.check.Tie as tie
@@ -24,10 +26,14 @@ move-on-requires : tie.Need-move-on-requires
 move-on-requires c κs = search needs
 
 returns : tie.Need-returns
-returns c = λ rs h. c .refuse .ensures ∙ rw (by-number _ (sym (c .number .given .1) ∙ c .token-fault .ensures rs h))
+returns c = λ rs h.
+    let a = c .before .before .before .before .before .before .before .before .before .before .args in
+    c .refuse .ensures ∙ rw (by-number (faultOf rs (now (a .pool)) (a .token)) (sym (c .before .before .number .given .1) ∙ c .before .before .before .before .token-fault .ensures rs h))
 
 returns-2 : tie.Need-returns-2
-returns-2 c = λ rs h. c .move-on .ensures ∙ rw (by-none _ (sym (c .enum-told .given .1) ∙ c .token-fault .ensures rs h))
+returns-2 c = λ rs h.
+    let a = c .before .before .before .before .before .before .before .before .before .args in
+    c .move-on .ensures ∙ rw (by-none (faultOf rs (now (a .pool)) (a .token)) (sym (c .before .enum-told .given .1) ∙ c .before .before .before .token-fault .ensures rs h))
 
 pub check-spec : {M : Type 1} → statement M
 check-spec =
