@@ -27,5 +27,6 @@ pub four-read : (l : List ℕ) (i : ℕ) → twoAt l i * 65536 + twoAt l (i + 2)
 four-read l i =
     let e : i + 2 + 1 ≡ i + 3 = omega arith in
     rw e (omega arith)
+
 pub four-stored : (l : List ℕ) (i n : ℕ) → sets (sets l i (two (n / 65536))) (i + 2) (two n) ≡ sets l i (four n)
 four-stored l i n = rw (add-two, div-div-eq-div-mul n 65536 256)

@@ -14,7 +14,7 @@ use Rattle.automaton.specs.Rule.{Rule, step, target, walk}
 use Rattle.automaton.proofs.Tests.{and-true, clash}
 use Rattle.builtin.specs.Book.{builtinRules, timestamp, word, blanks, newline, bracket}
 use Rattle.builtin.specs.Classes.{classAt}
-use Rattle.builtin.specs.Joined.{State, dead, start, accepting, stateTable, statesOf, nextTable, nextState, tagTable, tagAt}
+use Rattle.builtin.specs.Contracts.{State, dead, start, accepting, stateTable, statesOf, nextTable, nextState, tagTable, tagAt}
 use Rattle.builtin.proofs.Tests.{entries, entry}
 use Rattle.builtin.proofs.Alike.{classBytes, byteOf, class-below, by-class}
 use Rattle.builtin.proofs.Product.{walks, steps, firstFinal, tagged, Joins}

@@ -17,7 +17,7 @@ use Rattle.longest_match.specs.Contracts.{front, Chooses}
 use Rattle.longest_match.proofs.First.{Earliest}
 use Rattle.longest_match.proofs.Choosing.{choose-some}
 use Rattle.builtin.specs.Book.{builtinRules}
-use Rattle.builtin.specs.Joined.{Scanned, Stays, State, statesOf, nextState, tagAt, dead, start, accepting}
+use Rattle.builtin.specs.Contracts.{Scanned, Stays, State, statesOf, nextState, tagAt, dead, start, accepting}
 use Rattle.builtin.proofs.Product.{Scan, tagged, found-front, scan-start, scan-accept, scan-pass, scan-dead, scan-end}
 use Rattle.builtin.proofs.Joined.{joined, accepts, passes}
 

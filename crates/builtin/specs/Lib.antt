@@ -1,4 +1,4 @@
 -- The definitions of this crate.
 pub mod Book
 pub mod Classes
-pub mod Joined
+pub mod Contracts

@@ -15,7 +15,7 @@ ghost use Rattle.longest_match.specs.Contracts.{Cuts};
 ghost use Rattle.lexer.specs.Contracts.{Fills};
 ghost use Rattle.lexer.specs.Outcome.{lexRules, lexOutcome};
 ghost use Rattle.builtin.specs.Book.{builtinBytes, builtinRules};
-ghost use Rattle.builtin.specs.Joined.{Lent};
+ghost use Rattle.builtin.specs.Contracts.{Lent};
 
 // How `text` is cut, with nothing written.
 fn count(classes: &[u8; 256], next: &[u8; 256], tags: &[u8; 16], text: &[u8]) -> Cut

@@ -3,7 +3,7 @@ ghost use mathlib.Core.Path.{_≡_};
 ghost use Prim.Native.Nat.{_≤_};
 ghost use lib.ListN.{length, drop};
 ghost use Rattle.builtin.specs.Classes.{classTable};
-ghost use Rattle.builtin.specs.Joined.{State, nextTable, tagTable, nextState, tagAt, Lent, Stays, Scanned};
+ghost use Rattle.builtin.specs.Contracts.{State, nextTable, tagTable, nextState, tagAt, Lent, Stays, Scanned};
 
 // States of the automaton: from the first no byte leads to a match, in the second nothing is read, and from the third on
 // some rule matches what is read. A state is the place of its row in the table of next states.

@@ -3,7 +3,7 @@
 // at every turn.
 ghost use mathlib.Core.Path.{_≡_};
 ghost use Rattle.builtin.specs.Classes.{classTable};
-ghost use Rattle.builtin.specs.Joined.{nextTable, tagTable};
+ghost use Rattle.builtin.specs.Contracts.{nextTable, tagTable};
 
 // The class of each byte.
 const CLASSES: [u8; 256] = [

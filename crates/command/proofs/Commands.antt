@@ -14,4 +14,5 @@ pub operands-le : (code : ℕ) → operandsOf code ≤ 4
 unfolding operandsOf
 operands-le code =
     if-le (eqb code 1) (omega arith)
-    (if-le (eqb code 2 || (eqb code 3 || eqb code 4)) (omega arith) (if-le (eqb code 5) (omega arith) (if-le (eqb code 6) (omega arith) (omega arith))))
+    (if-le (eqb code 2 || (eqb code 3 || eqb code 4)) (omega arith)
+        (if-le (eqb code 5) (omega arith) (if-le (eqb code 6) (omega arith) (omega arith))))

@@ -11,8 +11,7 @@ use Rattle.book.specs.Limits.{maxText, maxTokens}
 use Rattle.reader.specs.Reading.{accepted, readBook}
 use Rattle.longest_match.specs.Lexer.{Token, join}
 use Rattle.record.specs.Records.{recordCount}
-use Rattle.record.specs.Tokens.{recordsOf, bytesIn, tokensOf}
-use Rattle.record.specs.Contracts.{InPool}
+use Rattle.record.specs.Tokens.{recordsOf, bytesIn, tokensOf, InPool}
 use Rattle.record.specs.declared.TokenRecord.{TokenRecord}
 use Rattle.lexer.specs.Outcome.{lexOutcome}
 use Rattle.token_list.specs.Faults.{aloneIn}

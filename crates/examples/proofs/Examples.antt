@@ -9,7 +9,7 @@ use Rattle.record.specs.Records.{recordsAt}
 use Rattle.record.specs.Tokens.{recordAt, recordsFrom, recordsOf, tokensIn}
 use Rattle.lexer.specs.Outcome.{lexRules, lexOutcome}
 use Rattle.token_list.specs.Faults.{aloneIn, faultOf}
-use Rattle.token_list.specs.Checks.{refuse, firstFault, firstExtended}
+use Rattle.token_list.specs.Checks.{refuse, refuseBy, firstFault, firstExtended}
 use Rattle.printer.specs.Outcome.{printOutcome}
 use Rattle.used_bytes.specs.Bytes.{lowestFrom, usedByKind, shared, sharedByte}
 use Rattle.used_bytes.specs.Kinds.{separates}
@@ -25,7 +25,7 @@ pub examples : Examples
 unfolding table target walk matches overlaps placed operandsOf decode commandAt check move apply readFrom readBook
     firstMatch chooseWithin choose lexFor lex recordsAt lexRules lexOutcome
     decimalFor decimal lastTwo tokenLine restLine refusedLine recordLine recordLines listing
-    extends recordAt recordsFrom recordsOf tokensIn aloneIn faultOf refuse firstFault firstExtended
+    extends recordAt recordsFrom recordsOf tokensIn aloneIn faultOf refuse refuseBy firstFault firstExtended
     print.refusedIf print.unless print.printChecked print.printRules printOutcome
     used usedByKind shared lowestFrom sharedByte separates meaning follows separated
     orElse separatorFault plainFault sharing listRefusal separatedRefusal writing separatedRules separatedOutcome

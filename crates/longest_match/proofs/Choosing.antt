@@ -61,7 +61,8 @@ grown rules w [] f e = nothing refl e
 grown rules w (b ∷ after) f e =
     elim (or-cases (grow rules (w ++ (b ∷ [])) after) (found (firstMatch rules (w ++ (b ∷ []))) (w ++ (b ∷ [])) after) f e) [
       | inl g ↦ (let h = grown rules (w ++ (b ∷ [])) after f g in
-          record { first = b; more = h.first ∷ h.more; splits = cc; grows = cc (append-assoc w (b ∷ []) (h.first ∷ h.more)); alone = h.alone; stops = h.stops })
+          record { first = b; more = h.first ∷ h.more; splits = cc; grows = cc (append-assoc w (b ∷ []) (h.first ∷ h.more)); alone =
+              h.alone; stops = h.stops })
       | inr g ↦ here rules w b after f _ refl g.0 g.1
     ]
 
@@ -101,7 +102,8 @@ extends-false rules w (b ∷ after) e zero p l = absurd (omega arith)
 extends-false rules w (b ∷ after) e (suc zero) p l = none-of _ ((or-false _ _ e) .0)
 extends-false rules w (b ∷ after) e (suc (suc n)) p l =
     rw append-assoc at
-    (extends-false rules (w ++ (b ∷ [])) after ((or-false (isSome (firstMatch rules (w ++ (b ∷ [])))) _ e) .1) (suc n) (omega arith) (omega arith))
+    (extends-false rules (w ++ (b ∷ [])) after ((or-false (isSome (firstMatch rules (w ++ (b ∷ [])))) _ e) .1) (suc n) (omega arith)
+        (omega arith))
 
 -- some rule matches w with the bytes `first ∷ more` after it
 pub record Longer (rules : List Rule) (w after : List ℕ) : Type 0 where
@@ -149,7 +151,8 @@ module _ (rules : List Rule) (text : List ℕ) (f : Found) (e : choose rules tex
         longest = λ n p l.
             let q : n ≡ length f.token.bytes + (n - length f.token.bytes) = omega arith in
             let z : firstMatch rules (take n text) ≡ none =
-            rw (q, ← sp, take-append-add) (extends-false rules f.token.bytes f.rest g.stops (n - length f.token.bytes) (omega arith) (omega arith)) in
+            rw (q, ← sp, take-append-add) (extends-false rules f.token.bytes f.rest g.stops (n - length f.token.bytes) (omega arith)
+                (omega arith)) in
             unmatched rules (take n text) z;
       }
 
@@ -174,7 +177,8 @@ module _ (rules : List Rule) (w after : List ℕ) (f : Found) (e : choose rules 
       let r : f.rest ≡ after = chosen-drop rules (w ++ after) f e ∙ rw (l, drop-append-seam) in
       rw (← b, ← r) ((choose-some rules (w ++ after) f e) .stops)
 
-  pub extends-yes : (tag : ℕ) → firstMatch rules [] ≡ none → firstMatch rules w ≡ some tag → (length f.token.bytes ≡ length w → ⊥) → extends rules w after ≡ true
+  pub extends-yes : (tag : ℕ) → firstMatch rules [] ≡ none → firstMatch rules w ≡ some tag → (length f.token.bytes ≡ length w → ⊥)
+      → extends rules w after ≡ true
   extends-yes tag z m l = go (extends rules w after) refl
     where
       go : (b : Bool) → extends rules w after ≡ b → b ≡ true

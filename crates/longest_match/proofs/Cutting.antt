@@ -42,7 +42,8 @@ pub record Cutting (rules : List Rule) (text : List ℕ) (at n : ℕ) : Type 0 w
 pub cutting-start : (rules : List Rule) (text : List ℕ) → Cutting rules text 0 0
 cutting-start rules text = record { within = omega arith; few = omega arith; count = omega arith; rest = refl }
 
-module _ {rules : List Rule} {text : List ℕ} {at n rule len : ℕ} (w : Cutting rules text at n) (c : Chooses rules (drop at text) rule len) (p : 0 < len) where
+module _ {rules : List Rule} {text : List ℕ} {at n rule len : ℕ} (w : Cutting rules text at n)
+    (c : Chooses rules (drop at text) rule len) (p : 0 < len) where
   pub cutting-within : at + len ≤ length text
   cutting-within = omega (arith, w .within, simp length-drop at (c .within))
 
@@ -52,7 +53,8 @@ module _ {rules : List Rule} {text : List ℕ} {at n rule len : ℕ} (w : Cuttin
       let k = rw e at (w .count) in
       record { within = cutting-within; few = omega (arith, w .few); count = omega arith; rest = rw e at (w .rest) }
 
-module _ {rules : List Rule} {text : List ℕ} {at n : ℕ} (w : Cutting rules text at n) (e : lex rules (drop at text) ≡ record { tokens = []; rest = drop at text }) where
+module _ {rules : List Rule} {text : List ℕ} {at n : ℕ} (w : Cutting rules text at n)
+    (e : lex rules (drop at text) ≡ record { tokens = []; rest = drop at text }) where
   pub cutting-stop : Cuts rules text n at
   cutting-stop =
       let k = rw e at (w .count) in
@@ -60,5 +62,6 @@ module _ {rules : List Rule} {text : List ℕ} {at n : ℕ} (w : Cutting rules t
       record { tokens-are = omega arith; rest-is = rw r (simp length-drop (omega (arith, w .within))) }
 
 -- at the end of the text
-pub lex-end : (rules : List Rule) (text : List ℕ) (at : ℕ) → length text ≤ at → lex rules (drop at text) ≡ record { tokens = []; rest = drop at text }
+pub lex-end : (rules : List Rule) (text : List ℕ) (at : ℕ) → length text ≤ at → lex rules (drop at text)
+    ≡ record { tokens = []; rest = drop at text }
 lex-end rules text at l = rw (drop-of-length-le text l) (lex-nil rules)

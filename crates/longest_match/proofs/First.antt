@@ -54,7 +54,8 @@ earliest (r ∷ rs) w tag e = go (matches r w) refl (earliest rs w tag) e
         → Earliest (r ∷ rs) w tag
     go true m ih z = record { before = []; rule = r; behind = rs; splits = refl; tagged = cc; matched = m; earlier = tt }
     go false m ih z = let f = ih z in
-        record { before = r ∷ f.before; rule = f.rule; behind = f.behind; splits = cc; tagged = f.tagged; matched = f.matched; earlier = (m, f.earlier) }
+        record { before = r ∷ f.before; rule = f.rule; behind = f.behind; splits = cc; tagged = f.tagged; matched = f.matched; earlier =
+            (m, f.earlier) }
 
 first-of : (before behind : List Rule) (r : Rule) (w : List ℕ) → matches r w ≡ true → All (λ (q : Rule). matches q w ≡ false) before
     → firstMatch (before ++ r ∷ behind) w ≡ some r.tag
@@ -85,7 +86,8 @@ first-at [] w k l m h = absurd (omega arith)
 first-at (r ∷ rs) w zero l m h = rw m
 first-at (r ∷ rs) w (suc k) l m h = rw (h 0 (omega arith)) (first-at rs w k (omega arith) m (λ j p. h (suc j) (omega arith)))
 
-pub first-none : (rules : List Rule) (w : List ℕ) → ((j : ℕ) → j < length rules → matches (ruleAt rules j) w ≡ false) → firstMatch rules w ≡ none
+pub first-none : (rules : List Rule) (w : List ℕ) → ((j : ℕ) → j < length rules → matches (ruleAt rules j) w ≡ false)
+    → firstMatch rules w ≡ none
 unfolding firstMatch
 first-none [] w h = refl
 first-none (r ∷ rs) w h = rw (h 0 (omega arith)) (first-none rs w (λ j p. h (suc j) (omega arith)))

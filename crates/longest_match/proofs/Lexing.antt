@@ -30,7 +30,8 @@ fuel rules (suc n) (suc k) text h j =
 pub lex-unfolds : (rules : List Rule) (text : List ℕ) → lex rules text ≡ proceed (choose rules text) text (lex rules)
 unfolding lex lexFor choose chooseWithin
 lex-unfolds rules [] = refl
-lex-unfolds rules (b ∷ text) = proceed-same rules (b ∷ text) _ refl _ _ (λ x l. fuel rules (length text) (length x) x (omega arith) (omega arith))
+lex-unfolds rules (b ∷ text) = proceed-same rules (b ∷ text) _ refl _ _
+    (λ x l. fuel rules (length text) (length x) x (omega arith) (omega arith))
 
 -- ---- tokens and rest, joined, are the text
 
@@ -65,7 +66,8 @@ pub lex-few : (rules : List Rule) (text : List ℕ) → length ((lex rules text)
 unfolding lex
 lex-few rules text = fewFor rules (length text) text
 
-pub lex-lengths : (rules : List Rule) (text : List ℕ) → length (join ((lex rules text) .tokens)) + length ((lex rules text) .rest) ≡ length text
+pub lex-lengths : (rules : List Rule) (text : List ℕ) → length (join ((lex rules text) .tokens)) + length ((lex rules text) .rest)
+    ≡ length text
 lex-lengths rules text = simp length-append at (ap length (joins rules text))
 
 -- the rest is the part of the text from the rest's place on
@@ -73,7 +75,8 @@ pub rest-drop : (rules : List Rule) (text : List ℕ) → (lex rules text) .rest
 rest-drop rules text =
     let l = lex-lengths rules text in
     let q : length (join ((lex rules text) .tokens)) ≡ length text - length ((lex rules text) .rest) = omega arith in
-    sym (ap (λ (t : List ℕ). drop (length text - length ((lex rules text) .rest)) t) (sym (joins rules text)) ∙ drop-at (join ((lex rules text) .tokens)) ((lex rules text) .rest) _ q)
+    sym (ap (λ (t : List ℕ). drop (length text - length ((lex rules text) .rest)) t) (sym (joins rules text))
+        ∙ drop-at (join ((lex rules text) .tokens)) ((lex rules text) .rest) _ q)
 
 -- ---- what can be printed is read back
 
@@ -95,7 +98,8 @@ printable-proceed rules text (some f) e go j h z =
     let y : join ((go f.rest) .tokens) ≡ f.rest = rw (z, append-nil) at (j f.rest) in
     (g.alone, rw y g.stops, h f.rest z)
 
-printableFor : (rules : List Rule) (n : ℕ) (text : List ℕ) → (lexFor n rules text) .rest ≡ [] → Printable rules ((lexFor n rules text) .tokens)
+printableFor : (rules : List Rule) (n : ℕ) (text : List ℕ) → (lexFor n rules text) .rest ≡ []
+    → Printable rules ((lexFor n rules text) .tokens)
 unfolding lexFor
 printableFor rules zero text z = tt
 printableFor rules (suc n) text z = printable-proceed rules text _ refl _ (joinsFor rules n) (printableFor rules n) z
@@ -104,7 +108,8 @@ pub lexed-printable : (rules : List Rule) (text : List ℕ) → (lex rules text)
 unfolding lex
 lexed-printable rules text = printableFor rules (length text) text
 
-pub lexed-whole : (rules : List Rule) (text : List ℕ) (ts : List Token) → lex rules text ≡ record { tokens = ts; rest = [] } → Printable rules ts × (join ts ≡ text)
+pub lexed-whole : (rules : List Rule) (text : List ℕ) (ts : List Token) → lex rules text ≡ record { tokens = ts; rest = [] }
+    → Printable rules ts × (join ts ≡ text)
 lexed-whole rules text ts e = ((rw e at (lexed-printable rules text)) refl, rw (e, append-nil) at (joins rules text))
 
 -- ---- different lists are printed differently

@@ -11,10 +11,12 @@ use Rattle.longest_match.proofs.First.{or-none, or-assoc}
 -- `chooseWithin` behind bytes that are read already
 abbrev from : List Rule → List ℕ → ℕ → List ℕ → Option Found
 from rules w zero after = none
-from rules w (suc n) after = or (found (firstMatch rules (w ++ take (suc n) after)) (w ++ take (suc n) after) (drop (suc n) after)) (from rules w n after)
+from rules w (suc n) after = or (found (firstMatch rules (w ++ take (suc n) after)) (w ++ take (suc n) after) (drop (suc n) after))
+    (from rules w n after)
 
 from-cons : (rules : List Rule) (w : List ℕ) (b : ℕ) (after : List ℕ) (n : ℕ)
-    → from rules w (suc n) (b ∷ after) ≡ or (from rules (w ++ (b ∷ [])) n after) (found (firstMatch rules (w ++ (b ∷ []))) (w ++ (b ∷ [])) after)
+    → from rules w (suc n) (b ∷ after) ≡ or (from rules (w ++ (b ∷ [])) n after)
+        (found (firstMatch rules (w ++ (b ∷ []))) (w ++ (b ∷ [])) after)
 from-cons rules w b after zero = rw or-none
 from-cons rules w b after (suc n) = rw (from-cons rules w b after n, or-assoc, append-assoc)
 

@@ -33,7 +33,8 @@ module _ (r : Rule) (text : List ℕ) where
   longest-matches zero p = absurd (omega arith)
   longest-matches (suc n) p = go (matches r (take (suc n) text)) refl (longest-matches n) p
     where
-      go : (m : Bool) → matches r (take (suc n) text) ≡ m → (0 < longestWithin r text n → matches r (take (longestWithin r text n) text) ≡ true)
+      go : (m : Bool) → matches r (take (suc n) text) ≡ m
+          → (0 < longestWithin r text n → matches r (take (longestWithin r text n) text) ≡ true)
           → 0 < if m (suc n) (longestWithin r text n) → matches r (take (if m (suc n) (longestWithin r text n)) text) ≡ true
       go true e ih q = e
       go false e ih q = ih q
@@ -87,7 +88,8 @@ best-start rules text = record {
   earlier = λ p. absurd (omega arith);
 }
 
-module _ {rules : List Rule} {text : List ℕ} {k rule len n : ℕ} (b : Best rules text k rule len) (e : n ≡ longest (ruleAt rules k) text) where
+module _ {rules : List Rule} {text : List ℕ} {k rule len n : ℕ} (b : Best rules text k rule len) (e : n ≡ longest (ruleAt rules k) text)
+    where
   below : (m : ℕ) → len ≤ m → n ≤ m → (j : ℕ) → j < k + 1 → longest (ruleAt rules j) text ≤ m
   below m p q = below-more (λ j. longest (ruleAt rules j) text ≤ m) k (λ j l. omega (arith, b .most j l)) (omega arith)
 
@@ -115,7 +117,8 @@ module _ {rules : List Rule} {text : List ℕ} {k rule len n : ℕ} (b : Best ru
 
 module _ {rules : List Rule} {text : List ℕ} {rule len : ℕ} (b : Best rules text (length rules) rule len) where
   no-longer : (m : ℕ) → len < m → m ≤ length text → firstMatch rules (take m text) ≡ none
-  no-longer m p l = first-none rules (take m text) (λ j q. longest-most (ruleAt rules j) text (length text) m (omega (arith, b .most j q)) l)
+  no-longer m p l = first-none rules (take m text) (λ j q. longest-most (ruleAt rules j) text (length text) m
+      (omega (arith, b .most j q)) l)
 
   not-earlier : 0 < len → (j : ℕ) → j < rule → matches (ruleAt rules j) (take len text) ≡ false
   not-earlier p j q = longest-most (ruleAt rules j) text (length text) len (b .earlier p j q) (b .within)

@@ -32,13 +32,7 @@ pub fn choose(
 }
 
 // The same of a whole text.
-fn choose_of(
-    headers: &[u64],
-    states: &[u16],
-    edges: &[u64],
-    rules: usize,
-    text: &[u8],
-) -> Choice
+fn choose_of(headers: &[u64], states: &[u16], edges: &[u64], rules: usize, text: &[u8]) -> Choice
     requires { ⌜ Held (now headers) (now states) (now edges) rules ⌝ }
     ensures { λ r. ⌜ ((rs : List Rule) → Holds (now (headers .entry)) (now (states .entry)) (now (edges .entry)) rules rs
         → Chooses rs (now (text .entry)) (r .rule) (r .len)) ⌝ }

@@ -34,11 +34,13 @@ module _ (pool scratch : List ℕ) (place len at : ℕ) (source : place + len �
       let n = length-paste scratch (at - len) (drop place pool) len (omega arith) s in
       stands-at (record {
         within = rw (p, n) (omega arith);
-        laid = rw (p, append-assoc, drop-at (take (at - len) scratch) (take len (drop place pool) ++ drop (at - len + len) scratch) (at - len) (length-take-le (at - len) scratch (omega arith)), t);
+        laid = rw (p, append-assoc, drop-at (take (at - len) scratch) (take len (drop place pool) ++ drop (at - len + len) scratch)
+            (at - len) (length-take-le (at - len) scratch (omega arith)), t);
       })
 
 -- what stands behind the bytes that were put in front stays
-pub behind : {start : ℕ} (at : ℕ) (bytes scratch : List ℕ) {exit : List ℕ} → Stand start (bytes ++ drop at scratch) exit → length exit ≡ length scratch
+pub behind : {start : ℕ} (at : ℕ) (bytes scratch : List ℕ) {exit : List ℕ} → Stand start (bytes ++ drop at scratch) exit → length exit
+    ≡ length scratch
     → at ≤ length scratch → drop at exit ≡ drop at scratch
 behind {start} at bytes scratch {exit} s e l =
     let k = simp (length-drop, length-append) at (ap length (s .laid)) in
@@ -51,6 +53,7 @@ pub both-full : {p : Placed} {scratch : List ℕ} (first second behind : List �
 both-full {p} {scratch} first second behind q s =
     let l = s .full q in stands-full (first ++ (second ++ behind)) scratch (rw length-append (omega arith))
 
-pub both-put : {q : Placed} {start : ℕ} {middle exit : List ℕ} (first rest : List ℕ) → Stand start rest middle → Stands q (first ++ drop start middle) exit
+pub both-put : {q : Placed} {start : ℕ} {middle exit : List ℕ} (first rest : List ℕ) → Stand start rest middle
+    → Stands q (first ++ drop start middle) exit
     → Stands q (first ++ rest) exit
 both-put {q} {start} {middle} {exit} first rest s t = subst (λ (x : List ℕ). Stands q (first ++ x) exit) (s .laid) t

@@ -8,8 +8,7 @@ ghost use mathlib.Core.List.{_++_};
 ghost use Prim.Native.Nat.{_+_, _≤_};
 ghost use lib.ListN.{length, drop, take};
 ghost use lib.Seq.{paste};
-ghost use Rattle.record.specs.Contracts.{InPool};
-ghost use Rattle.record.specs.Tokens.{bytesIn};
+ghost use Rattle.record.specs.Tokens.{bytesIn, InPool};
 ghost use Rattle.output.specs.Contracts.{Stands, WritesOut};
 
 // Copies `len` bytes of `from`, from `place` on, to `to` from `at` on.

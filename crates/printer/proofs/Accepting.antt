@@ -21,19 +21,20 @@ use Rattle.longest_match.specs.Lexer.{Token, extends, join, Alone, Printable}
 use Rattle.longest_match.proofs.First.{nothing}
 use Rattle.record.specs.Records.{recordCount}
 use Rattle.record.specs.declared.TokenRecord.{TokenRecord}
-use Rattle.record.specs.Tokens.{recordsOf, bytesIn, tokensIn, tokensOf}
-use Rattle.record.specs.Contracts.{InPool}
+use Rattle.record.specs.Tokens.{recordsOf, bytesIn, tokensIn, tokensOf, InPool}
 use Rattle.token_list.specs.Faults.{aloneIn, faultOf}
 use Rattle.token_list.specs.Checks.{refuse, refuseBy, firstFault, firstExtended}
 use Rattle.token_list.proofs.Alone.{alone-first, first-alone}
 use Rattle.token_list.proofs.Faulting.{fault-none, fine}
 use Rattle.token_list.proofs.Passes.{faultless-front}
-use Rattle.printer.specs.Outcome.{PrintOutcome, printAccepted, refusedIf, unless, printChecked, printRules, printReading, printOutcome}
+use Rattle.printer.specs.Outcome.{PrintOutcome, printAccepted, refusedIf, unless, printChecked, printRules, printReading}
+use Rattle.printer.specs.Outcome.{printOutcome}
 use Rattle.answer.specs.declared.PrintAnswer.the-variants as print
 
 -- ---- an accepted outcome passes each check
 
-check-printed : (t : Bool) (number place : ℕ) (out : List ℕ) (next : PrintOutcome) (n : ℕ) → (refusedIf t number place out next) .answer ≡ print.Printed n
+check-printed : (t : Bool) (number place : ℕ) (out : List ℕ) (next : PrintOutcome) (n : ℕ) → (refusedIf t number place out next) .answer
+    ≡ print.Printed n
     → (t ≡ false) × (refusedIf t number place out next ≡ next)
 unfolding refusedIf
 check-printed true number place out next n e = let z : _≡_ {A = ℕ} 0 1 = cc in absurd (omega arith)
@@ -95,7 +96,8 @@ pub book-accepts : (book records pool out : List ℕ) (rules : List Rule) → re
 unfolding printOutcome
 book-accepts book records pool out rules e p = rw e (passes-accepts p)
 
-pub printed-accepts : (book records pool out : List ℕ) (n : ℕ) → (printOutcome book records pool out) .answer ≡ print.Printed n → Accepts book records pool out n
+pub printed-accepts : (book records pool out : List ℕ) (n : ℕ) → (printOutcome book records pool out) .answer ≡ print.Printed n
+    → Accepts book records pool out n
 unfolding printOutcome
 printed-accepts book records pool out n e = go (readBook book) refl e
   where
@@ -116,7 +118,8 @@ written-joins book records pool out n e =
 
 -- ---- what the tests say of the tokens
 
-faultless-alone : (rules : List Rule) (pool : List ℕ) (rs : List TokenRecord) (k : ℕ) → firstFault (faultOf rules pool) rs k ≡ none → All (Alone rules) (tokensIn pool rs)
+faultless-alone : (rules : List Rule) (pool : List ℕ) (rs : List TokenRecord) (k : ℕ) → firstFault (faultOf rules pool) rs k ≡ none
+    → All (Alone rules) (tokensIn pool rs)
 unfolding tokensIn
 faultless-alone rules pool [] k e = tt
 faultless-alone rules pool (r ∷ rs) k e =
@@ -132,7 +135,8 @@ apart-front rules t ts k e = go (extends rules t.bytes (join ts)) e
     go true z = nothing z refl
     go false z = (refl, z)
 
-pub apart-printable : (rules : List Rule) (ts : List Token) (k : ℕ) → All (Alone rules) ts → firstExtended rules ts k ≡ none → Printable rules ts
+pub apart-printable : (rules : List Rule) (ts : List Token) (k : ℕ) → All (Alone rules) ts → firstExtended rules ts k ≡ none
+    → Printable rules ts
 apart-printable rules [] k a e = tt
 apart-printable rules (t ∷ ts) k (p, a) e = let f = apart-front rules t ts k e in (p, f .0, apart-printable rules ts (suc k) a (f .1))
 
@@ -147,12 +151,14 @@ unfolding aloneIn
 alone-tagged [] tag w e = clash e refl
 alone-tagged (r ∷ rs) tag w e = go (eqb r.tag tag) (matches r w) (alone-tagged rs tag w) e
   where
-    go : (t m : Bool) → (aloneIn rs tag w ≡ true → tagged tag rs ≡ true) → if t m (if m false (aloneIn rs tag w)) ≡ true → t || tagged tag rs ≡ true
+    go : (t m : Bool) → (aloneIn rs tag w ≡ true → tagged tag rs ≡ true) → if t m (if m false (aloneIn rs tag w)) ≡ true
+        → t || tagged tag rs ≡ true
     go true m ih z = refl
     go false true ih z = clash z refl
     go false false ih z = ih z
 
-pub printable-faultless : (rules : List Rule) (pool : List ℕ) (rs : List TokenRecord) (k : ℕ) → Distinct rules → All (InPool pool) rs → Printable rules (tokensIn pool rs)
+pub printable-faultless : (rules : List Rule) (pool : List ℕ) (rs : List TokenRecord) (k : ℕ) → Distinct rules → All (InPool pool) rs
+    → Printable rules (tokensIn pool rs)
     → firstFault (faultOf rules pool) rs k ≡ none
 unfolding firstFault refuseBy tokensIn
 printable-faultless rules pool [] k d i p = refl
@@ -161,6 +167,7 @@ printable-faultless rules pool (r ∷ rs) k d (i, is) (a, x, p) =
     let z = fault-none rules pool r (i .in-pool) (alone-tagged rules (r .tag) (bytesIn pool r) l) l in
     rw z (printable-faultless rules pool rs (suc k) d is p)
 
-pub passes-printable : {rules : List Rule} {records pool out : List ℕ} → Passes rules records pool out → Printable rules (tokensOf records pool)
+pub passes-printable : {rules : List Rule} {records pool out : List ℕ} → Passes rules records pool out
+    → Printable rules (tokensOf records pool)
 passes-printable {rules} {records} {pool} p =
     apart-printable rules (tokensOf records pool) 0 (faultless-alone rules pool (recordsOf records) 0 (p .faultless)) (p .apart)

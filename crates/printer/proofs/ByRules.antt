@@ -27,7 +27,8 @@ use Rattle.answer.specs.declared.PrintAnswer.the-variants as print
 -- ---- of tokens without fault
 
 module _ (rules : List Rule) (tokens : List Token) (out : List ℕ) {total : ℕ} (e : total ≡ length (join tokens)) where
-  pub answered-long : maxText < total → {r : PrintAnswer} → r ≡ print.Refused (record { number = 20; place = 0 }) → PrintAnswered (printChecked rules tokens out) r out
+  pub answered-long : maxText < total → {r : PrintAnswer} → r ≡ print.Refused (record { number = 20; place = 0 })
+      → PrintAnswered (printChecked rules tokens out) r out
   unfolding printChecked refusedIf
   answered-long l a = rw (← e, lt-ltb _ _ l) (record { answer = a; out = refl })
 
@@ -68,11 +69,13 @@ module _ (rules : List Rule) (records pool out : List ℕ) where
     unfolding printRules refusedIf unless
     answered-checked q a = rw (le-ltb _ _ few, q) a
 
-    pub answered-troubled : {f : Refusal} → trouble rules records pool ≡ some f → PrintAnswered (printRules rules records pool out) (print.Refused f) out
+    pub answered-troubled : {f : Refusal} → trouble rules records pool ≡ some f
+        → PrintAnswered (printRules rules records pool out) (print.Refused f) out
     unfolding printRules printChecked refusedIf unless trouble refuse
     answered-troubled {f} e =
         rw (le-ltb _ _ few)
-        (go (firstFault (faultOf rules pool) (recordsOf records) 0) (ltb maxText (length (join (tokensOf records pool)))) (firstExtended rules (tokensOf records pool) 0) e)
+        (go (firstFault (faultOf rules pool) (recordsOf records) 0) (ltb maxText (length (join (tokensOf records pool))))
+            (firstExtended rules (tokensOf records pool) 0) e)
       where
         rest : PrintOutcome
         rest =
@@ -98,7 +101,8 @@ module _ (rules : List Rule) (records pool out : List ℕ) where
           → PrintAnswered (printRules rules records pool out) (print.Printed total) exit
       clean-printed l e =
           answered-checked (w .settled .faultless)
-          (answered-printed rules (tokensOf records pool) out (w .spanned .bytes) (w .spanned .short) (w .settled .apart) l scratch (w .laid) e)
+          (answered-printed rules (tokensOf records pool) out (w .spanned .bytes) (w .spanned .short) (w .settled .apart) l scratch
+              (w .laid) e)
 
       pub clean-written : {r : PrintAnswer} {exit : List ℕ} → WritesOut scratch 0 total out r exit
           → PrintAnswered (printRules rules records pool out) r exit

@@ -17,12 +17,12 @@ use Rattle.longest_match.specs.Lexer.{Token, firstMatch, join}
 use Rattle.longest_match.proofs.First.{nothing}
 use Rattle.record.specs.Records.{recordCount, recordOf, recordsAt}
 use Rattle.record.proofs.Records.{length-records, tokenAt, placeAt, records-at, token-laid, laid-within}
-use Rattle.record.specs.Tokens.{recordAt, recordsFrom, recordsOf, tokenIn, tokensIn, tokensOf}
-use Rattle.record.specs.Contracts.{InPool}
+use Rattle.record.specs.Tokens.{recordAt, recordsFrom, recordsOf, tokenIn, tokensIn, tokensOf, InPool}
 
 -- ---- the tokens by their numbers
 
-tokens-ext : (records pool : List ℕ) (ts : List Token) (k : ℕ) → ((j : ℕ) → j < length ts → tokenIn pool (recordAt records (k + j)) ≡ tokenAt ts j)
+tokens-ext : (records pool : List ℕ) (ts : List Token) (k : ℕ)
+    → ((j : ℕ) → j < length ts → tokenIn pool (recordAt records (k + j)) ≡ tokenAt ts j)
     → tokensIn pool (recordsFrom records k (length ts)) ≡ ts
 unfolding recordsFrom tokensIn
 tokens-ext records pool [] k h = refl
@@ -30,11 +30,13 @@ tokens-ext records pool (t ∷ ts) k h =
     let q : tokenIn pool (recordAt records k) ≡ t = rw add-zero at (h 0 (omega arith)) in
     rw (q, tokens-ext records pool ts (suc k) (λ j l. let z : suc k + j ≡ k + suc j = omega arith in rw z (h (suc j) (omega arith))))
 
-inside-ext : (records pool : List ℕ) (k n : ℕ) → ((j : ℕ) → j < n → InPool pool (recordAt records (k + j))) → All (InPool pool) (recordsFrom records k n)
+inside-ext : (records pool : List ℕ) (k n : ℕ) → ((j : ℕ) → j < n → InPool pool (recordAt records (k + j)))
+    → All (InPool pool) (recordsFrom records k n)
 unfolding recordsFrom
 inside-ext records pool k zero h = tt
 inside-ext records pool k (suc n) h =
-    (rw add-zero at (h 0 (omega arith)), inside-ext records pool (suc k) n (λ j l. let z : suc k + j ≡ k + suc j = omega arith in rw z (h (suc j) (omega arith))))
+    (rw add-zero at (h 0 (omega arith)), inside-ext records pool (suc k) n
+        (λ j l. let z : suc k + j ≡ k + suc j = omega arith in rw z (h (suc j) (omega arith))))
 
 -- ---- tokens that lie one behind the other in a text
 
@@ -54,7 +56,8 @@ module _ (ts : List Token) (rest text : List ℕ) (s : Storable ts rest text) wh
   count-is = let l = length-records ts 0 in omega arith
 
   module _ (k : ℕ) (l : k < length ts) where
-    byte-at : (j : ℕ) → j < 10 → getD (recordsAt 0 ts) (10 * k + j) 0 ≡ getD (recordOf ((tokenAt ts k) .tag) (0 + placeAt ts k) (length ((tokenAt ts k) .bytes))) j 0
+    byte-at : (j : ℕ) → j < 10 → getD (recordsAt 0 ts) (10 * k + j) 0
+        ≡ getD (recordOf ((tokenAt ts k) .tag) (0 + placeAt ts k) (length ((tokenAt ts k) .bytes))) j 0
     byte-at j p =
         sym (getD-drop (10 * k) (recordsAt 0 ts) j 0) ∙ sym (getD-take 10 (drop (10 * k) (recordsAt 0 ts)) j 0 p)
         ∙ ap (λ (x : List ℕ). getD x j 0) (records-at ts 0 k l)
@@ -63,7 +66,8 @@ module _ (ts : List Token) (rest text : List ℕ) (s : Storable ts rest text) wh
     within = rw (← (s .joins)) (simp length-append (omega (arith, laid-within ts k l)))
 
     shifted : (a b j : ℕ) → a + b ≡ j → j < 10
-        → getD (recordsAt 0 ts) (10 * k + a + b) 0 ≡ getD (recordOf ((tokenAt ts k) .tag) (0 + placeAt ts k) (length ((tokenAt ts k) .bytes))) j 0
+        → getD (recordsAt 0 ts) (10 * k + a + b) 0 ≡ getD
+            (recordOf ((tokenAt ts k) .tag) (0 + placeAt ts k) (length ((tokenAt ts k) .bytes))) j 0
     shifted a b j e p = let q : 10 * k + a + b ≡ 10 * k + j = omega arith in ap (λ (i : ℕ). getD (recordsAt 0 ts) i 0) q ∙ byte-at j p
 
     tag-is : twoAt (recordsAt 0 ts) (10 * k) ≡ (tokenAt ts k) .tag
@@ -83,7 +87,8 @@ module _ (ts : List Token) (rest text : List ℕ) (s : Storable ts rest text) wh
         rw (byte-at 6 (omega arith), shifted 6 1 7 refl (omega arith), shifted 6 2 8 refl (omega arith), shifted 6 3 9 refl (omega arith))
         (four-value (length ((tokenAt ts k) .bytes)) (omega (arith, within, s .short)))
 
-    pub record-is : recordAt (recordsAt 0 ts) k ≡ record { tag = (tokenAt ts k) .tag; place = placeAt ts k; len = length ((tokenAt ts k) .bytes) }
+    pub record-is : recordAt (recordsAt 0 ts) k ≡ record
+        { tag = (tokenAt ts k) .tag; place = placeAt ts k; len = length ((tokenAt ts k) .bytes) }
     unfolding recordAt
     record-is = rw (tag-is, place-is, len-is)
 
@@ -110,7 +115,8 @@ module _ (ts : List Token) (rest text : List ℕ) (s : Storable ts rest text) wh
 
 -- ---- the tags of a list that is cut
 
-pub matched-tag : (rules : List Rule) (w : List ℕ) (tag : ℕ) → All (λ (r : Rule). r.tag < 65536) rules → firstMatch rules w ≡ some tag → tag < 65536
+pub matched-tag : (rules : List Rule) (w : List ℕ) (tag : ℕ) → All (λ (r : Rule). r.tag < 65536) rules → firstMatch rules w ≡ some tag
+    → tag < 65536
 unfolding firstMatch
 matched-tag [] w tag h e = nothing refl e
 matched-tag (r ∷ rs) w tag (b, h) e = go (matches r w) (matched-tag rs w tag h) e

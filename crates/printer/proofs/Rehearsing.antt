@@ -15,8 +15,7 @@ use Rattle.automaton.specs.Rule.{Rule}
 use Rattle.book.specs.Limits.{maxText}
 use Rattle.longest_match.specs.Lexer.{or, join}
 use Rattle.record.specs.Records.{recordCount}
-use Rattle.record.specs.Tokens.{recordsOf, tokensOf}
-use Rattle.record.specs.Contracts.{InPool}
+use Rattle.record.specs.Tokens.{recordsOf, tokensOf, InPool}
 use Rattle.token_list.specs.Faults.{faultOf}
 use Rattle.token_list.specs.Checks.{refuse, firstFault, firstExtended}
 use Rattle.token_list.specs.Contracts.{checkedOf, Fitting, Joined, Spanned, Spread, Faultless, ReadsBack}
@@ -39,7 +38,8 @@ module _ (rules : List Rule) (records pool : List ℕ) where
   trouble-fault {f} e = go (firstFault (faultOf rules pool) (recordsOf records) 0) e
     where
       go : (o : Option Refusal) → checked.Refused f ≡ checkedOf o
-          → or o (refuse (ltb maxText (length (join (tokensOf records pool)))) 20 0 (firstExtended rules (tokensOf records pool) 0)) ≡ some f
+          → or o (refuse (ltb maxText (length (join (tokensOf records pool)))) 20 0 (firstExtended rules (tokensOf records pool) 0))
+              ≡ some f
       go none z = let y : _≡_ {A = ℕ} 0 1 = cc in absurd (omega arith)
       go (some g) z = let y : g ≡ f = cc in ap some y
 
@@ -72,7 +72,8 @@ module _ (rules : List Rule) (records pool scratch : List ℕ) where
         wrong = λ g e n. let y : f ≡ g = cc in t n ∙ ap some y;
       }
 
-  pub rehearses-beyond : (All (InPool pool) (recordsOf records) → maxText < length (join (tokensOf records pool))) → {r : Rehearsed} → r ≡ rehearsed.Wrong (record { number = 20; place = 0 })
+  pub rehearses-beyond : (All (InPool pool) (recordsOf records) → maxText < length (join (tokensOf records pool))) → {r : Rehearsed} → r
+      ≡ rehearsed.Wrong (record { number = 20; place = 0 })
       → Rehearses rules records pool scratch r
   rehearses-beyond s = rehearses-wrong (record { number = 20; place = 0 })
       (λ f. trouble-long rules records pool f (s (faultless-pool rules pool (recordsOf records) 0 f)))

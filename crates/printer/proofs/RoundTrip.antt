@@ -23,11 +23,11 @@ use Rattle.longest_match.proofs.Choosing.{chosen-shorter, choose-some}
 use Rattle.longest_match.proofs.Lexing.{lex-unfolds, joins, lex-few, lex-lengths, printed-lexes, lexed-printable, join-injective}
 use Rattle.record.specs.Records.{recordsAt, recordCount}
 use Rattle.record.proofs.Records.{length-records}
-use Rattle.record.specs.Tokens.{recordsOf, tokensOf}
-use Rattle.record.specs.Contracts.{InPool}
+use Rattle.record.specs.Tokens.{recordsOf, tokensOf, InPool}
 use Rattle.lexer.specs.Outcome.{LexOutcome, lexAccepted, lexRules, lexReading, lexOutcome}
 use Rattle.printer.specs.Outcome.{PrintOutcome, printAccepted, printOutcome}
-use Rattle.printer.proofs.Accepting.{Passes, Accepts, book-accepts, printed-accepts, written-joins, passes-printable, printable-faultless, printable-apart}
+use Rattle.printer.proofs.Accepting.{Passes, Accepts, book-accepts, printed-accepts, written-joins, passes-printable}
+use Rattle.printer.proofs.Accepting.{printable-faultless, printable-apart}
 use Rattle.printer.proofs.ReadBack.{Storable, records-say, records-inside, records-count, matched-tag}
 use Rattle.answer.specs.declared.LexAnswer.the-variants as lexed
 use Rattle.answer.specs.declared.PrintAnswer.the-variants as print
@@ -50,7 +50,8 @@ rules-tags (r ∷ rs) (v, h) = (v .tag-below, rules-tags rs h)
 pub valid-empty : {rules : List Rule} → Valid rules → firstMatch rules [] ≡ none
 valid-empty {rules} v = nothing-empty stateCount rules (rules-sound rules (v .rules-valid .each))
 
-pub same-rules : (book : List ℕ) {rules rules₁ : List Rule} → readBook book ≡ accepted rules → readBook book ≡ accepted rules₁ → rules ≡ rules₁
+pub same-rules : (book : List ℕ) {rules rules₁ : List Rule} → readBook book ≡ accepted rules → readBook book ≡ accepted rules₁ → rules
+    ≡ rules₁
 same-rules book p q = cc
 
 nil-of : (w : List ℕ) → length w ≡ 0 → w ≡ []
@@ -73,11 +74,13 @@ pub cut-accepts : (book text room : List ℕ) (rules : List Rule) → readBook b
 unfolding lexOutcome lexRules
 cut-accepts book text room rules e s r = rw (e, le-ltb _ _ s, le-ltb _ _ r)
 
-pub lexed-cut : (book text room : List ℕ) (n place : ℕ) → (lexOutcome book text room) .answer ≡ lexed.Lexed n place → Cut book text room n place
+pub lexed-cut : (book text room : List ℕ) (n place : ℕ) → (lexOutcome book text room) .answer ≡ lexed.Lexed n place
+    → Cut book text room n place
 unfolding lexOutcome lexRules
 lexed-cut book text room n place e = go (readBook book) refl e
   where
-    long : (rules : List Rule) (b : Bool) → ltb maxText (length text) ≡ b → (c : Bool) → ltb (recordCount room) (length ((lex rules text) .tokens)) ≡ c
+    long : (rules : List Rule) (b : Bool) → ltb maxText (length text) ≡ b → (c : Bool)
+        → ltb (recordCount room) (length ((lex rules text) .tokens)) ≡ c
         → (if b (record { answer = lexed.Refused (record { number = 14; place = 0 }); records = room })
         (if c (record { answer = lexed.Refused (record { number = 15; place = length ((lex rules text) .tokens) }); records = room })
         (lexAccepted (lex rules text) text room))) .answer ≡ lexed.Lexed n place
@@ -93,7 +96,8 @@ lexed-cut book text room n place e = go (readBook book) refl e
         let s : length text ≤ maxText = ltb-false _ _ (t .0) in
         let r : length ((lex rules text) .tokens) ≤ recordCount room = ltb-false _ _ (t .1) in
         let o = cut-accepts book text room rules q s r in
-        let a : lexed.Lexed n place ≡ lexed.Lexed (length ((lex rules text) .tokens)) (length text - length ((lex rules text) .rest)) = sym e ∙ ap (λ (x : LexOutcome). x.answer) o in
+        let a : lexed.Lexed n place ≡ lexed.Lexed (length ((lex rules text) .tokens)) (length text - length ((lex rules text) .rest)) =
+            sym e ∙ ap (λ (x : LexOutcome). x.answer) o in
         record { rules = rules; reads = q; short = s; enough = r; count = cc; place-is = cc; outcome = o }
 
 -- the records that an accepted cut stores
@@ -108,25 +112,31 @@ stored-records {book} {text} {room} {n} {place} c =
 
 -- each token of a cut is alone, whether there is a rest or not
 lex-alone : (rules : List Rule) (n : ℕ) (text : List ℕ) → length text ≤ n → All (Alone rules) ((lex rules text) .tokens)
-lex-alone rules zero text l = subst (λ (x : Lexed). All (Alone rules) (x .tokens)) (sym (lex-unfolds rules text)) (go (choose rules text) refl)
+lex-alone rules zero text l = subst (λ (x : Lexed). All (Alone rules) (x .tokens)) (sym (lex-unfolds rules text))
+    (go (choose rules text) refl)
   where
     go : (o : Option Found) → choose rules text ≡ o → All (Alone rules) ((proceed o text (lex rules)) .tokens)
     go none e = tt
     go (some f) e = absurd (omega (arith, chosen-shorter rules text f e))
-lex-alone rules (suc n) text l = subst (λ (x : Lexed). All (Alone rules) (x .tokens)) (sym (lex-unfolds rules text)) (go (lex-alone rules n) (choose rules text) refl)
+lex-alone rules (suc n) text l = subst (λ (x : Lexed). All (Alone rules) (x .tokens)) (sym (lex-unfolds rules text))
+    (go (lex-alone rules n) (choose rules text) refl)
   where
-    go : ((x : List ℕ) → length x ≤ n → All (Alone rules) ((lex rules x) .tokens)) → (o : Option Found) → choose rules text ≡ o → All (Alone rules) ((proceed o text (lex rules)) .tokens)
+    go : ((x : List ℕ) → length x ≤ n → All (Alone rules) ((lex rules x) .tokens)) → (o : Option Found) → choose rules text ≡ o
+        → All (Alone rules) ((proceed o text (lex rules)) .tokens)
     go ih none e = tt
     go ih (some f) e = (choose-some rules text f e .alone, ih f.rest (omega (arith, chosen-shorter rules text f e)))
 
-alone-tags : (rules : List Rule) (ts : List Token) → All (λ (r : Rule). r.tag < 65536) rules → All (Alone rules) ts → All (λ (t : Token). t.tag < 65536) ts
+alone-tags : (rules : List Rule) (ts : List Token) → All (λ (r : Rule). r.tag < 65536) rules → All (Alone rules) ts
+    → All (λ (t : Token). t.tag < 65536) ts
 alone-tags rules [] h p = tt
 alone-tags rules (t ∷ ts) h (a, p) = (matched-tag rules t.bytes t.tag h a, alone-tags rules ts h p)
 
-pub cut-storable : (rules : List Rule) (text : List ℕ) → Valid rules → length text ≤ maxText → Storable ((lex rules text) .tokens) ((lex rules text) .rest) text
+pub cut-storable : (rules : List Rule) (text : List ℕ) → Valid rules → length text ≤ maxText
+    → Storable ((lex rules text) .tokens) ((lex rules text) .rest) text
 cut-storable rules text v s =
     record {
-      tags = alone-tags rules ((lex rules text) .tokens) (rules-tags rules (v .rules-valid .each)) (lex-alone rules (length text) text (omega arith));
+      tags = alone-tags rules ((lex rules text) .tokens) (rules-tags rules (v .rules-valid .each))
+          (lex-alone rules (length text) text (omega arith));
       short = s;
       joins = joins rules text;
     }
@@ -142,7 +152,8 @@ module _ (book : List ℕ) (bytes : All (λ (b : ℕ). b < 256) book) where
       → tokensOf (take (10 * n) ((lexOutcome book text room) .records)) text ≡ (lex rules text) .tokens
   stored-say {text} {room} c rules e =
       let q : c .rules ≡ rules = same-rules book (c .reads) e in
-      rw (stored-records c, q) (records-say ((lex rules text) .tokens) ((lex rules text) .rest) text (cut-storable rules text (valid e) (c .short)))
+      rw (stored-records c, q) (records-say ((lex rules text) .tokens) ((lex rules text) .rest) text
+          (cut-storable rules text (valid e) (c .short)))
 
   -- two accepted lists are equal exactly when the bytes written are
   pub equal-lists : (records pool out : List ℕ) (n : ℕ) (records₁ pool₁ out₁ : List ℕ) (n₁ : ℕ)
@@ -155,13 +166,16 @@ module _ (book : List ℕ) (bytes : All (λ (b : ℕ). b < 256) book) where
       let a = printed-accepts book records pool out n e in
       let a₁ = printed-accepts book records₁ pool₁ out₁ n₁ e₁ in (
         λ q. w ∙ ap join q ∙ sym w₁,
-        λ q. join-injective (a .rules) (tokensOf records pool) (tokensOf records₁ pool₁) (valid-empty (valid (a .reads))) (passes-printable (a .passes))
+        λ q. join-injective (a .rules) (tokensOf records pool) (tokensOf records₁ pool₁) (valid-empty (valid (a .reads)))
+            (passes-printable (a .passes))
             (rw (same-rules book (a .reads) (a₁ .reads)) (passes-printable (a₁ .passes))) (sym w ∙ q ∙ w₁),
       )
 
   -- limits apart, a list is accepted exactly when it is printable
-  pub accepts-printable : (rules : List Rule) → readBook book ≡ accepted rules → (records pool out : List ℕ) → recordCount records ≤ maxTokens
-      → All (InPool pool) (recordsOf records) → length (join (tokensOf records pool)) ≤ maxText → length (join (tokensOf records pool)) ≤ length out
+  pub accepts-printable : (rules : List Rule) → readBook book ≡ accepted rules → (records pool out : List ℕ)
+      → recordCount records ≤ maxTokens
+      → All (InPool pool) (recordsOf records) → length (join (tokensOf records pool)) ≤ maxText
+          → length (join (tokensOf records pool)) ≤ length out
       → ((n : ℕ) × ((printOutcome book records pool out) .answer ≡ print.Printed n)) ↔ Printable rules (tokensOf records pool)
   accepts-printable rules e records pool out few inside short room = (
     λ q. let a = printed-accepts book records pool out (q .0) (q .1) in rw (same-rules book e (a .reads)) (passes-printable (a .passes)),
@@ -177,8 +191,10 @@ module _ (book : List ℕ) (bytes : All (λ (b : ℕ). b < 256) book) where
   )
 
   -- what is written is cut without a rest, into the list
-  pub output-lexes : (records pool out : List ℕ) (n : ℕ) (a : Accepts book records pool out n) → lex (a .rules) (join (tokensOf records pool)) ≡ record { tokens = tokensOf records pool; rest = [] }
-  output-lexes records pool out n a = printed-lexes (a .rules) (tokensOf records pool) (valid-empty (valid (a .reads))) (passes-printable (a .passes))
+  pub output-lexes : (records pool out : List ℕ) (n : ℕ) (a : Accepts book records pool out n)
+      → lex (a .rules) (join (tokensOf records pool)) ≡ record { tokens = tokensOf records pool; rest = [] }
+  output-lexes records pool out n a = printed-lexes (a .rules) (tokensOf records pool) (valid-empty (valid (a .reads)))
+      (passes-printable (a .passes))
 
   pub output-cut : (records pool out : List ℕ) (n : ℕ) → (printOutcome book records pool out) .answer ≡ print.Printed n
       → (text : List ℕ) → take n ((printOutcome book records pool out) .out) ≡ text
@@ -190,7 +206,8 @@ module _ (book : List ℕ) (bytes : All (λ (b : ℕ). b < 256) book) where
       let j : text ≡ join (tokensOf records pool) = sym t ∙ written-joins book records pool out n e in
       let x : lex (a .rules) text ≡ record { tokens = tokensOf records pool; rest = [] } = rw j (output-lexes records pool out n a) in
       let s : length text ≤ maxText = rw j (a .passes .short) in
-      let o : lexOutcome book text room ≡ lexAccepted (lex (a .rules) text) text room = cut-accepts book text room (a .rules) (a .reads) s (rw x enough) in
+      let o : lexOutcome book text room ≡ lexAccepted (lex (a .rules) text) text room = cut-accepts book text room (a .rules) (a .reads)
+          s (rw x enough) in
       let y : (lexOutcome book text room) .answer ≡ lexed.Lexed (length (tokensOf records pool)) (length text - 0) = rw (o, x) in
       let z : length text - 0 ≡ length text = omega arith in
       let w : (lexOutcome book text room) .answer ≡ lexed.Lexed (length (tokensOf records pool)) (length text) = rw z at y in
@@ -201,7 +218,8 @@ module _ (book : List ℕ) (bytes : All (λ (b : ℕ). b < 256) book) where
   whole : (rules : List Rule) (text : List ℕ) → length text ≡ length text - length ((lex rules text) .rest) → (lex rules text) .rest ≡ []
   whole rules text e = nil-of ((lex rules text) .rest) (omega (arith, lex-lengths rules text))
 
-  module _ (rules : List Rule) (reads : readBook book ≡ accepted rules) (text : List ℕ) (short : length text ≤ maxText) (no-rest : (lex rules text) .rest ≡ []) where
+  module _ (rules : List Rule) (reads : readBook book ≡ accepted rules) (text : List ℕ) (short : length text ≤ maxText)
+      (no-rest : (lex rules text) .rest ≡ []) where
     cut-joins : join ((lex rules text) .tokens) ≡ text
     cut-joins = rw (no-rest, append-nil) at (joins rules text)
 
@@ -211,25 +229,31 @@ module _ (book : List ℕ) (bytes : All (λ (b : ℕ). b < 256) book) where
     cut-passes : (out : List ℕ) → length text ≤ length out → Passes rules (recordsAt 0 ((lex rules text) .tokens)) text out
     cut-passes out l =
         let s = cut-storable rules text (valid reads) short in
-        let p : Printable rules (tokensOf (recordsAt 0 ((lex rules text) .tokens)) text) = rw cut-says (lexed-printable rules text no-rest) in
+        let p : Printable rules (tokensOf (recordsAt 0 ((lex rules text) .tokens)) text) = rw cut-says
+            (lexed-printable rules text no-rest) in
         record {
           few = rw (records-count ((lex rules text) .tokens) ((lex rules text) .rest) text s) (omega (arith, lex-few rules text));
-          faultless = printable-faultless rules text (recordsOf (recordsAt 0 ((lex rules text) .tokens))) 0 (valid reads .rules-valid .distinct)
+          faultless = printable-faultless rules text (recordsOf (recordsAt 0 ((lex rules text) .tokens))) 0
+              (valid reads .rules-valid .distinct)
               (records-inside ((lex rules text) .tokens) ((lex rules text) .rest) text s) p;
           short = rw (cut-says, cut-joins) short;
           apart = printable-apart rules (tokensOf (recordsAt 0 ((lex rules text) .tokens)) text) 0 p;
           room = rw (cut-says, cut-joins) l;
         }
 
-    pub cut-outcome : (out : List ℕ) → length text ≤ length out → printOutcome book (recordsAt 0 ((lex rules text) .tokens)) text out ≡ printAccepted text out
-    cut-outcome out l = book-accepts book (recordsAt 0 ((lex rules text) .tokens)) text out rules reads (cut-passes out l) ∙ rw (cut-says, cut-joins)
+    pub cut-outcome : (out : List ℕ) → length text ≤ length out → printOutcome book (recordsAt 0 ((lex rules text) .tokens)) text out
+        ≡ printAccepted text out
+    cut-outcome out l = book-accepts book (recordsAt 0 ((lex rules text) .tokens)) text out rules reads (cut-passes out l)
+        ∙ rw (cut-says, cut-joins)
 
   -- a text that is cut without a rest is printed from the records that the cut stores
-  pub cut-printed : (text room out : List ℕ) (n : ℕ) → (lexOutcome book text room) .answer ≡ lexed.Lexed n (length text) → length text ≤ length out
+  pub cut-printed : (text room out : List ℕ) (n : ℕ) → (lexOutcome book text room) .answer ≡ lexed.Lexed n (length text)
+      → length text ≤ length out
       → ((printOutcome book (take (10 * n) ((lexOutcome book text room) .records)) text out) .answer ≡ print.Printed (length text))
       × (take (length text) ((printOutcome book (take (10 * n) ((lexOutcome book text room) .records)) text out) .out) ≡ text)
   cut-printed text room out n e l =
       let c = lexed-cut book text room n (length text) e in
       let o = cut-outcome (c .rules) (c .reads) text (c .short) (whole (c .rules) text (c .place-is)) out l in
-      let q : printOutcome book (take (10 * n) ((lexOutcome book text room) .records)) text out ≡ printAccepted text out = rw (stored-records c) o in
+      let q : printOutcome book (take (10 * n) ((lexOutcome book text room) .records)) text out
+          ≡ printAccepted text out = rw (stored-records c) o in
       (ap (λ (x : PrintOutcome). x.answer) q, rw q (take-append-seam text (drop (length text) out)))

@@ -1,8 +1,8 @@
 // Printing a list of tokens by rules that lent tables hold.
+use crate::rehearsal::Rehearsed;
 use answer::PrintAnswer;
 use answer::Refusal;
 use book::Book;
-use crate::rehearsal::Rehearsed;
 ghost use mathlib.Core.Path.{_≡_};
 ghost use mathlib.Core.List.{List};
 ghost use lib.ListN.{length};

@@ -19,7 +19,8 @@ ghost use Rattle.printer.specs.Contracts.{PrintAnswered};
 // or the refusal of document 01. Every other byte of `out` stays as it was.
 pub fn print(book: &[u8], records: &[u8], pool: &[u8], out: &mut [u8]) -> PrintAnswer
     ensures { λ r. ⌜ r ≡ (printOutcome (now (book .entry)) (now (records .entry)) (now (pool .entry)) (now (out .entry))) .answer ⌝ }
-    ensures { λ r. ⌜ now (out .exit) ≡ (printOutcome (now (book .entry)) (now (records .entry)) (now (pool .entry)) (now (out .entry))) .out ⌝ }
+    ensures { λ r. ⌜ now (out .exit)
+        ≡ (printOutcome (now (book .entry)) (now (records .entry)) (now (pool .entry)) (now (out .entry))) .out ⌝ }
 {
     let mut headers = [0u64; Book::RULES];
     let mut states = [0u16; Book::CELLS];

@@ -87,7 +87,8 @@ behind t bytes k =
     later i j e = rw e
 
 -- record number k is that of token number k
-pub record-encoded : (ts : List TokenRecord) (k : ℕ) → k < length ts → Fits (getD ts k noRecord) → recordAt (encoded ts) k ≡ getD ts k noRecord
+pub record-encoded : (ts : List TokenRecord) (k : ℕ) → k < length ts → Fits (getD ts k noRecord) → recordAt (encoded ts) k
+    ≡ getD ts k noRecord
 unfolding encoded
 record-encoded [] k l f = absurd (omega arith)
 record-encoded (t ∷ ts) zero l f = front t (encoded ts) f
@@ -98,7 +99,8 @@ unfolding recordsFrom
 records-behind t bytes k zero = refl
 records-behind t bytes k (suc n) = rw (behind t bytes k, records-behind t bytes (suc k) n)
 
-said-from : (ts : List TokenRecord) (pool : List ℕ) → All Fits ts → tokensIn pool (recordsFrom (encoded ts) 0 (length ts)) ≡ tokensIn pool ts
+said-from : (ts : List TokenRecord) (pool : List ℕ) → All Fits ts → tokensIn pool (recordsFrom (encoded ts) 0 (length ts))
+    ≡ tokensIn pool ts
 unfolding encoded tokensIn recordsFrom
 said-from [] pool f = refl
 said-from (t ∷ ts) pool (f, fs) = rw (front t (encoded ts) f, records-behind t (encoded ts) 0 (length ts), said-from ts pool fs)

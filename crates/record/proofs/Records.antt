@@ -59,7 +59,9 @@ laid-within (t ∷ ts) (suc k) l =
     omega (arith, laid-within ts k (omega arith), length-append t.bytes (join ts), length-append t.bytes (join (take k ts)))
 
 pub lexed-laid : (rules : List Rule) (text : List ℕ) (k : ℕ) → k < length ((lex rules text) .tokens)
-    → take (length ((tokenAt ((lex rules text) .tokens) k) .bytes)) (drop (placeAt ((lex rules text) .tokens) k) text) ≡ (tokenAt ((lex rules text) .tokens) k) .bytes
+    → take (length ((tokenAt ((lex rules text) .tokens) k) .bytes)) (drop (placeAt ((lex rules text) .tokens) k) text)
+        ≡ (tokenAt ((lex rules text) .tokens) k) .bytes
 lexed-laid rules text k l =
-    ap (λ (x : List ℕ). take (length ((tokenAt ((lex rules text) .tokens) k) .bytes)) (drop (placeAt ((lex rules text) .tokens) k) x)) (sym (joins rules text))
+    ap (λ (x : List ℕ). take (length ((tokenAt ((lex rules text) .tokens) k) .bytes)) (drop (placeAt ((lex rules text) .tokens) k) x))
+        (sym (joins rules text))
     ∙ token-laid ((lex rules text) .tokens) ((lex rules text) .rest) k l

@@ -1,7 +1,5 @@
 -- What the layers of the code ask and answer between themselves. Nobody needs to believe it: the operations' contracts do not rest on it.
-use mathlib.Core.List.{List}
-use Prim.Native.Nat.{ℕ, _+_, _<_, _≤_}
-use lib.ListN.{length}
+use Prim.Native.Nat.{_<_}
 use Rattle.record.specs.declared.TokenRecord.{TokenRecord}
 
 -- the fields fit their types, as those of every record in a slice do
@@ -9,10 +7,6 @@ pub record Fits (r : TokenRecord) : Type 0 where
   pub tag : r .tag < 65536
   pub place : r .place < 4294967296
   pub len : r .len < 4294967296
-
--- a record's bytes lie in the pool
-pub record InPool (pool : List ℕ) (r : TokenRecord) : Type 0 where
-  pub in-pool : r .place + r .len ≤ length pool
 
 -- for a number that no record has
 abbrev pub noRecord : TokenRecord

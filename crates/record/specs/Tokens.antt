@@ -1,7 +1,7 @@
 -- The tokens that ten-byte records say, and their bytes in a pool.
 use mathlib.Core.List.{List, [], _∷_}
-use Prim.Native.Nat.{ℕ, zero, suc, _+_, _*_}
-use lib.ListN.{take, drop}
+use Prim.Native.Nat.{ℕ, zero, suc, _+_, _*_, _≤_}
+use lib.ListN.{length, take, drop}
 use Rattle.big_endian.specs.Numbers.{twoAt, fourAt}
 use Rattle.longest_match.specs.Lexer.{Token}
 use Rattle.record.specs.Records.{recordCount}
@@ -23,6 +23,10 @@ recordsOf records = recordsFrom records 0 (recordCount records)
 -- the bytes of a record: "a place and a length, both counted in a lent byte pool"
 abbrev pub bytesIn : List ℕ → TokenRecord → List ℕ
 bytesIn pool r = take (r .len) (drop (r .place) pool)
+
+-- its bytes lie in the pool
+pub record InPool (pool : List ℕ) (r : TokenRecord) : Type 0 where
+  pub in-pool : r .place + r .len ≤ length pool
 
 abbrev pub tokenIn : List ℕ → TokenRecord → Token
 tokenIn pool r = record { tag = r .tag; bytes = bytesIn pool r }

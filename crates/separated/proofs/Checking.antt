@@ -61,7 +61,8 @@ plainly-start hs rules tag = record { within = omega arith; passed = λ ss es rs
 
 module _ {hs : List ℕ} {rules tag k : ℕ} (w : Plainly hs rules tag k) where
   module _ (more : k < rules) where
-    next : ((ss es : List ℕ) (rs : List Rule) → Holds hs ss es rules rs → separator tag (ruleAt rs k) ≡ false) → Plainly hs rules tag (k + 1)
+    next : ((ss es : List ℕ) (rs : List Rule) → Holds hs ss es rules rs → separator tag (ruleAt rs k) ≡ false)
+        → Plainly hs rules tag (k + 1)
     next f =
         record {
           within = omega arith;
@@ -80,7 +81,8 @@ module _ {hs : List ℕ} {rules tag k : ℕ} (w : Plainly hs rules tag k) where
     unfolding separates
     plainly-found e f ss es rs h =
         sym (any-at (separator tag) rs k (omega (arith, h .count))
-        (rw (eq-eqb ((ruleAt rs k) .tag) tag (sym (header-tag (table-at h more)) ∙ e), eq-eqb ((ruleAt rs k) .kind) separatorKind (sym (header-kind (table-at h more)) ∙ f))))
+        (rw (eq-eqb ((ruleAt rs k) .tag) tag (sym (header-tag (table-at h more)) ∙ e), eq-eqb ((ruleAt rs k) .kind) separatorKind
+            (sym (header-kind (table-at h more)) ∙ f))))
 
   pub plainly-end : rules ≤ k → (ss es : List ℕ) (rs : List Rule) → Holds hs ss es rules rs → false ≡ separates rs tag
   unfolding separates
@@ -126,12 +128,14 @@ module _ (rules : List Rule) (pool : List ℕ) (r : TokenRecord) {f : Fault} whe
 -- ---- the checks of a call
 
 module _ (rules : List Rule) (sep : TokenRecord) (mode : ℕ) (records pool : List ℕ) where
-  pub list-mode : 2 < mode → {c : Checked} → c ≡ checked.Refused (record { number = 24; place = 0 }) → c ≡ checkedOf (listRefusal rules sep mode records pool)
+  pub list-mode : 2 < mode → {c : Checked} → c ≡ checked.Refused (record { number = 24; place = 0 }) → c
+      ≡ checkedOf (listRefusal rules sep mode records pool)
   unfolding listRefusal refuse
   list-mode l a = a ∙ rw (lt-ltb 2 mode l)
 
   module _ (known : mode ≤ 2) where
-    pub list-separator : {number : ℕ} → fault.By number ≡ faultFor (separatorFault rules pool sep) → {c : Checked} → c ≡ checked.Refused (record { number = number; place = recordCount records })
+    pub list-separator : {number : ℕ} → fault.By number ≡ faultFor (separatorFault rules pool sep) → {c : Checked} → c
+        ≡ checked.Refused (record { number = number; place = recordCount records })
         → c ≡ checkedOf (listRefusal rules sep mode records pool)
     unfolding listRefusal refuse refuseBy
     list-separator e a = a ∙ rw (le-ltb 2 mode known, by-number (separatorFault rules pool sep) e)
@@ -142,17 +146,20 @@ module _ (rules : List Rule) (sep : TokenRecord) (mode : ℕ) (records pool : Li
       unfolding listRefusal refuse refuseBy
       list-many l a = a ∙ rw (le-ltb 2 mode known, by-none (separatorFault rules pool sep) e, lt-ltb maxTokens (recordCount records) l)
 
-      pub list-tokens : recordCount records ≤ maxTokens → {c : Checked} → c ≡ checkedOf (firstFault (plainFault rules pool) (recordsOf records) 0)
+      pub list-tokens : recordCount records ≤ maxTokens → {c : Checked} → c
+          ≡ checkedOf (firstFault (plainFault rules pool) (recordsOf records) 0)
           → c ≡ checkedOf (listRefusal rules sep mode records pool)
       unfolding listRefusal refuse refuseBy
       list-tokens l a = a ∙ rw (le-ltb 2 mode known, by-none (separatorFault rules pool sep) e, le-ltb maxTokens (recordCount records) l)
 
-  pub call-shared : {b : ℕ} → lowest.Byte b ≡ lowestOf (sharedByte rules) → {c : Checked} → c ≡ checked.Refused (record { number = 23; place = b })
+  pub call-shared : {b : ℕ} → lowest.Byte b ≡ lowestOf (sharedByte rules) → {c : Checked} → c
+      ≡ checked.Refused (record { number = 23; place = b })
       → c ≡ checkedOf (separatedRefusal rules sep mode records pool)
   unfolding separatedRefusal sharing
   call-shared {b} e {c} a = go (sharedByte rules) refl e
     where
-      go : (o : Option ℕ) → sharedByte rules ≡ o → lowest.Byte b ≡ lowestOf o → c ≡ checkedOf (or (sharing (sharedByte rules)) (listRefusal rules sep mode records pool))
+      go : (o : Option ℕ) → sharedByte rules ≡ o → lowest.Byte b ≡ lowestOf o → c
+          ≡ checkedOf (or (sharing (sharedByte rules)) (listRefusal rules sep mode records pool))
       go none q z = let y : _≡_ {A = ℕ} 0 1 = cc in absurd (omega arith)
       go (some x) q z = let y : b ≡ x = cc in a ∙ rw (q, y)
 
@@ -161,6 +168,7 @@ module _ (rules : List Rule) (sep : TokenRecord) (mode : ℕ) (records pool : Li
   unfolding separatedRefusal sharing
   call-list e {c} a = go (sharedByte rules) refl e
     where
-      go : (o : Option ℕ) → sharedByte rules ≡ o → lowest.Nothing ≡ lowestOf o → c ≡ checkedOf (or (sharing (sharedByte rules)) (listRefusal rules sep mode records pool))
+      go : (o : Option ℕ) → sharedByte rules ≡ o → lowest.Nothing ≡ lowestOf o → c
+          ≡ checkedOf (or (sharing (sharedByte rules)) (listRefusal rules sep mode records pool))
       go none q z = a ∙ rw q
       go (some x) q z = let y : _≡_ {A = ℕ} 0 1 = cc in absurd (omega arith)

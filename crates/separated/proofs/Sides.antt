@@ -97,7 +97,8 @@ module _ {rules : List Rule} (v : ValidRules rules) where
         uses : (b : ℕ) → used f.rule b ≡ true → usedByKind (kindOn (eqb f.rule.kind separatorKind)) rules b ≡ true
         uses b u =
             rw (← kind-on f.rule.kind (valid .kind) _ refl, f.splits)
-            (any-middle (λ (r : Rule). eqb r.kind f.rule.kind && used r b) f.before f.rule f.behind (rw (eq-eqb f.rule.kind f.rule.kind refl, u)))
+            (any-middle (λ (r : Rule). eqb r.kind f.rule.kind && used r b) f.before f.rule f.behind
+                (rw (eq-eqb f.rule.kind f.rule.kind refl, u)))
 
     tag-side : separates rules tag ≡ eqb f.rule.kind separatorKind
     tag-side = rw (← f.tagged, f.splits) (side-of-tag f.before f.rule f.behind (subst Distinct f.splits (v .distinct)))
@@ -107,7 +108,8 @@ module _ {rules : List Rule} (v : ValidRules rules) where
   token-side t a = let f = earliest rules t.bytes t.tag a in rw (tag-side f) (rule-side f)
 
   -- what some rule matches is on one side
-  pub match-side : (s : Bool) (b : ℕ) (w : List ℕ) → Disjoint rules → isSome (firstMatch rules (b ∷ w)) ≡ true → Side rules s b → All (Side rules s) (b ∷ w)
+  pub match-side : (s : Bool) (b : ℕ) (w : List ℕ) → Disjoint rules → isSome (firstMatch rules (b ∷ w)) ≡ true → Side rules s b
+      → All (Side rules s) (b ∷ w)
   match-side s b w d e h =
       let m = some-of _ e in
       let x = rule-side (earliest rules (b ∷ w) (m .0) (m .1)) in

@@ -6,9 +6,9 @@ use answer::BookAnswer;
 use answer::PrintAnswer;
 use answer::Refusal;
 use book::Book;
-use token_list::Checked;
 use output::Placed;
 use record::TokenRecord;
+use token_list::Checked;
 ghost use mathlib.Core.Path.{_≡_};
 ghost use mathlib.Core.List.{List};
 ghost use Prim.Native.Nat.{_≤_};
@@ -32,8 +32,10 @@ pub fn print_separated(
     pool: &[u8],
     out: &mut [u8],
 ) -> PrintAnswer
-    ensures { λ r. ⌜ r ≡ (separatedOutcome (now (book .entry)) separator mode (now (records .entry)) (now (pool .entry)) (now (out .entry))) .answer ⌝ }
-    ensures { λ r. ⌜ now (out .exit) ≡ (separatedOutcome (now (book .entry)) separator mode (now (records .entry)) (now (pool .entry)) (now (out .entry))) .out ⌝ }
+    ensures { λ r. ⌜ r
+        ≡ (separatedOutcome (now (book .entry)) separator mode (now (records .entry)) (now (pool .entry)) (now (out .entry))) .answer ⌝ }
+    ensures { λ r. ⌜ now (out .exit)
+        ≡ (separatedOutcome (now (book .entry)) separator mode (now (records .entry)) (now (pool .entry)) (now (out .entry))) .out ⌝ }
 {
     let mut headers = [0u64; Book::RULES];
     let mut states = [0u16; Book::CELLS];
@@ -71,7 +73,8 @@ fn print_arrays(
     requires { ⌜ Held (now headers) (now states) (now edges) rules ⌝ }
     requires { ⌜ length (now scratch) ≡ maxText ⌝ }
     ensures { λ r. ⌜ ((rs : List Rule) → Holds (now (headers .entry)) (now (states .entry)) (now (edges .entry)) rules rs
-        → PrintAnswered (separatedRules rs separator mode (now (records .entry)) (now (pool .entry)) (now (out .entry))) r (now (out .exit))) ⌝ }
+        → PrintAnswered (separatedRules rs separator mode (now (records .entry)) (now (pool .entry)) (now (out .entry)))
+        r (now (out .exit))) ⌝ }
 {
     print_rules(
         headers,
@@ -103,7 +106,8 @@ pub fn print_rules(
     requires { ⌜ Held (now headers) (now states) (now edges) rules ⌝ }
     requires { ⌜ length (now scratch) ≡ maxText ⌝ }
     ensures { λ r. ⌜ ((rs : List Rule) → Holds (now (headers .entry)) (now (states .entry)) (now (edges .entry)) rules rs
-        → PrintAnswered (separatedRules rs separator mode (now (records .entry)) (now (pool .entry)) (now (out .entry))) r (now (out .exit))) ⌝ }
+        → PrintAnswered (separatedRules rs separator mode (now (records .entry)) (now (pool .entry)) (now (out .entry)))
+        r (now (out .exit))) ⌝ }
 {
     match crate::checks::check_call(
         headers,
@@ -147,7 +151,8 @@ fn print_passed(
     requires { ⌜ Passed (now headers) (now states) (now edges) rules separator mode (now records) (now pool) ⌝ }
     requires { ⌜ length (now scratch) ≡ maxText ⌝ }
     ensures { λ r. ⌜ ((rs : List Rule) → Holds (now (headers .entry)) (now (states .entry)) (now (edges .entry)) rules rs
-        → PrintAnswered (writing (spelled rs separator mode (now (records .entry)) (now (pool .entry))) (now (out .entry))) r (now (out .exit))) ⌝ }
+        → PrintAnswered (writing (spelled rs separator mode (now (records .entry)) (now (pool .entry))) (now (out .entry)))
+        r (now (out .exit))) ⌝ }
 {
     match spacing::spelling::put_list(
         headers,

@@ -11,8 +11,7 @@ use Rattle.longest_match.specs.Lexer.{Token, Alone, join}
 use Rattle.longest_match.specs.Contracts.{Holds}
 use Rattle.record.specs.Records.{recordCount}
 use Rattle.record.specs.declared.TokenRecord.{TokenRecord}
-use Rattle.record.specs.Contracts.{InPool}
-use Rattle.record.specs.Tokens.{recordAt, bytesIn, tokenIn, tokensIn}
+use Rattle.record.specs.Tokens.{recordAt, bytesIn, tokenIn, tokensIn, InPool}
 use Rattle.output.specs.declared.Placed.{Placed}
 use Rattle.output.specs.Contracts.{Stands}
 use Rattle.output.proofs.Placing.{stands-at, stands-full}
@@ -40,7 +39,8 @@ module _ (rules : List Rule) (mode : ℕ) (pool : List ℕ) (token sep : TokenRe
     token-both f s = rw (← f, ← e) s
 
     -- no room for the token alone
-    pub token-full : {p : Placed} {exit : List ℕ} → p ≡ placed.Full → Stands p (bytesIn pool token ++ behind) exit → Stands placed.Full text exit
+    pub token-full : {p : Placed} {exit : List ℕ} → p ≡ placed.Full → Stands p (bytesIn pool token ++ behind) exit
+        → Stands placed.Full text exit
     token-full {p} {exit} q s = stands-full text exit (go (follows rules mode (tokenIn pool token) us))
       where
         k : length exit < length (bytesIn pool token) + length (join us)
@@ -53,7 +53,8 @@ module _ (rules : List Rule) (mode : ℕ) (pool : List ℕ) (token sep : TokenRe
     pub token-ahead : {last : Bool} {whole : List ℕ} → Alone rules (tokenIn pool token) → InPool pool token → last ≡ isLast us
         → whole ≡ bytesIn pool token ++ behind → Ahead rules (tokenIn pool token) us (token .len) last whole
     token-ahead a i l t =
-        record { laid = t ∙ ap (λ (x : List ℕ). bytesIn pool token ++ x) e; long = bytes-length pool token (i .in-pool); alone = a; ends = l }
+        record { laid = t ∙ ap (λ (x : List ℕ). bytesIn pool token ++ x) e; long = bytes-length pool token (i .in-pool); alone = a; ends
+            = l }
 
 -- ---- the list
 
@@ -63,7 +64,8 @@ pub record Putting (rules : List Rule) (sep : TokenRecord) (mode : ℕ) (records
   pub few : k ≤ recordCount records
   pub laid : drop at scratch ≡ join (separated rules (tokenIn pool sep) mode (tokensIn pool (left records k)))
 
-module _ {hs ss es : List ℕ} {n : ℕ} {sep : TokenRecord} {records pool : List ℕ} (p : Spaceable hs ss es n sep records pool) {k : ℕ} (l : k < recordCount records)
+module _ {hs ss es : List ℕ} {n : ℕ} {sep : TokenRecord} {records pool : List ℕ} (p : Spaceable hs ss es n sep records pool) {k : ℕ}
+    (l : k < recordCount records)
     {r : TokenRecord} (e : r ≡ recordAt records k) where
   pub spaced-inside : InPool pool r
   spaced-inside = rw e (record-at (InPool pool) records (p .inside) k l)
@@ -86,16 +88,19 @@ module _ (rules : List Rule) (sep : TokenRecord) (mode : ℕ) (records pool : Li
     here =
         let q : k - 1 + 1 ≡ k = omega arith in
         let z = list.from-next rules sep mode records pool (k - 1) (omega (arith, w .few)) e in
-        subst (λ (i : ℕ). from (k - 1) ≡ tokenIn pool r ∷ put (follows rules mode (tokenIn pool r) (from i)) (tokenIn pool sep) (from i)) q z
+        subst (λ (i : ℕ). from (k - 1) ≡ tokenIn pool r ∷ put (follows rules mode (tokenIn pool r) (from i)) (tokenIn pool sep) (from i))
+            q z
 
-    module _ {p : Placed} {exit : List ℕ} (s : Stands p (join (tokenIn pool r ∷ put (follows rules mode (tokenIn pool r) (from k)) (tokenIn pool sep) (from k))) exit) where
+    module _ {p : Placed} {exit : List ℕ} (s : Stands p (join
+        (tokenIn pool r ∷ put (follows rules mode (tokenIn pool r) (from k)) (tokenIn pool sep) (from k))) exit) where
       pub putting-next : {start : ℕ} → p ≡ placed.At start → Putting rules sep mode records pool exit start (k - 1)
       putting-next q = let t = s .at _ q in record { within = t .within; few = omega (arith, w .few); laid = t .laid ∙ ap join (sym here) }
 
       pub putting-full : p ≡ placed.Full → Stands placed.Full (spelled rules sep mode records pool) exit
       putting-full q =
           let l = s .full q in
-          let m : length (join (from (k - 1))) ≤ length (spelled rules sep mode records pool) = list.from-whole rules sep mode records pool (k - 1) (omega (arith, w .few)) in
+          let m : length (join (from (k - 1))) ≤ length (spelled rules sep mode records pool) = list.from-whole rules sep mode records
+              pool (k - 1) (omega (arith, w .few)) in
           let z = ap (λ (ts : List Token). length (join ts)) here in
           stands-full (spelled rules sep mode records pool) exit (omega arith)
 

@@ -30,7 +30,8 @@ module _ (rules : List Rule) (sep : TokenRecord) (mode : ℕ) (records pool : Li
   from-grows : (k : ℕ) → k < recordCount records → length (join (from (k + 1))) ≤ length (join (from k))
   from-grows k l = rw (from-next k l refl) (go (follows rules mode (tokenIn pool (recordAt records k)) (from (k + 1))))
     where
-      go : (c : Bool) → length (join (from (k + 1))) ≤ length (join (tokenIn pool (recordAt records k) ∷ put c (tokenIn pool sep) (from (k + 1))))
+      go : (c : Bool) → length (join (from (k + 1))) ≤ length
+          (join (tokenIn pool (recordAt records k) ∷ put c (tokenIn pool sep) (from (k + 1))))
       go true = simp length-append (omega arith)
       go false = simp length-append (omega arith)
 

@@ -9,8 +9,7 @@ use Rattle.automaton.specs.Choice.{All}
 use Rattle.longest_match.specs.Lexer.{Token, Alone, join}
 use Rattle.longest_match.specs.Contracts.{Holds, Held}
 use Rattle.record.specs.declared.TokenRecord.{TokenRecord}
-use Rattle.record.specs.Contracts.{InPool}
-use Rattle.record.specs.Tokens.{recordsOf, tokenIn}
+use Rattle.record.specs.Tokens.{recordsOf, tokenIn, InPool}
 
 -- ---- What the code asks of the text behind a token.
 

@@ -9,8 +9,7 @@ ghost use lib.ListN.{length, drop};
 ghost use Rattle.automaton.specs.Rule.{Rule};
 ghost use Rattle.longest_match.specs.Lexer.{Token, Alone, join};
 ghost use Rattle.longest_match.specs.Contracts.{Holds, Held};
-ghost use Rattle.record.specs.Contracts.{InPool};
-ghost use Rattle.record.specs.Tokens.{tokenIn};
+ghost use Rattle.record.specs.Tokens.{tokenIn, InPool};
 ghost use Rattle.output.specs.Contracts.{Stands};
 ghost use Rattle.spacing.specs.Separators.{follows, put, spelled};
 ghost use Rattle.spacing.specs.Contracts.{isLast, Spaceable};
@@ -35,7 +34,10 @@ fn put_token(
     requires { ⌜ at ≤ length (now scratch) ⌝ }
     ensures { λ r. ⌜ ((rs : List Rule) → Holds (now (headers .entry)) (now (states .entry)) (now (edges .entry)) rules rs
         → Alone rs (tokenIn (now (pool .entry)) token) → (us : List Token) → drop at (now (scratch .entry)) ≡ join us → last ≡ isLast us
-        → Stands r (join (tokenIn (now (pool .entry)) token ∷ put (follows rs mode (tokenIn (now (pool .entry)) token) us) (tokenIn (now (pool .entry)) separator) us)) (now (scratch .exit))) ⌝ }
+        → Stands r
+        (join (tokenIn (now (pool .entry)) token
+        ∷ put (follows rs mode (tokenIn (now (pool .entry)) token) us) (tokenIn (now (pool .entry)) separator) us))
+        (now (scratch .exit))) ⌝ }
 {
     match output::put_token(pool, token, scratch, at) {
         Placed::At(start) => {

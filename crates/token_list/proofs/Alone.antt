@@ -28,7 +28,8 @@ alone-first (r ∷ rs) tag w e = go (eqb r.tag tag) refl (matches r w) (alone-fi
     go false q false ih z = ih z
 
 -- no rule behind has this tag
-unfound : (rs : List Rule) (tag other : ℕ) (w : List ℕ) → All (λ (q : Rule). eqb q.tag other ≡ false) rs → other ≡ tag → firstMatch rs w ≡ some tag → ⊥
+unfound : (rs : List Rule) (tag other : ℕ) (w : List ℕ) → All (λ (q : Rule). eqb q.tag other ≡ false) rs → other ≡ tag → firstMatch rs w
+    ≡ some tag → ⊥
 unfolding firstMatch
 unfound [] tag other w h e z = nothing refl z
 unfound (r ∷ rs) tag other w (n, h) e z = go (matches r w) (unfound rs tag other w h e) z

@@ -26,7 +26,8 @@ module _ (rules : List Rule) (w after : List ℕ) (tag : ℕ) (empty : firstMatc
   pub read-no-more : len ≡ length w → extends rules w after ≡ false
   read-no-more e =
       let p : 0 < len = omega (arith, matched-long rules w tag empty m) in
-      extends-no rules w after (front ((ruleAt rules rule) .tag) len (w ++ after)) (c .chosen p) (length-take-le len (w ++ after) (c .within) ∙ e)
+      extends-no rules w after (front ((ruleAt rules rule) .tag) len (w ++ after)) (c .chosen p)
+          (length-take-le len (w ++ after) (c .within) ∙ e)
 
   pub read-on : (len ≡ length w → ⊥) → extends rules w after ≡ true
   read-on ne = go (extends rules w after) refl

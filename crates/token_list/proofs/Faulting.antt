@@ -39,7 +39,8 @@ unfolding aloneIn
 alone-here [] tag w k l e h m n = absurd (omega arith)
 alone-here (r ∷ rs) tag w zero l e h m n = rw (eq-eqb _ _ e, m)
 alone-here (r ∷ rs) tag w (suc k) l e h m n =
-    rw (h 0 (omega arith), n 0 (omega arith)) (alone-here rs tag w k (omega arith) e (λ j p. h (suc j) (omega arith)) m (λ j p. n (suc j) (omega arith)))
+    rw (h 0 (omega arith), n 0 (omega arith)) (alone-here rs tag w k (omega arith) e (λ j p. h (suc j) (omega arith)) m
+        (λ j p. n (suc j) (omega arith)))
 
 -- what is alone is matched by its rule and by no earlier one
 alone-matches : (rules : List Rule) (tag : ℕ) (w : List ℕ) (k : ℕ) → k < length rules → (ruleAt rules k) .tag ≡ tag
@@ -80,7 +81,8 @@ module _ {rules : List Rule} {tag k : ℕ} (r : Ranks rules tag k) where
 
   module _ (known : k ≡ length rules → ⊥) where
     -- as many bytes are chosen at the front of a text as w has
-    module _ (w after : List ℕ) {rule len : ℕ} (c : Chooses rules (w ++ after) rule len) (some-byte : len ≡ 0 → ⊥) (all : len ≡ length w) where
+    module _ (w after : List ℕ) {rule len : ℕ} (c : Chooses rules (w ++ after) rule len) (some-byte : len ≡ 0 → ⊥) (all : len ≡ length w)
+        where
       at-all : take len (w ++ after) ≡ w
       at-all = rw (all, take-append-seam)
 
@@ -157,7 +159,8 @@ pub record Fine (rules : List Rule) (pool : List ℕ) (r : TokenRecord) : Type 0
 
 pub fine : (rules : List Rule) (pool : List ℕ) (r : TokenRecord) → faultOf rules pool r ≡ none → Fine rules pool r
 unfolding faultOf
-fine rules pool r e = go (ltb (length pool) (r .place + r .len)) refl (tagged (r .tag) rules) refl (aloneIn rules (r .tag) (bytesIn pool r)) refl e
+fine rules pool r e = go (ltb (length pool) (r .place + r .len)) refl (tagged (r .tag) rules) refl
+    (aloneIn rules (r .tag) (bytesIn pool r)) refl e
   where
     go : (a : Bool) → ltb (length pool) (r .place + r .len) ≡ a → (b : Bool) → tagged (r .tag) rules ≡ b
         → (d : Bool) → aloneIn rules (r .tag) (bytesIn pool r) ≡ d

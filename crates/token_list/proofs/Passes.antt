@@ -17,8 +17,7 @@ use Rattle.longest_match.specs.Lexer.{join}
 use Rattle.longest_match.proofs.First.{nothing}
 use Rattle.record.specs.Records.{recordCount}
 use Rattle.record.specs.declared.TokenRecord.{TokenRecord}
-use Rattle.record.specs.Tokens.{recordAt, recordsFrom, recordsOf, bytesIn, tokensIn, tokensOf}
-use Rattle.record.specs.Contracts.{InPool}
+use Rattle.record.specs.Tokens.{recordAt, recordsFrom, recordsOf, bytesIn, tokensIn, tokensOf, InPool}
 use Rattle.token_list.specs.Faults.{faultOf}
 use Rattle.token_list.specs.Checks.{refuseBy, firstFault}
 use Rattle.token_list.specs.Contracts.{checkedOf, faultFor, Fitting, Joined}
@@ -45,7 +44,8 @@ unfolding left recordsFrom
 left-end records k l = let q : recordCount records - k ≡ 0 = omega arith in rw q
 
 -- what holds of every record holds of record number k
-pub record-at : (P : TokenRecord → Type 0) (records : List ℕ) → All P (recordsOf records) → (k : ℕ) → k < recordCount records → P (recordAt records k)
+pub record-at : (P : TokenRecord → Type 0) (records : List ℕ) → All P (recordsOf records) → (k : ℕ) → k < recordCount records
+    → P (recordAt records k)
 record-at P records h k l = (subst (All P) (left-next records k l) (from k (omega arith))) .0
   where
     from : (j : ℕ) → j ≤ recordCount records → All P (left records j)
@@ -79,7 +79,8 @@ module _ {fault : TokenRecord → Option ℕ} {records : List ℕ} {k : ℕ} (w 
     fault-here = w .first ∙ rw (left-next records k more, ← e, add-one)
 
     pub passing-refused : {number : ℕ} → faults.By number ≡ faultFor (fault r)
-        → {c : Checked} → c ≡ checked.Refused (record { number = number; place = k }) → c ≡ checkedOf (firstFault fault (recordsOf records) 0)
+        → {c : Checked} → c ≡ checked.Refused (record { number = number; place = k }) → c
+            ≡ checkedOf (firstFault fault (recordsOf records) 0)
     unfolding refuseBy
     passing-refused {number} f a = a ∙ rw (fault-here, by-number (fault r) f)
 
@@ -92,7 +93,8 @@ module _ {fault : TokenRecord → Option ℕ} {records : List ℕ} {k : ℕ} (w 
   passing-end l = rw (w .first, left-end records k l)
 
 -- no fault in a list: none at its front and none behind
-pub faultless-front : (fault : TokenRecord → Option ℕ) (r : TokenRecord) (rs : List TokenRecord) (k : ℕ) → firstFault fault (r ∷ rs) k ≡ none
+pub faultless-front : (fault : TokenRecord → Option ℕ) (r : TokenRecord) (rs : List TokenRecord) (k : ℕ) → firstFault fault (r ∷ rs) k
+    ≡ none
     → (fault r ≡ none) × (firstFault fault rs (suc k) ≡ none)
 unfolding firstFault refuseBy
 faultless-front fault r rs k e = go (fault r) refl e
@@ -103,7 +105,8 @@ faultless-front fault r rs k e = go (fault r) refl e
     go none q z = (q, z)
 
 -- tokens without fault lie in the pool
-pub faultless-pool : (rules : List Rule) (pool : List ℕ) (rs : List TokenRecord) (k : ℕ) → firstFault (faultOf rules pool) rs k ≡ none → All (InPool pool) rs
+pub faultless-pool : (rules : List Rule) (pool : List ℕ) (rs : List TokenRecord) (k : ℕ) → firstFault (faultOf rules pool) rs k ≡ none
+    → All (InPool pool) rs
 faultless-pool rules pool [] k e = tt
 faultless-pool rules pool (r ∷ rs) k e =
     let f = faultless-front (faultOf rules pool) r rs k e in
@@ -124,7 +127,8 @@ pub joining-start : (records pool out : List ℕ) → Fitting records pool out �
 joining-start records pool out f =
     let q = left-start records in
     let r : length (join (tokensIn pool (left records 0))) ≤ length out = rw left-start at (f .room) in
-    record { within = omega arith; same = refl; each = rw left-start at (f .each); room = omega arith; written = rw left-start; kept = refl }
+    record { within = omega arith; same = refl; each = rw left-start at (f .each); room = omega arith; written = rw left-start; kept =
+        refl }
 
 module _ {records pool entry out : List ℕ} {at k : ℕ} (w : Joining records pool entry out at k) where
   module _ (more : k < recordCount records) {r : TokenRecord} (e : r ≡ recordAt records k) where

@@ -20,8 +20,7 @@ use Rattle.longest_match.specs.Contracts.{Chooses}
 use Rattle.longest_match.proofs.First.{nothing}
 use Rattle.record.specs.Records.{recordCount}
 use Rattle.record.specs.declared.TokenRecord.{TokenRecord}
-use Rattle.record.specs.Tokens.{recordAt, recordsOf, bytesIn, tokensIn, tokensOf}
-use Rattle.record.specs.Contracts.{InPool}
+use Rattle.record.specs.Tokens.{recordAt, recordsOf, bytesIn, tokensIn, tokensOf, InPool}
 use Rattle.token_list.specs.Faults.{aloneIn, faultOf}
 use Rattle.token_list.proofs.Alone.{alone-first}
 use Rattle.token_list.proofs.Faulting.{Fine, fine, bytes-length, fault-none, front-other, front-same}
@@ -58,14 +57,16 @@ module _ {records pool : List ℕ} {total k : ℕ} (w : Spanning records pool to
     spanning-outside l =
         record {
           fits = λ n q. absurd (beyond-bytes q);
-          beyond = λ _ h. let i = subst (InPool pool) (sym e) (record-at (InPool pool) records h k more) in absurd (omega (arith, i .in-pool));
+          beyond = λ _ h. let i = subst (InPool pool) (sym e) (record-at (InPool pool) records h k more) in absurd
+              (omega (arith, i .in-pool));
         }
 
     module _ (in-pool : r .place + r .len ≤ length pool) where
       longer : length (join (tokensOf records pool)) ≡ total + r .len + length (join (tokensIn pool (left records (k + 1))))
       unfolding tokensIn
       longer =
-          let l : length (bytesIn pool (recordAt records k)) ≡ r .len = ap (λ (q : TokenRecord). length (bytesIn pool q)) (sym e) ∙ bytes-length pool r in-pool in
+          let l : length (bytesIn pool (recordAt records k)) ≡ r .len = ap (λ (q : TokenRecord). length (bytesIn pool q)) (sym e)
+              ∙ bytes-length pool r in-pool in
           let s = rw (left-next records k more) at (w .sum) in
           omega (arith, length-append (bytesIn pool (recordAt records k)) (join (tokensIn pool (left records (k + 1)))))
 
@@ -153,7 +154,8 @@ module _ {rules : List Rule} {records pool text : List ℕ} {at k : ℕ} (w : Re
         known z = let l = c .known (omega arith) in omega arith
 
         alone : aloneIn rules (r .tag) (bytesIn pool r) ≡ true
-        alone = front-same ranks known (bytesIn pool r) (join (tokensIn pool (left records (k + 1)))) chosen-here some-byte (all ∙ sym long) same
+        alone = front-same ranks known (bytesIn pool r) (join (tokensIn pool (left records (k + 1)))) chosen-here some-byte
+            (all ∙ sym long) same
 
         no-fault : faultOf rules pool r ≡ none
         no-fault = fault-none rules pool r in-pool (ranks-some ranks known) alone
@@ -164,12 +166,14 @@ module _ {rules : List Rule} {records pool text : List ℕ} {at k : ℕ} (w : Re
             record {
               within = retracing-within;
               few = omega arith;
-              behind = sym (drop-drop (r .len) at text) ∙ rw split (drop-at (bytesIn pool r) (join (tokensIn pool (left records (k + 1)))) (r .len) long);
+              behind = sym (drop-drop (r .len) at text) ∙ rw split
+                  (drop-at (bytesIn pool r) (join (tokensIn pool (left records (k + 1)))) (r .len) long);
               each = each-here .1;
               faults = w .faults ∙ rw (front-is, no-fault, add-one);
               first = w .first ∙ rw (
                 front-is,
-                read-no-more rules (bytesIn pool r) (join (tokensIn pool (left records (k + 1)))) (r .tag) empty (alone-first rules (r .tag) (bytesIn pool r) alone) chosen-here (all ∙ sym long),
+                read-no-more rules (bytesIn pool r) (join (tokensIn pool (left records (k + 1)))) (r .tag) empty
+                    (alone-first rules (r .tag) (bytesIn pool r) alone) chosen-here (all ∙ sym long),
               )
                   (ap (firstExtended rules (tokensIn pool (left records (k + 1)))) (sym (add-one k)));
             }
@@ -187,8 +191,11 @@ module _ {rules : List Rule} {records pool text : List ℕ} {at k : ℕ} (w : Re
         reading-on : (len ≡ r .len → ⊥) → firstExtended rules (tokensOf records pool) 0 ≡ some (record { number = 21; place = k })
         unfolding firstExtended tokensIn refuse
         reading-on ne =
-            w .first ∙ rw (front-is,
-            read-on rules (bytesIn pool r) (join (tokensIn pool (left records (k + 1)))) (r .tag) empty matched chosen-here (λ q. ne (q ∙ long)))
+            w .first ∙ rw (
+              front-is,
+              read-on rules (bytesIn pool r) (join (tokensIn pool (left records (k + 1)))) (r .tag) empty matched chosen-here
+                  (λ q. ne (q ∙ long)),
+            )
 
         none-chosen : len ≡ 0 → len ≡ r .len → ⊥
         none-chosen z q = let l = matched-long rules (bytesIn pool r) (r .tag) empty matched in omega (arith, long)

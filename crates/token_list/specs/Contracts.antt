@@ -10,8 +10,7 @@ use Rattle.automaton.specs.Rule.{Rule}
 use Rattle.book.specs.Limits.{maxText}
 use Rattle.longest_match.specs.Lexer.{join}
 use Rattle.record.specs.Records.{recordCount}
-use Rattle.record.specs.Tokens.{recordsOf, tokensOf}
-use Rattle.record.specs.Contracts.{InPool}
+use Rattle.record.specs.Tokens.{recordsOf, tokensOf, InPool}
 use Rattle.token_list.specs.Faults.{faultOf}
 use Rattle.token_list.specs.Checks.{firstFault, firstExtended}
 use Rattle.token_list.specs.declared.Checked.{Checked}

@@ -3,8 +3,8 @@
 pub mod faults;
 pub mod readback;
 
-use answer::Refusal;
 use crate::faults::Fault;
+use answer::Refusal;
 ghost use mathlib.Core.Path.{_≡_};
 ghost use mathlib.Core.List.{List};
 ghost use Rattle.automaton.specs.Rule.{Rule};

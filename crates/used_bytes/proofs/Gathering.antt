@@ -61,7 +61,8 @@ module _ {es : List ℕ} {head h error : ℕ} {before marks : List Bool} (w : Ga
           record {
             transitions = us;
             chain = c;
-            same = λ b p. let y : any (leads error b) us || getD marks b false ≡ any (leads error b) (t ∷ us) || getD marks b false = rw (q, and-false-right) in y ∙ s b p;
+            same = λ b p. let y : any (leads error b) us || getD marks b false
+                ≡ any (leads error b) (t ∷ us) || getD marks b false = rw (q, and-false-right) in y ∙ s b p;
           }
 
   -- past a link whose range is marked
@@ -85,10 +86,12 @@ module _ {es : List ℕ} {head h error : ℕ} {before marks : List Bool} (w : Ga
             chain = c;
             same = λ b p.
                 let y : any (leads error b) us || getD next b false ≡ any (leads error b) (t ∷ us) || getD marks b false =
-                rw (m b p, l .low, l .high, q, and-right (covers t b)) (or-swap (covers t b) (any (leads error b) us) (getD marks b false)) in y ∙ s b p;
+                rw (m b p, l .low, l .high, q, and-right (covers t b))
+                    (or-swap (covers t b) (any (leads error b) us) (getD marks b false)) in y ∙ s b p;
           }
 
-  pub gathering-end : h ≡ 0 → (ts : List Transition) → Chain es head ts → (b : ℕ) → b < 256 → getD marks b false ≡ any (leads error b) ts || getD before b false
+  pub gathering-end : h ≡ 0 → (ts : List Transition) → Chain es head ts → (b : ℕ) → b < 256 → getD marks b false
+      ≡ any (leads error b) ts || getD before b false
   gathering-end z ts c b l = let r = w .left ts c in go (r .transitions) (r .chain) (r .same b l)
     where
       go : {x : Bool} (us : List Transition) → Chain es h us → any (leads error b) us || getD marks b false ≡ x → getD marks b false ≡ x
@@ -132,10 +135,12 @@ below-more-states g s (t ∷ ts) = go (eqb t.from s) refl (ltb t.from s) refl (b
     go true p d q ih =
         let e : t.from ≡ s = eqb-true t.from s p in
         let z : d ≡ false = sym q ∙ le-ltb t.from s (omega arith) in
-        rw (z, lt-ltb t.from (s + 1) (omega arith)) (or-front (g t) (any g (leaving s ts)) (any (λ (u : Transition). ltb u.from s && g u) ts) _ ih)
+        rw (z, lt-ltb t.from (s + 1) (omega arith)) (or-front (g t) (any g (leaving s ts))
+            (any (λ (u : Transition). ltb u.from s && g u) ts) _ ih)
     go false p true q ih =
         let l : t.from < s = ltb-true t.from s q in
-        rw (lt-ltb t.from (s + 1) (omega arith)) (or-mid (any g (leaving s ts)) (any (λ (u : Transition). ltb u.from s && g u) ts) (g t) _ ih)
+        rw (lt-ltb t.from (s + 1) (omega arith)) (or-mid (any g (leaving s ts)) (any (λ (u : Transition). ltb u.from s && g u) ts) (g t)
+            _ ih)
     go false p false q ih =
         let l : s ≤ t.from = ltb-false t.from s q in
         let n = eqb-false t.from s p in
@@ -143,10 +148,12 @@ below-more-states g s (t ∷ ts) = go (eqb t.from s) refl (ltb t.from s) refl (b
 
 module _ {hs ss es : List ℕ} {k : ℕ} {r : Rule} (table : Table hs ss es k r) where
   pub gathered-next : {s : ℕ} {marks next : List Bool} → Gathered r s marks → (error : ℕ) → error ≡ r.error
-      → ((b : ℕ) → b < 256 → getD next b false ≡ any (leads error b) (leaving s r.transitions) || getD marks b false) → Gathered r (s + 1) next
+      → ((b : ℕ) → b < 256 → getD next b false ≡ any (leads error b) (leaving s r.transitions) || getD marks b false)
+          → Gathered r (s + 1) next
   gathered-next {s} w error e m = record { same = λ b l. m b l ∙ rw (e, w .same b l) (below-more-states (leads r.error b) s r.transitions) }
 
-  all-states : (n : ℕ) (ts : List Transition) (g : Transition → Bool) → All (Ranged n) ts → any (λ (t : Transition). ltb t.from n && g t) ts ≡ any g ts
+  all-states : (n : ℕ) (ts : List Transition) (g : Transition → Bool) → All (Ranged n) ts
+      → any (λ (t : Transition). ltb t.from n && g t) ts ≡ any g ts
   all-states n [] g h = refl
   all-states n (t ∷ ts) g (p, h) = rw (lt-ltb t.from n (p .from-below), all-states n ts g h)
 
@@ -164,7 +171,8 @@ pub kinds-start : (rules : List Rule) (kind : ℕ) (marks : List Bool) → ((b :
 unfolding usedByKind
 kinds-start rules kind marks h = record { same = λ b l. h b }
 
-any-more : (f : Rule → Bool) (rules : List Rule) (k : ℕ) → k < length rules → any f (take (suc k) rules) ≡ f (ruleAt rules k) || any f (take k rules)
+any-more : (f : Rule → Bool) (rules : List Rule) (k : ℕ) → k < length rules → any f (take (suc k) rules)
+    ≡ f (ruleAt rules k) || any f (take k rules)
 any-more f [] k l = absurd (omega arith)
 any-more f (r ∷ rs) zero l = refl
 any-more f (r ∷ rs) (suc k) l = rw (any-more f rs k (omega arith)) (or-turn (f r) (f (ruleAt rs k)) (any f (take k rs)))
@@ -176,13 +184,15 @@ any-more f (r ∷ rs) (suc k) l = rw (any-more f rs k (omega arith)) (or-turn (f
     or-turn false false z = refl
 
 module _ {rules : List Rule} {kind k : ℕ} {marks : List Bool} (w : Kinds rules kind k marks) (l : k < length rules) where
-  pub kinds-join : {next : List Bool} (joined : List Bool) → (ruleAt rules k) .kind ≡ kind → ((b : ℕ) → b < 256 → getD joined b false ≡ used (ruleAt rules k) b)
+  pub kinds-join : {next : List Bool} (joined : List Bool) → (ruleAt rules k) .kind ≡ kind
+      → ((b : ℕ) → b < 256 → getD joined b false ≡ used (ruleAt rules k) b)
       → ((b : ℕ) → b < 256 → getD next b false ≡ getD joined b false || getD marks b false) → Kinds rules kind (k + 1) next
   unfolding usedByKind
   kinds-join joined e u m =
       record {
         same = λ b p.
-            m b p ∙ rw (add-one, any-more (λ (r : Rule). eqb r.kind kind && used r b) rules k l, eq-eqb ((ruleAt rules k) .kind) kind e, u b p, w .same b p);
+            m b p ∙ rw (add-one, any-more (λ (r : Rule). eqb r.kind kind && used r b) rules k l, eq-eqb ((ruleAt rules k) .kind) kind e,
+                u b p, w .same b p);
       }
 
   pub kinds-pass : ((ruleAt rules k) .kind ≡ kind → ⊥) → Kinds rules kind (k + 1) marks
@@ -190,10 +200,12 @@ module _ {rules : List Rule} {kind k : ℕ} {marks : List Bool} (w : Kinds rules
   kinds-pass ne =
       record {
         same = λ b p.
-            w .same b p ∙ rw (add-one, any-more (λ (r : Rule). eqb r.kind kind && used r b) rules k l, ne-eqb ((ruleAt rules k) .kind) kind ne);
+            w .same b p ∙ rw (add-one, any-more (λ (r : Rule). eqb r.kind kind && used r b) rules k l, ne-eqb ((ruleAt rules k) .kind)
+                kind ne);
       }
 
-pub kinds-end : {rules : List Rule} {kind k : ℕ} {marks : List Bool} → Kinds rules kind k marks → k ≡ length rules → (b : ℕ) → b < 256 → getD marks b false ≡ usedByKind kind rules b
+pub kinds-end : {rules : List Rule} {kind k : ℕ} {marks : List Bool} → Kinds rules kind k marks → k ≡ length rules → (b : ℕ) → b < 256
+    → getD marks b false ≡ usedByKind kind rules b
 kinds-end {rules} {kind} w e b l = w .same b l ∙ ap (λ (rs : List Rule). usedByKind kind rs b) (rw e (take-length rules))
 
 -- ---- the lowest shared byte
@@ -204,7 +216,8 @@ lowest-same f g b zero h = refl
 lowest-same f g b (suc n) h = rw (h b (omega arith) (omega arith), lowest-same f g (suc b) n (λ i l m. h i (omega arith) (omega arith)))
 
 pub shared-lowest : (rules : List Rule) (plain separators : ℕ → Bool) → ((b : ℕ) → b < 256 → plain b ≡ usedByKind plainKind rules b)
-    → ((b : ℕ) → b < 256 → separators b ≡ usedByKind separatorKind rules b) → lowestFrom (λ b. plain b && separators b) 0 256 ≡ sharedByte rules
+    → ((b : ℕ) → b < 256 → separators b ≡ usedByKind separatorKind rules b) → lowestFrom (λ b. plain b && separators b) 0 256
+        ≡ sharedByte rules
 unfolding sharedByte shared
 shared-lowest rules plain separators p q =
     lowest-same (λ b. plain b && separators b) (λ b. usedByKind plainKind rules b && usedByKind separatorKind rules b) 0 256

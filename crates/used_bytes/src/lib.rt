@@ -1,9 +1,9 @@
 // The used bytes of the rules that the tables hold, and refusal 23.
 pub mod byteset;
 
-use automaton::STATES;
 use crate::byteset::ByteSet;
 use crate::byteset::Lowest;
+use automaton::STATES;
 ghost use mathlib.Core.Path.{_≡_};
 ghost use mathlib.Core.Bool.{_||_};
 ghost use mathlib.Core.List.{List};
@@ -18,7 +18,8 @@ ghost use Rattle.used_bytes.specs.Bytes.{leads, usedByKind, sharedByte};
 // The set with the ranges of the chain's transitions to states other than the error state.
 fn with_chain(edges: &[u64], head: usize, error: u64, set: ByteSet) -> ByteSet
     requires { ⌜ Chained (now edges) head ⌝ }
-    ensures { λ r. ⌜ ((ts : List Transition) → Chain (now (edges .entry)) head ts → (b : ℕ) → b < 256 → mark r b ≡ any (leads error b) ts || mark set b) ⌝ }
+    ensures { λ r. ⌜ ((ts : List Transition) → Chain (now (edges .entry)) head ts
+        → (b : ℕ) → b < 256 → mark r b ≡ any (leads error b) ts || mark set b) ⌝ }
 {
     let mut marked = set;
     let mut h = head;
@@ -35,7 +36,8 @@ fn with_chain(edges: &[u64], head: usize, error: u64, set: ByteSet) -> ByteSet
 // The used bytes of rule number `rule`.
 pub fn used_by(headers: &[u64], states: &[u16], edges: &[u64], rule: usize) -> ByteSet
     requires { ⌜ Tabled (now headers) (now states) (now edges) rule ⌝ }
-    ensures { λ r. ⌜ ((m : Rule) → Table (now (headers .entry)) (now (states .entry)) (now (edges .entry)) rule m → (b : ℕ) → b < 256 → mark r b ≡ used m b) ⌝ }
+    ensures { λ r. ⌜ ((m : Rule) → Table (now (headers .entry)) (now (states .entry)) (now (edges .entry)) rule m
+        → (b : ℕ) → b < 256 → mark r b ≡ used m b) ⌝ }
 {
     let error = headers[rule] % 65536;
     let base = rule * STATES;
@@ -58,7 +60,8 @@ pub fn used_by_kind(
     kind: u64,
 ) -> ByteSet
     requires { ⌜ Held (now headers) (now states) (now edges) rules ⌝ }
-    ensures { λ r. ⌜ ((rs : List Rule) → Holds (now (headers .entry)) (now (states .entry)) (now (edges .entry)) rules rs → (b : ℕ) → b < 256 → mark r b ≡ usedByKind kind rs b) ⌝ }
+    ensures { λ r. ⌜ ((rs : List Rule) → Holds (now (headers .entry)) (now (states .entry)) (now (edges .entry)) rules rs
+        → (b : ℕ) → b < 256 → mark r b ≡ usedByKind kind rs b) ⌝ }
 {
     let mut set = ByteSet::empty();
     let mut next = 0;
@@ -76,7 +79,8 @@ pub fn used_by_kind(
 // The lowest byte that both a plain and a separator rule use.
 pub fn shared_byte(headers: &[u64], states: &[u16], edges: &[u64], rules: usize) -> Lowest
     requires { ⌜ Held (now headers) (now states) (now edges) rules ⌝ }
-    ensures { λ r. ⌜ ((rs : List Rule) → Holds (now (headers .entry)) (now (states .entry)) (now (edges .entry)) rules rs → r ≡ lowestOf (sharedByte rs)) ⌝ }
+    ensures { λ r. ⌜ ((rs : List Rule) → Holds (now (headers .entry)) (now (states .entry)) (now (edges .entry)) rules rs
+        → r ≡ lowestOf (sharedByte rs)) ⌝ }
 {
     let plain = used_by_kind(headers, states, edges, rules, 0);
     let separators = used_by_kind(headers, states, edges, rules, 1);

@@ -23,7 +23,8 @@ same-length c = search needs
 returns : tie.Need-returns
 returns c =
     let a = c .before .before .before .before .before .before .before .before .before .args in
-    rw (c .before .before .put-two2 .ensures, c .before .before .before .before .before .before .put-two .ensures) (four-stored (now (a .bytes)) (a .at) (a .n))
+    rw (c .before .before .put-two2 .ensures, c .before .before .before .before .before .before .put-two .ensures)
+        (four-stored (now (a .bytes)) (a .at) (a .n))
 
 pub put-four-spec : {M : Type 1} → statement M
 put-four-spec =

@@ -60,7 +60,8 @@ add-t25 c = search needs
 
 shared-slice-read-t27 : tie.Need-shared-slice-read-t27
 unfolding operandsOf
-shared-slice-read-t27 c = let h = ap operandsOf (c .before .before .before .match .keys5) in omega (arith, c .before .before .before .before .before .pre)
+shared-slice-read-t27 c = let h = ap operandsOf (c .before .before .before .match .keys5) in omega
+    (arith, c .before .before .before .before .before .pre)
 
 add-t28 : tie.Need-add-t28
 add-t28 c = search needs
@@ -81,14 +82,16 @@ add-t34 c = search needs
 
 shared-slice-read-t36 : tie.Need-shared-slice-read-t36
 unfolding operandsOf
-shared-slice-read-t36 c = let h = ap operandsOf (c .before .before .before .match .keys6) in omega (arith, c .before .before .before .before .before .pre)
+shared-slice-read-t36 c = let h = ap operandsOf (c .before .before .before .match .keys6) in omega
+    (arith, c .before .before .before .before .before .pre)
 
 add-t37 : tie.Need-add-t37
 add-t37 c = search needs
 
 shared-slice-read-t39 : tie.Need-shared-slice-read-t39
 unfolding operandsOf
-shared-slice-read-t39 c = let h = ap operandsOf (c .before .before .before .before .match .keys6) in omega (arith, c .before .before .before .before .before .before .pre)
+shared-slice-read-t39 c = let h = ap operandsOf (c .before .before .before .before .match .keys6) in omega
+    (arith, c .before .before .before .before .before .before .pre)
 
 returns : tie.Need-returns
 unfolding decode
@@ -120,7 +123,9 @@ returns-7 c = rw (c .match .keys7)
 
 returns-8 : tie.Need-returns-8
 unfolding decode
-returns-8 c = rw (ne-eqb _ _ (c .match .rest .0 .0 .0 .0 .0 .0 .1), ne-eqb _ _ (c .match .rest .0 .0 .0 .0 .0 .1), ne-eqb _ _ (c .match .rest .0 .0 .0 .0 .1), ne-eqb _ _ (c .match .rest .0 .0 .0 .1), ne-eqb _ _ (c .match .rest .0 .0 .1), ne-eqb _ _ (c .match .rest .0 .1), ne-eqb _ _ (c .match .rest .1))
+returns-8 c = rw (ne-eqb _ _ (c .match .rest .0 .0 .0 .0 .0 .0 .1), ne-eqb _ _ (c .match .rest .0 .0 .0 .0 .0 .1), ne-eqb _ _
+    (c .match .rest .0 .0 .0 .0 .1), ne-eqb _ _ (c .match .rest .0 .0 .0 .1), ne-eqb _ _ (c .match .rest .0 .0 .1), ne-eqb _ _
+    (c .match .rest .0 .1), ne-eqb _ _ (c .match .rest .1))
 
 pub command-of-spec : {M : Type 1} → statement M
 command-of-spec =

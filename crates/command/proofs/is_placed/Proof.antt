@@ -18,11 +18,13 @@ returns-3 c = rw (ne-eqb _ _ (c .before .before .if1 .left), ne-eqb _ _ (c .befo
 
 returns-4 : tie.Need-returns-4
 unfolding placed
-returns-4 c = rw (ne-eqb _ _ (c .before .before .before .if1 .left), ne-eqb _ _ (c .before .before .if2 .left), lt-leb _ _ (c .if4 .taken), and-false-right)
+returns-4 c = rw (ne-eqb _ _ (c .before .before .before .if1 .left), ne-eqb _ _ (c .before .before .if2 .left), lt-leb _ _
+    (c .if4 .taken), and-false-right)
 
 returns-5 : tie.Need-returns-5
 unfolding placed
-returns-5 c = rw (ne-eqb _ _ (c .before .before .before .if1 .left), ne-eqb _ _ (c .before .before .if2 .left), le-leb _ _ (c .before .if3 .left), le-leb _ _ (c .if4 .left))
+returns-5 c = rw (ne-eqb _ _ (c .before .before .before .if1 .left), ne-eqb _ _ (c .before .before .if2 .left), le-leb _ _
+    (c .before .if3 .left), le-leb _ _ (c .if4 .left))
 
 pub is-placed-spec : {M : Type 1} → statement M
 is-placed-spec = tie.close (tie.spec returns returns-2 returns-3 returns-4 returns-5)

@@ -43,10 +43,14 @@ list-requires : tie.Need-list-requires
 list-requires c κs = search needs
 
 slice-reshare-prefix-write-all : tie.Need-slice-reshare-prefix-write-all
-slice-reshare-prefix-write-all c = front _ _ _ _ (c .before .before .before .before .list .ensures .0) (c .before .before .before .before .list .ensures .1 .1)
+slice-reshare-prefix-write-all c =
+    let at-list = c .before .before .before .before in
+    front _ _ _ _ (at-list .list .ensures .0) (at-list .list .ensures .1 .1)
 
 slice-aggregate-write-all : tie.Need-slice-aggregate-write-all
-slice-aggregate-write-all c = sym (length-take-le _ _ (front _ _ _ _ (c .before .before .before .before .before .list .ensures .0) (c .before .before .before .before .before .list .ensures .1 .1)))
+slice-aggregate-write-all c =
+    let at-list = c .before .before .before .before .before in
+    sym (length-take-le _ _ (front _ _ _ _ (at-list .list .ensures .0) (at-list .list .ensures .1 .1)))
 
 write-all-requires : tie.Need-write-all-requires
 write-all-requires c κs = search needs

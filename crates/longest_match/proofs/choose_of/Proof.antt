@@ -13,7 +13,8 @@ use Rattle.longest_match.proofs.choose_of.Statement.{statement}
 use Rattle.longest_match.proofs.choose_of.Tie as tie
 
 abbrev Inv-loop : tie.InvT-loop
-Inv-loop headers states edges rules text rule₀ len₀ next₀ rule len next = (next ≤ rules) × ((rs : List Rule) → Holds headers states edges rules rs → Best rs text next rule len)
+Inv-loop headers states edges rules text rule₀ len₀ next₀ rule len next = (next ≤ rules)
+    × ((rs : List Rule) → Holds headers states edges rules rs → Best rs text next rule len)
 
 abbrev μ-loop : tie.MeasureT-loop
 μ-loop headers states edges rules text rule₀ len₀ next₀ rule len next = rules - next
@@ -25,19 +26,28 @@ add-next : tie.Need-add-next Inv-loop μ-loop
 add-next c = omega arith
 
 longest-prefix-requires : tie.Need-longest-prefix-requires Inv-loop μ-loop
-longest-prefix-requires c κs = let p = c .before .before .before .before .before .before .pre in record { rule = ruleAt (p .rules) (c .before .loop .next); table = table-at (p .holds) (c .loop-test .taken) }
+longest-prefix-requires c κs = let p = c .before .before .before .before .before .before .pre in record
+    { rule = ruleAt (p .rules) (c .before .loop .next); table = table-at (p .holds) (c .loop-test .taken) }
 
 loop-less : tie.Need-loop-less Inv-loop μ-loop
 loop-less c = omega arith
 
 loop-again : tie.Need-loop-again Inv-loop μ-loop
-loop-again c = (omega arith, λ rs h. best-take (c .before .before .before .loop .inv .1 rs h) (c .before .longest-prefix .ensures (ruleAt rs (c .before .before .before .loop .next)) (table-at h (c .before .before .loop-test .taken))) (c .if1 .taken))
+loop-again c =
+    let head = c .before .before .before in
+    (omega arith, λ rs h. best-take (head .loop .inv .1 rs h)
+        (c .before .longest-prefix .ensures (ruleAt rs (head .loop .next)) (table-at h (c .before .before .loop-test .taken)))
+        (c .if1 .taken))
 
 loop-less-2 : tie.Need-loop-less-2 Inv-loop μ-loop
 loop-less-2 c = omega arith
 
 loop-again-2 : tie.Need-loop-again-2 Inv-loop μ-loop
-loop-again-2 c = (omega arith, λ rs h. best-keep (c .before .before .before .loop .inv .1 rs h) (c .before .longest-prefix .ensures (ruleAt rs (c .before .before .before .loop .next)) (table-at h (c .before .before .loop-test .taken))) (c .if1 .left))
+loop-again-2 c =
+    let head = c .before .before .before in
+    (omega arith, λ rs h. best-keep (head .loop .inv .1 rs h)
+        (c .before .longest-prefix .ensures (ruleAt rs (head .loop .next)) (table-at h (c .before .before .loop-test .taken)))
+        (c .if1 .left))
 
 returns : tie.Need-returns Inv-loop μ-loop
 returns c = λ rs h.

@@ -16,7 +16,8 @@ abbrev μ-loop : tie.MeasureT-loop
 μ-loop from place len to₀ at i₀ to i = len - i
 
 kept : (c : tie.At-loop Inv-loop μ-loop) → length (c .loop .to) ≡ length (now (c .before .args .to))
-kept c = copying-length (now (c .before .args .from)) _ _ (c .before .args .place) (c .before .args .at) (c .before .args .len) (c .loop .i) (c .before .pre .0) (c .before .pre .1) (c .loop .inv .0) (c .loop .inv .1)
+kept c = copying-length (now (c .before .args .from)) _ _ (c .before .args .place) (c .before .args .at) (c .before .args .len)
+    (c .loop .i) (c .before .pre .0) (c .before .pre .1) (c .loop .inv .0) (c .loop .inv .1)
 
 loop-holds : tie.Need-loop-holds Inv-loop μ-loop
 loop-holds c = (omega arith, copying-start (now (c .args .from)) _ (c .args .place) (c .args .at))
@@ -40,13 +41,19 @@ loop-less : tie.Need-loop-less Inv-loop μ-loop
 loop-less c = omega (arith, c .before .loop-test .taken)
 
 loop-again : tie.Need-loop-again Inv-loop μ-loop
-loop-again c = (omega (arith, c .before .loop-test .taken), copying-next (now (c .before .before .before .args .from)) (now (c .before .before .before .args .to)) _ (c .before .before .before .args .place) (c .before .before .before .args .at) (c .before .before .before .args .len) (c .before .before .loop .i) (c .before .before .before .pre .0) (c .before .before .before .pre .1) (c .before .loop-test .taken) (c .before .before .loop .inv .1))
+loop-again c =
+    let start = c .before .before .before in
+    (omega (arith, c .before .loop-test .taken), copying-next (now (start .args .from)) (now (start .args .to)) _ (start .args .place)
+        (start .args .at) (start .args .len) (c .before .before .loop .i) (start .pre .0) (start .pre .1) (c .before .loop-test .taken)
+        (c .before .before .loop .inv .1))
 
 same-length : tie.Need-same-length Inv-loop μ-loop
 same-length c = kept (c .before)
 
 returns : tie.Need-returns Inv-loop μ-loop
-returns c = let e : c .before .loop .i ≡ c .before .before .args .len = omega (arith, c .before .loop .inv .0, c .loop-test .left) in c .before .loop .inv .1 ∙ ap (paste (now (c .before .before .args .to)) (c .before .before .args .at) (drop (c .before .before .args .place) (now (c .before .before .args .from)))) e
+returns c = let e : c .before .loop .i ≡ c .before .before .args .len = omega (arith, c .before .loop .inv .0, c .loop-test .left) in
+    c .before .loop .inv .1 ∙ ap (paste (now (c .before .before .args .to)) (c .before .before .args .at)
+    (drop (c .before .before .args .place) (now (c .before .before .args .from)))) e
 
 pub copy-spec : {M : Type 1} → statement M
 copy-spec =

@@ -15,7 +15,8 @@ enum-known-start : tie.Need-enum-known-start
 enum-known-start c = search needs
 
 put-token-requires-2 : tie.Need-put-token-requires-2
-put-token-requires-2 c κs = (c .before .before .before .before .before .before .before .before .before .before .pre .0, c .before .before .before .before .before .before .put-token .ensures .at _ (c .before .before .start .given .1) .within)
+put-token-requires-2 c κs = (c .before .before .before .before .before .before .before .before .before .before .pre .0,
+    c .before .before .before .before .before .before .put-token .ensures .at _ (c .before .before .start .given .1) .within)
 
 enum-told : tie.Need-enum-told
 enum-told c = search needs
@@ -24,13 +25,22 @@ same-length : tie.Need-same-length
 same-length c = search needs
 
 returns : tie.Need-returns
-returns c = both-put (bytesIn (now (c .before .before .before .before .before .before .before .before .before .before .before .before .before .args .pool)) (c .before .before .before .before .before .before .before .before .before .before .before .before .before .args .token)) (bytesIn (now (c .before .before .before .before .before .before .before .before .before .before .before .before .before .args .pool)) (c .before .before .before .before .before .before .before .before .before .before .before .before .before .args .separator) ++ drop (c .before .before .before .before .before .before .before .before .before .before .before .before .before .args .at) (now (c .before .before .before .before .before .before .before .before .before .before .before .before .before .args .scratch))) (c .before .before .before .before .before .before .before .before .before .put-token .ensures .at _ (c .before .before .before .before .before .start .given .1)) (c .before .before .put-token2 .ensures)
+returns c =
+    let start′ = c .before .before .before .before .before .before .before .before .before .before .before .before .before in
+    both-put (bytesIn (now (start′ .args .pool)) (start′ .args .token))
+        (bytesIn (now (start′ .args .pool)) (start′ .args .separator) ++ drop (start′ .args .at) (now (start′ .args .scratch)))
+        (c .before .before .before .before .before .before .before .before .before .put-token .ensures .at _
+        (c .before .before .before .before .before .start .given .1)) (c .before .before .put-token2 .ensures)
 
 same-length-2 : tie.Need-same-length-2
 same-length-2 c = search needs
 
 returns-2 : tie.Need-returns-2
-returns-2 c = both-full (bytesIn (now (c .before .before .before .before .before .before .before .before .args .pool)) (c .before .before .before .before .before .before .before .before .args .token)) (bytesIn (now (c .before .before .before .before .before .before .before .before .args .pool)) (c .before .before .before .before .before .before .before .before .args .separator)) (drop (c .before .before .before .before .before .before .before .before .args .at) (now (c .before .before .before .before .before .before .before .before .args .scratch))) (c .enum-told .given .1) (c .before .before .before .before .put-token .ensures)
+returns-2 c =
+    let start = c .before .before .before .before .before .before .before .before in
+    both-full (bytesIn (now (start .args .pool)) (start .args .token)) (bytesIn (now (start .args .pool)) (start .args .separator))
+        (drop (start .args .at) (now (start .args .scratch))) (c .enum-told .given .1)
+        (c .before .before .before .before .put-token .ensures)
 
 pub put-both-spec : {M : Type 1} → statement M
 put-both-spec =

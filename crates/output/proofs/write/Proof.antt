@@ -18,7 +18,8 @@ same-length : tie.Need-same-length
 same-length c = search needs
 
 returns-2 : tie.Need-returns-2
-returns-2 c = record { lacks = λ l. absurd (omega (arith, l, c .before .before .before .before .if1 .left)); prints = λ _. (refl, c .before .before .copy .ensures) }
+returns-2 c = record { lacks = λ l. absurd (omega (arith, l, c .before .before .before .before .if1 .left)); prints = λ _.
+    (refl, c .before .before .copy .ensures) }
 
 pub write-spec : {M : Type 1} → statement M
 write-spec = tie.close (tie.spec refused-requires returns copy-requires same-length returns-2)

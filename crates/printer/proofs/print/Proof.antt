@@ -15,7 +15,8 @@ enum-known-rules : tie.Need-enum-known-rules
 enum-known-rules c = search needs
 
 print-arrays-requires : tie.Need-print-arrays-requires
-print-arrays-requires c κs = (loaded-held (c .before .before .before .before .before .before .before .before .load-arrays .ensures) (c .before .before .before .before .before .before .rules .given .1), length-replicate {A = ℕ} 65536 0)
+print-arrays-requires c κs = (loaded-held (c .before .before .before .before .before .before .before .before .load-arrays .ensures)
+    (c .before .before .before .before .before .before .rules .given .1), length-replicate {A = ℕ} 65536 0)
 
 enum-known-refusal : tie.Need-enum-known-refusal
 enum-known-refusal c = search needs
@@ -25,7 +26,10 @@ same-length c = search needs
 
 returns : tie.Need-returns
 returns c =
-    let a = answered-book (c .before .before .before .before .before .before .before .before .before .before .before .load-arrays .ensures) (c .before .before .before .before .before .before .before .before .before .rules .given .1) _ _ _ _ _ (c .before .before .print-arrays .ensures) in
+    let a = answered-book
+        (c .before .before .before .before .before .before .before .before .before .before .before .load-arrays .ensures)
+        (c .before .before .before .before .before .before .before .before .before .rules .given .1) _ _ _ _ _
+        (c .before .before .print-arrays .ensures) in
     (a .answer, a .out)
 
 returns-2 : tie.Need-returns-2

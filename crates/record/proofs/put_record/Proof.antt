@@ -31,7 +31,8 @@ returns : tie.Need-returns
 returns c =
     let first = c .before .before .before .before .before .before .before .before .before .before in
     let a = first .before .before .before .args in
-    rw (c .before .before .put-four2 .ensures, c .before .before .before .before .before .before .put-four .ensures, first .put-two .ensures)
+    rw (c .before .before .put-four2 .ensures, c .before .before .before .before .before .before .put-four .ensures,
+        first .put-two .ensures)
     (record-stored (now (a .records)) (10 * a .k) (a .tag) (a .place) (a .len) (first .before .before .before .pre))
 
 pub put-record-spec : {M : Type 1} → statement M

@@ -14,7 +14,12 @@ enum-known-at : tie.Need-enum-known-at
 enum-known-at c = search needs
 
 write-from-requires : tie.Need-write-from-requires
-write-from-requires c κs = (c .before .before .before .before .before .before .before .put-list .kept .1 .1 .1 .1 .1 .1 .1 .1 .0 ∙ c .before .before .before .before .before .before .before .before .before .before .before .before .before .before .before .before .pre .1, c .before .before .before .before .before .before .before .put-list .ensures (c .before .before .before .before .before .before .before .before .before .before .before .before .before .before .before .before .pre .0 .held .rules) (c .before .before .before .before .before .before .before .before .before .before .before .before .before .before .before .before .pre .0 .held .holds) .at _ (c .before .before .before .at .given .1) .within)
+write-from-requires c κs =
+    let at-put-list = c .before .before .before .before .before .before .before in
+    let start = at-put-list .before .before .before .before .before .before .before .before .before in
+    (at-put-list .put-list .kept .1 .1 .1 .1 .1 .1 .1 .1 .0
+        ∙ start .pre .1, at-put-list .put-list .ensures (start .pre .0 .held .rules) (start .pre .0 .held .holds) .at _
+        (c .before .before .before .at .given .1) .within)
 
 enum-told : tie.Need-enum-told
 enum-told c = search needs
@@ -29,13 +34,24 @@ same-length-2 : tie.Need-same-length-2
 same-length-2 c = search needs
 
 returns : tie.Need-returns
-returns c = λ rs h. answered-at _ (c .before .before .before .before .before .before .before .before .before .before .put-list .kept .1 .1 .1 .1 .1 .1 .1 .1 .0 ∙ c .before .before .before .before .before .before .before .before .before .before .before .before .before .before .before .before .before .before .before .pre .1) (spelled rs (c .before .before .before .before .before .before .before .before .before .before .before .before .before .before .before .before .before .before .before .args .separator) (c .before .before .before .before .before .before .before .before .before .before .before .before .before .before .before .before .before .before .before .args .mode) (now (c .before .before .before .before .before .before .before .before .before .before .before .before .before .before .before .before .before .before .before .args .records)) (now (c .before .before .before .before .before .before .before .before .before .before .before .before .before .before .before .before .before .before .before .args .pool))) (now (c .before .before .before .before .before .before .before .before .before .before .before .before .before .before .before .before .before .before .before .args .out)) (c .before .before .before .before .before .before .before .before .before .before .put-list .ensures rs h) (c .before .before .before .before .before .before .at .given .1) (c .before .before .write-from .ensures)
+returns c =
+    let at-put-list = c .before .before .before .before .before .before .before .before .before .before in
+    let start = at-put-list .before .before .before .before .before .before .before .before .before in
+    λ rs h. answered-at _ (at-put-list .put-list .kept .1 .1 .1 .1 .1 .1 .1 .1 .0 ∙ start .pre .1)
+        (spelled rs (start .args .separator) (start .args .mode) (now (start .args .records)) (now (start .args .pool)))
+        (now (start .args .out)) (at-put-list .put-list .ensures rs h) (c .before .before .before .before .before .before .at .given .1)
+        (c .before .before .write-from .ensures)
 
 same-length-3 : tie.Need-same-length-3
 same-length-3 c = search needs
 
 returns-2 : tie.Need-returns-2
-returns-2 c = λ rs h. answered-full _ (c .before .before .before .before .before .put-list .kept .1 .1 .1 .1 .1 .1 .1 .1 .0 ∙ c .before .before .before .before .before .before .before .before .before .before .before .before .before .before .pre .1) (spelled rs (c .before .before .before .before .before .before .before .before .before .before .before .before .before .before .args .separator) (c .before .before .before .before .before .before .before .before .before .before .before .before .before .before .args .mode) (now (c .before .before .before .before .before .before .before .before .before .before .before .before .before .before .args .records)) (now (c .before .before .before .before .before .before .before .before .before .before .before .before .before .before .args .pool))) (now (c .before .before .before .before .before .before .before .before .before .before .before .before .before .before .args .out)) (c .before .before .before .before .before .put-list .ensures rs h) (c .before .enum-told .given .1) (c .refused .ensures)
+returns-2 c =
+    let at-put-list = c .before .before .before .before .before in
+    let start = at-put-list .before .before .before .before .before .before .before .before .before in
+    λ rs h. answered-full _ (at-put-list .put-list .kept .1 .1 .1 .1 .1 .1 .1 .1 .0 ∙ start .pre .1)
+        (spelled rs (start .args .separator) (start .args .mode) (now (start .args .records)) (now (start .args .pool)))
+        (now (start .args .out)) (at-put-list .put-list .ensures rs h) (c .before .enum-told .given .1) (c .refused .ensures)
 
 pub print-passed-spec : {M : Type 1} → statement M
 print-passed-spec =

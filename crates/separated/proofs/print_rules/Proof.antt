@@ -13,7 +13,11 @@ enum-told : tie.Need-enum-told
 enum-told c = search needs
 
 print-passed-requires : tie.Need-print-passed-requires
-print-passed-requires c κs = (record { held = c .before .before .before .before .before .before .before .before .before .before .before .before .pre .0; unrefused = λ rs h. unrefused rs (c .before .before .before .before .before .before .before .before .before .before .before .before .args .separator) (c .before .before .before .before .before .before .before .before .before .before .before .before .args .mode) (now (c .before .before .before .before .before .before .before .before .before .before .before .before .args .records)) (now (c .before .before .before .before .before .before .before .before .before .before .before .before .args .pool)) (sym (c .before .before .enum-told .given .1) ∙ c .before .before .before .before .check-call .ensures rs h) }, c .before .before .before .before .before .before .before .before .before .before .before .before .pre .1)
+print-passed-requires c κs =
+    let start = c .before .before .before .before .before .before .before .before .before .before .before .before in
+    (record { held = start .pre .0; unrefused = λ rs h. unrefused rs (start .args .separator) (start .args .mode)
+        (now (start .args .records)) (now (start .args .pool))
+        (sym (c .before .before .enum-told .given .1) ∙ c .before .before .before .before .check-call .ensures rs h) }, start .pre .1)
 
 enum-known-refusal : tie.Need-enum-known-refusal
 enum-known-refusal c = search needs
@@ -25,10 +29,19 @@ same-length-2 : tie.Need-same-length-2
 same-length-2 c = search needs
 
 returns : tie.Need-returns
-returns c = λ rs h. answered-passed rs (c .before .before .before .before .before .before .before .before .before .before .before .before .before .before .before .before .before .args .separator) (c .before .before .before .before .before .before .before .before .before .before .before .before .before .before .before .before .before .args .mode) (now (c .before .before .before .before .before .before .before .before .before .before .before .before .before .before .before .before .before .args .records)) (now (c .before .before .before .before .before .before .before .before .before .before .before .before .before .before .before .before .before .args .pool)) _ (sym (c .before .before .before .before .before .before .before .enum-told .given .1) ∙ c .before .before .before .before .before .before .before .before .before .check-call .ensures rs h) (c .before .before .before .before .print-passed .ensures rs h)
+returns c =
+    let start =
+        c .before .before .before .before .before .before .before .before .before .before .before .before .before .before .before .before .before in
+    λ rs h. answered-passed rs (start .args .separator) (start .args .mode) (now (start .args .records)) (now (start .args .pool)) _
+        (sym (c .before .before .before .before .before .before .before .enum-told .given .1)
+        ∙ c .before .before .before .before .before .before .before .before .before .check-call .ensures rs h)
+        (c .before .before .before .before .print-passed .ensures rs h)
 
 returns-2 : tie.Need-returns-2
-returns-2 c = λ rs h. answered-fault rs (c .before .before .before .before .before .before .before .before .before .before .before .args .separator) (c .before .before .before .before .before .before .before .before .before .before .before .args .mode) (now (c .before .before .before .before .before .before .before .before .before .before .before .args .records)) (now (c .before .before .before .before .before .before .before .before .before .before .before .args .pool)) _ (sym (c .before .refusal .given .1) ∙ c .before .before .before .check-call .ensures rs h)
+returns-2 c =
+    let start = c .before .before .before .before .before .before .before .before .before .before .before in
+    λ rs h. answered-fault rs (start .args .separator) (start .args .mode) (now (start .args .records)) (now (start .args .pool)) _
+        (sym (c .before .refusal .given .1) ∙ c .before .before .before .check-call .ensures rs h)
 
 pub print-rules-spec : {M : Type 1} → statement M
 print-rules-spec =

@@ -19,7 +19,9 @@ same-length c = search needs
 
 returns : tie.Need-returns
 returns c =
-    answered-written (now (c .before .before .before .before .before .before .args .scratch)) (c .before .before .before .before .before .before .args .at) _ (sym (length-drop (c .before .before .before .before .before .before .args .at) (now (c .before .before .before .before .before .before .args .scratch)))) (omega (arith, c .before .before .before .before .before .before .pre .0)) (c .before .before .write .ensures)
+    let start = c .before .before .before .before .before .before in
+    answered-written (now (start .args .scratch)) (start .args .at) _ (sym (length-drop (start .args .at) (now (start .args .scratch))))
+        (omega (arith, start .pre .0)) (c .before .before .write .ensures)
 
 pub write-from-spec : {M : Type 1} → statement M
 write-from-spec = tie.close (tie.spec sub-write write-requires same-length returns)

@@ -36,21 +36,25 @@ refused-requires c κs = search needs
 
 returns : tie.Need-returns Inv-loop μ-loop
 returns c = λ rs h.
-    passing-refused (c .before .before .before .before .before .before .before .loop .inv rs h) (c .before .before .before .before .before .before .loop-test .taken) (c .before .before .before .before .before .read-record .ensures)
+    passing-refused (c .before .before .before .before .before .before .before .loop .inv rs h)
+        (c .before .before .before .before .before .before .loop-test .taken)
+        (c .before .before .before .before .before .read-record .ensures)
     (sym (c .before .before .number .given .1) ∙ c .before .before .before .before .token-fault .ensures rs h) (c .refused .ensures)
 
 enum-told : tie.Need-enum-told Inv-loop μ-loop
 enum-told c = search needs
 
 add-k : tie.Need-add-k Inv-loop μ-loop
-add-k c = omega (arith, c .before .before .before .before .loop-test .taken, c .before .before .before .before .before .before .before .before .before .before .before .good)
+add-k c = omega (arith, c .before .before .before .before .loop-test .taken,
+    c .before .before .before .before .before .before .before .before .before .before .before .good)
 
 loop-less : tie.Need-loop-less Inv-loop μ-loop
 loop-less c = omega (arith, c .before .before .before .before .loop-test .taken)
 
 loop-again : tie.Need-loop-again Inv-loop μ-loop
 loop-again c = λ rs h.
-    passing-next (c .before .before .before .before .before .loop .inv rs h) (c .before .before .before .before .loop-test .taken) (c .before .before .before .read-record .ensures)
+    passing-next (c .before .before .before .before .before .loop .inv rs h) (c .before .before .before .before .loop-test .taken)
+        (c .before .before .before .read-record .ensures)
     (sym (c .enum-told .given .1) ∙ c .before .before .token-fault .ensures rs h)
 
 returns-2 : tie.Need-returns-2 Inv-loop μ-loop

@@ -26,19 +26,31 @@ cast-copy : tie.Need-cast-copy Inv-loop μ-loop
 cast-copy c = search needs
 
 copy-requires : tie.Need-copy-requires Inv-loop μ-loop
-copy-requires c κs = (joining-pool (c .before .before .before .before .before .loop .inv) (c .before .before .before .before .loop-test .taken) (c .before .before .before .read-record .ensures), joining-room (c .before .before .before .before .before .loop .inv) (c .before .before .before .before .loop-test .taken) (c .before .before .before .read-record .ensures))
+copy-requires c κs =
+    let at-read-record = c .before .before .before in
+    let test = at-read-record .before in
+    let head = test .before in
+    (joining-pool (head .loop .inv) (test .loop-test .taken) (at-read-record .read-record .ensures), joining-room (head .loop .inv)
+        (test .loop-test .taken) (at-read-record .read-record .ensures))
 
 add-at : tie.Need-add-at Inv-loop μ-loop
-add-at c = omega (arith, joining-room (c .before .before .before .before .before .before .before .before .loop .inv) (c .before .before .before .before .before .before .before .loop-test .taken) (c .before .before .before .before .before .before .read-record .ensures), c .before .before .before .before .before .before .before .before .loop .inv .same, c .before .before .before .before .before .before .before .before .before .before .before .before .good)
+add-at c =
+    let head = c .before .before .before .before .before .before .before .before in
+    omega (arith, joining-room (head .loop .inv) (c .before .before .before .before .before .before .before .loop-test .taken)
+        (c .before .before .before .before .before .before .read-record .ensures), head .loop .inv .same,
+        c .before .before .before .before .before .before .before .before .before .before .before .before .good)
 
 add-k : tie.Need-add-k Inv-loop μ-loop
-add-k c = omega (arith, c .before .before .before .before .before .before .before .loop-test .taken, c .before .before .before .before .before .before .before .before .before .before .before .before .good)
+add-k c = omega (arith, c .before .before .before .before .before .before .before .loop-test .taken,
+    c .before .before .before .before .before .before .before .before .before .before .before .before .good)
 
 loop-less : tie.Need-loop-less Inv-loop μ-loop
 loop-less c = omega (arith, c .before .before .before .before .before .before .before .loop-test .taken)
 
 loop-again : tie.Need-loop-again Inv-loop μ-loop
-loop-again c = joining-next (c .before .before .before .before .before .before .before .before .loop .inv) (c .before .before .before .before .before .before .before .loop-test .taken) (c .before .before .before .before .before .before .read-record .ensures) (c .before .before .copy .ensures)
+loop-again c = joining-next (c .before .before .before .before .before .before .before .before .loop .inv)
+    (c .before .before .before .before .before .before .before .loop-test .taken)
+    (c .before .before .before .before .before .before .read-record .ensures) (c .before .before .copy .ensures)
 
 same-length : tie.Need-same-length Inv-loop μ-loop
 same-length c = c .before .loop .inv .same

@@ -16,7 +16,9 @@ lowest-common-requires : tie.Need-lowest-common-requires
 lowest-common-requires c κs = search needs
 
 returns : tie.Need-returns
-returns c = λ rs h. c .lowest-common .ensures ∙ ap lowestOf (shared-lowest rs (mark (c .before .before .used-by-kind .result)) (mark (c .before .used-by-kind2 .result)) (c .before .before .used-by-kind .ensures rs h) (c .before .used-by-kind2 .ensures rs h))
+returns c = λ rs h. c .lowest-common .ensures ∙ ap lowestOf
+    (shared-lowest rs (mark (c .before .before .used-by-kind .result)) (mark (c .before .used-by-kind2 .result))
+    (c .before .before .used-by-kind .ensures rs h) (c .before .used-by-kind2 .ensures rs h))
 
 pub shared-byte-spec : {M : Type 1} → statement M
 shared-byte-spec =

@@ -11,7 +11,8 @@ use Rattle.used_bytes.proofs.used_by.Statement.{statement}
 use Rattle.used_bytes.proofs.used_by.Tie as tie
 
 abbrev Inv-loop : tie.InvT-loop
-Inv-loop headers states edges rule error base set₀ s₀ set s = (s ≤ 256) × ((m : Rule) → Table headers states edges rule m → Gathered m s (set .marks))
+Inv-loop headers states edges rule error base set₀ s₀ set s = (s ≤ 256)
+    × ((m : Rule) → Table headers states edges rule m → Gathered m s (set .marks))
 
 abbrev μ-loop : tie.MeasureT-loop
 μ-loop headers states edges rule error base set₀ s₀ set s = 256 - s
@@ -32,19 +33,27 @@ loop-holds : tie.Need-loop-holds Inv-loop μ-loop
 loop-holds c = (omega arith, λ m t. gathered-start m _ (c .empty .ensures))
 
 add-cell : tie.Need-add-cell Inv-loop μ-loop
-add-cell c = omega (arith, c .before .before .before .before .before .before .before .pre .table .cells .room, c .before .before .before .before .before .before .before .good .1 .0 .0)
+add-cell c =
+    let start = c .before .before .before .before .before .before .before in
+    omega (arith, start .pre .table .cells .room, start .good .1 .0 .0)
 
 mul-cell : tie.Need-mul-cell Inv-loop μ-loop
-mul-cell c = omega (arith, c .before .before .before .before .before .before .before .pre .table .cells .room, c .before .before .before .before .before .before .before .good .1 .0 .1)
+mul-cell c =
+    let start = c .before .before .before .before .before .before .before in
+    omega (arith, start .pre .table .cells .room, start .good .1 .0 .1)
 
 shared-slice-read-cell : tie.Need-shared-slice-read-cell Inv-loop μ-loop
 shared-slice-read-cell c = omega (arith, c .before .before .before .before .before .before .before .before .pre .table .cells .room)
 
 cast-with-chain : tie.Need-cast-with-chain Inv-loop μ-loop
-cast-with-chain c = omega (arith, c .shared-slice-known5 .given (c .before .before .before .before .before .before .before .before .args .rule * 256 + c .before .before .loop .s))
+cast-with-chain c = omega (arith, c .shared-slice-known5 .given
+    (c .before .before .before .before .before .before .before .before .args .rule * 256 + c .before .before .loop .s))
 
 with-chain-requires : tie.Need-with-chain-requires Inv-loop μ-loop
-with-chain-requires c κs = record { transitions = leaving (c .before .before .loop .s) (c .before .before .before .before .before .before .before .before .pre .rule .transitions); chain = c .before .before .before .before .before .before .before .before .pre .table .cells .chains (c .before .before .loop .s) (c .before .loop-test .taken) }
+with-chain-requires c κs =
+    let start = c .before .before .before .before .before .before .before .before in
+    record { transitions = leaving (c .before .before .loop .s) (start .pre .rule .transitions); chain = start .pre .table .cells .chains
+        (c .before .before .loop .s) (c .before .loop-test .taken) }
 
 add-s : tie.Need-add-s Inv-loop μ-loop
 add-s c = omega arith
@@ -53,7 +62,11 @@ loop-less : tie.Need-loop-less Inv-loop μ-loop
 loop-less c = omega arith
 
 loop-again : tie.Need-loop-again Inv-loop μ-loop
-loop-again c = (omega arith, λ m t. gathered-next t (c .before .before .before .loop .inv .1 m t) _ (header-error t) (c .with-chain .ensures (leaving (c .before .before .before .loop .s) m.transitions) (t .cells .chains (c .before .before .before .loop .s) (c .before .before .loop-test .taken))))
+loop-again c =
+    let head = c .before .before .before in
+    (omega arith, λ m t. gathered-next t (head .loop .inv .1 m t) _ (header-error t)
+        (c .with-chain .ensures (leaving (head .loop .s) m.transitions)
+        (t .cells .chains (head .loop .s) (c .before .before .loop-test .taken))))
 
 returns : tie.Need-returns Inv-loop μ-loop
 returns c = λ m t. let e : c .before .loop .s ≡ 256 = omega arith in gathered-end t (rw e at (c .before .loop .inv .1 m t))

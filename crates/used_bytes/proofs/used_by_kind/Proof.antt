@@ -15,7 +15,8 @@ use Rattle.used_bytes.proofs.used_by_kind.Statement.{statement}
 use Rattle.used_bytes.proofs.used_by_kind.Tie as tie
 
 abbrev Inv-loop : tie.InvT-loop
-Inv-loop headers states edges rules kind set₀ next₀ set next = (next ≤ rules) × ((rs : List Rule) → Holds headers states edges rules rs → Kinds rs kind next (set .marks))
+Inv-loop headers states edges rules kind set₀ next₀ set next = (next ≤ rules)
+    × ((rs : List Rule) → Holds headers states edges rules rs → Kinds rs kind next (set .marks))
 
 abbrev μ-loop : tie.MeasureT-loop
 μ-loop headers states edges rules kind set₀ next₀ set next = rules - next
@@ -30,16 +31,22 @@ add-next : tie.Need-add-next Inv-loop μ-loop
 add-next c = omega arith
 
 mul-header : tie.Need-mul-header Inv-loop μ-loop
-mul-header c = omega (arith, table-at (c .before .before .before .before .before .before .pre .holds) (c .loop-test .taken) .room, c .before .before .before .before .before .before .good .0 .1)
+mul-header c =
+    let start = c .before .before .before .before .before .before in
+    omega (arith, table-at (start .pre .holds) (c .loop-test .taken) .room, start .good .0 .1)
 
 shared-slice-read-header : tie.Need-shared-slice-read-header Inv-loop μ-loop
-shared-slice-read-header c = table-at (c .before .before .before .before .before .before .before .pre .holds) (c .before .loop-test .taken) .room
+shared-slice-read-header c = table-at (c .before .before .before .before .before .before .before .pre .holds)
+    (c .before .loop-test .taken) .room
 
 kind-of-requires : tie.Need-kind-of-requires Inv-loop μ-loop
 kind-of-requires c κs = search needs
 
 used-by-requires : tie.Need-used-by-requires Inv-loop μ-loop
-used-by-requires c κs = record { rule = ruleAt (c .before .before .before .before .before .before .before .before .before .pre .rules) (c .before .before .before .before .loop .next); table = table-at (c .before .before .before .before .before .before .before .before .before .pre .holds) (c .before .before .before .loop-test .taken) }
+used-by-requires c κs =
+    let start = c .before .before .before .before .before .before .before .before .before in
+    record { rule = ruleAt (start .pre .rules) (c .before .before .before .before .loop .next); table = table-at (start .pre .holds)
+        (c .before .before .before .loop-test .taken) }
 
 joined-requires : tie.Need-joined-requires Inv-loop μ-loop
 joined-requires c κs = search needs
@@ -48,24 +55,32 @@ loop-less : tie.Need-loop-less Inv-loop μ-loop
 loop-less c = omega arith
 
 loop-again : tie.Need-loop-again Inv-loop μ-loop
-loop-again c = (
+loop-again c =
+    let test = c .before .before .before .before .before in
+    let head = test .before in
+    (
   omega arith,
   λ rs h.
-      let l : c .before .before .before .before .before .before .loop .next < length rs = omega (arith, c .before .before .before .before .before .loop-test .taken, h .count) in
-      let t = table-at h (c .before .before .before .before .before .loop-test .taken) in
-      kinds-join (c .before .before .before .before .before .before .loop .inv .1 rs h) l (c .before .used-by .result .marks) (sym (header-kind t) ∙ sym (c .before .before .before .kind-of .ensures) ∙ c .before .before .if1 .taken) (c .before .used-by .ensures _ t) (c .joined .ensures),
+      let l : head .loop .next < length rs = omega (arith, test .loop-test .taken, h .count) in
+      let t = table-at h (test .loop-test .taken) in
+      kinds-join (head .loop .inv .1 rs h) l (c .before .used-by .result .marks)
+          (sym (header-kind t) ∙ sym (c .before .before .before .kind-of .ensures) ∙ c .before .before .if1 .taken)
+          (c .before .used-by .ensures _ t) (c .joined .ensures),
 )
 
 loop-less-2 : tie.Need-loop-less-2 Inv-loop μ-loop
 loop-less-2 c = omega arith
 
 loop-again-2 : tie.Need-loop-again-2 Inv-loop μ-loop
-loop-again-2 c = (
+loop-again-2 c =
+    let test = c .before .before .before in
+    let head = test .before in
+    (
   omega arith,
   λ rs h.
-      let l : c .before .before .before .before .loop .next < length rs = omega (arith, c .before .before .before .loop-test .taken, h .count) in
-      let t = table-at h (c .before .before .before .loop-test .taken) in
-      kinds-pass (c .before .before .before .before .loop .inv .1 rs h) l (λ z. c .if1 .left (c .before .kind-of .ensures ∙ header-kind t ∙ z)),
+      let l : head .loop .next < length rs = omega (arith, test .loop-test .taken, h .count) in
+      let t = table-at h (test .loop-test .taken) in
+      kinds-pass (head .loop .inv .1 rs h) l (λ z. c .if1 .left (c .before .kind-of .ensures ∙ header-kind t ∙ z)),
 )
 
 returns : tie.Need-returns Inv-loop μ-loop

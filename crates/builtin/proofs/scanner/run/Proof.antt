@@ -3,7 +3,7 @@ use mathlib.Core.Path.{sym, _∙_}
 use Prim.Native.Nat.{_-_}
 use native.Mathlib.Omega.{arith}
 use lib.ListN.{length}
-use Rattle.builtin.specs.Joined.{Stays}
+use Rattle.builtin.specs.Contracts.{Stays}
 use Rattle.builtin.proofs.Scanned.{stays-none, stays-more}
 use Rattle.builtin.proofs.scanner.run.Statement.{statement}
 use Rattle.builtin.proofs.scanner.run.Tie as tie

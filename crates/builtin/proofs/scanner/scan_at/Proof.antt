@@ -7,7 +7,7 @@ use lib.ListN.{length, drop, length-drop}
 use lib.Seq.{take-all}
 use borrow.Author.Needs.{needs}
 use denote.Ref.{now}
-use Rattle.builtin.specs.Joined.{Scanned}
+use Rattle.builtin.specs.Contracts.{Scanned}
 use Rattle.builtin.proofs.scanner.scan_at.Statement.{statement}
 use Rattle.builtin.proofs.scanner.scan_at.Tie as tie
 

@@ -5,7 +5,7 @@ use native.Mathlib.Omega.{arith}
 use lib.ListN.{getD}
 use borrow.Author.Needs.{needs}
 use denote.Ref.{now}
-use Rattle.builtin.specs.Joined.{nextState}
+use Rattle.builtin.specs.Contracts.{nextState}
 use Rattle.builtin.proofs.Alike.{classBytes, class-below}
 use Rattle.builtin.proofs.Joined.{joined}
 use Rattle.builtin.proofs.scanner.step.Statement.{statement}

@@ -1,6 +1,6 @@
 -- The table is the very list of its definition. Assumes nothing.
 use mathlib.Core.Path.{refl}
-use Rattle.builtin.specs.Joined.{nextTable}
+use Rattle.builtin.specs.Contracts.{nextTable}
 use Rattle.builtin.proofs.tables.next_states.Statement.{statement}
 use Rattle.builtin.proofs.tables.next_states.Tie as tie
 

@@ -1,6 +1,6 @@
 -- The table is the very list of its definition. Assumes nothing.
 use mathlib.Core.Path.{refl}
-use Rattle.builtin.specs.Joined.{tagTable}
+use Rattle.builtin.specs.Contracts.{tagTable}
 use Rattle.builtin.proofs.tables.tags.Statement.{statement}
 use Rattle.builtin.proofs.tables.tags.Tie as tie
 

@@ -26,18 +26,23 @@ operands-requires : tie.Need-operands-requires
 operands-requires c κs = search needs
 
 add-next-2 : tie.Need-add-next-2
-add-next-2 c = omega (arith, c .operands .ensures, operands-le (getD (now (c .before .before .before .before .before .args .book)) (c .before .before .before .before .before .args .self .at) 0))
+add-next-2 c =
+    let start = c .before .before .before .before .before in
+    omega (arith, c .operands .ensures, operands-le (getD (now (start .args .book)) (start .args .self .at) 0))
 
 returns-2 : tie.Need-returns-2
 unfolding commandAt
-returns-2 c = let h : _ ≡ _ = c .before .operands .ensures in rw (sym (c .before .before .before .is-placed .ensures) ∙ not-false _ (c .before .before .if1 .left), ← h, lt-leb _ _ (c .if2 .taken))
+returns-2 c = let h : _ ≡ _ = c .before .operands .ensures in rw
+    (sym (c .before .before .before .is-placed .ensures) ∙ not-false _ (c .before .before .if1 .left), ← h, lt-leb _ _ (c .if2 .taken))
 
 command-of-requires : tie.Need-command-of-requires
 command-of-requires c κs = search needs
 
 returns-3 : tie.Need-returns-3
 unfolding commandAt
-returns-3 c = let h : _ ≡ _ = c .before .before .operands .ensures in rw (sym (c .before .before .before .before .is-placed .ensures) ∙ not-false _ (c .before .before .before .if1 .left), ← h, le-leb _ _ (c .before .if2 .left), c .command-of .ensures)
+returns-3 c = let h : _ ≡ _ = c .before .before .operands .ensures in rw
+    (sym (c .before .before .before .before .is-placed .ensures)
+    ∙ not-false _ (c .before .before .before .if1 .left), ← h, le-leb _ _ (c .before .if2 .left), c .command-of .ensures)
 
 pub command-spec : {M : Type 1} → statement M
 command-spec =

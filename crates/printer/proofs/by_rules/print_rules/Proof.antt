@@ -19,15 +19,20 @@ enum-known-total c = search needs
 
 write-requires : tie.Need-write-requires
 write-requires c κs =
-    let w = c .before .before .before .before .before .before .before .rehearse .ensures (c .before .before .before .before .before .before .before .before .before .before .before .before .before .before .before .before .before .pre .0 .rules) (c .before .before .before .before .before .before .before .before .before .before .before .before .before .before .before .before .before .pre .0 .holds) .clean _ (c .before .before .before .total .given .1) in
-    omega (arith, w .spanned .short, c .before .before .before .before .before .before .before .rehearse .kept, c .before .before .before .before .before .before .before .before .before .before .before .before .before .before .before .before .before .pre .1)
+    let at-rehearse = c .before .before .before .before .before .before .before in
+    let start = at-rehearse .before .before .before .before .before .before .before .before .before .before in
+    let w = at-rehearse .rehearse .ensures (start .pre .0 .rules) (start .pre .0 .holds) .clean _
+        (c .before .before .before .total .given .1) in
+    omega (arith, w .spanned .short, at-rehearse .rehearse .kept, start .pre .1)
 
 enum-known-found : tie.Need-enum-known-found
 enum-known-found c = search needs
 
 find-refusal-requires : tie.Need-find-refusal-requires
 find-refusal-requires c κs =
-    record { held = c .before .before .before .before .before .before .before .before .before .before .before .before .before .before .before .pre .0; suspected = λ rs h. c .before .before .before .before .before .rehearse .ensures rs h .wrong _ (c .before .found .given .1) }
+    record { held =
+        c .before .before .before .before .before .before .before .before .before .before .before .before .before .before .before .pre .0;
+        suspected = λ rs h. c .before .before .before .before .before .rehearse .ensures rs h .wrong _ (c .before .found .given .1) }
 
 same-length : tie.Need-same-length
 same-length c = search needs
@@ -36,13 +41,17 @@ same-length-2 : tie.Need-same-length-2
 same-length-2 c = search needs
 
 returns-2 : tie.Need-returns-2
-returns-2 c = λ rs h. clean-written rs _ _ _ (c .before .before .before .before .before .before .before .before .before .before .before .before .if1 .left) (c .before .before .before .before .before .before .before .before .before .before .rehearse .ensures rs h .clean _ (c .before .before .before .before .before .before .total .given .1)) (c .before .before .write .ensures)
+returns-2 c = λ rs h. clean-written rs _ _ _
+    (c .before .before .before .before .before .before .before .before .before .before .before .before .if1 .left)
+    (c .before .before .before .before .before .before .before .before .before .before .rehearse .ensures rs h .clean _
+    (c .before .before .before .before .before .before .total .given .1)) (c .before .before .write .ensures)
 
 same-length-3 : tie.Need-same-length-3
 same-length-3 c = search needs
 
 returns-3 : tie.Need-returns-3
-returns-3 c = λ rs h. answered-troubled rs _ _ _ (c .before .before .before .before .before .before .before .before .if1 .left) (c .find-refusal .ensures rs h)
+returns-3 c = λ rs h. answered-troubled rs _ _ _ (c .before .before .before .before .before .before .before .before .if1 .left)
+    (c .find-refusal .ensures rs h)
 
 pub print-rules-spec : {M : Type 1} → statement M
 print-rules-spec =

@@ -11,7 +11,9 @@ enum-known-total : tie.Need-enum-known-total
 enum-known-total c = search needs
 
 rehearse-bytes-requires : tie.Need-rehearse-bytes-requires
-rehearse-bytes-requires c κs = (c .before .before .before .before .before .before .before .before .before .before .before .pre .0, (c .before .before .before .before .before .before .before .before .before .before .before .pre .1, c .before .before .before .before .measure .ensures .fits _ (c .before .before .total .given .1)))
+rehearse-bytes-requires c κs =
+    let start = c .before .before .before .before .before .before .before .before .before .before .before in
+    (start .pre .0, (start .pre .1, c .before .before .before .before .measure .ensures .fits _ (c .before .before .total .given .1)))
 
 enum-told : tie.Need-enum-told
 enum-told c = search needs
@@ -26,7 +28,8 @@ returns : tie.Need-returns
 returns c = search needs
 
 returns-2 : tie.Need-returns-2
-returns-2 c = λ rs h. rehearses-beyond rs _ _ _ (c .before .before .before .measure .ensures .beyond (c .before .enum-told .given .1)) (c .wrong .ensures)
+returns-2 c = λ rs h. rehearses-beyond rs _ _ _ (c .before .before .before .measure .ensures .beyond (c .before .enum-told .given .1))
+    (c .wrong .ensures)
 
 pub rehearse-spec : {M : Type 1} → statement M
 rehearse-spec =

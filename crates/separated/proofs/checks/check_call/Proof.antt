@@ -21,10 +21,12 @@ check-list-requires : tie.Need-check-list-requires
 check-list-requires c κs = search needs
 
 returns : tie.Need-returns
-returns c = λ rs h. call-shared rs _ _ _ _ (sym (c .before .before .b .given .1) ∙ c .before .before .before .before .shared-byte .ensures rs h) (c .refused .ensures)
+returns c = λ rs h. call-shared rs _ _ _ _ (sym (c .before .before .b .given .1)
+    ∙ c .before .before .before .before .shared-byte .ensures rs h) (c .refused .ensures)
 
 returns-2 : tie.Need-returns-2
-returns-2 c = λ rs h. call-list rs _ _ _ _ (sym (c .before .enum-told .given .1) ∙ c .before .before .before .shared-byte .ensures rs h) (c .check-list .ensures rs h)
+returns-2 c = λ rs h. call-list rs _ _ _ _ (sym (c .before .enum-told .given .1) ∙ c .before .before .before .shared-byte .ensures rs h)
+    (c .check-list .ensures rs h)
 
 pub check-call-spec : {M : Type 1} → statement M
 check-call-spec =

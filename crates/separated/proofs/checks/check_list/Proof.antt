@@ -28,18 +28,24 @@ refused-requires-3 c κs = search needs
 
 returns-2 : tie.Need-returns-2
 returns-2 c = λ rs h.
-    list-many rs _ _ _ _ (c .before .before .before .before .before .if1 .left) (separator-fault rs _ _ (sym (c .before .before .enum-told .given .1) ∙ c .before .before .before .before .fault-or-kind .ensures rs h)) (c .before .if2 .taken) (c .refused3 .ensures)
+    list-many rs _ _ _ _ (c .before .before .before .before .before .if1 .left)
+        (separator-fault rs _ _ (sym (c .before .before .enum-told .given .1)
+        ∙ c .before .before .before .before .fault-or-kind .ensures rs h)) (c .before .if2 .taken) (c .refused3 .ensures)
 
 check-tokens-requires : tie.Need-check-tokens-requires
 check-tokens-requires c κs = search needs
 
 returns-3 : tie.Need-returns-3
 returns-3 c = λ rs h.
-    list-separator rs _ _ _ _ (c .before .before .before .before .before .if1 .left) (separator-fault rs _ _ (sym (c .before .before .number .given .1) ∙ c .before .before .before .before .fault-or-kind .ensures rs h)) (c .refused2 .ensures)
+    list-separator rs _ _ _ _ (c .before .before .before .before .before .if1 .left)
+        (separator-fault rs _ _ (sym (c .before .before .number .given .1)
+        ∙ c .before .before .before .before .fault-or-kind .ensures rs h)) (c .refused2 .ensures)
 
 returns-4 : tie.Need-returns-4
 returns-4 c = λ rs h.
-    list-tokens rs _ _ _ _ (c .before .before .before .before .before .if1 .left) (separator-fault rs _ _ (sym (c .before .before .enum-told .given .1) ∙ c .before .before .before .before .fault-or-kind .ensures rs h)) (c .before .if2 .left) (c .check-tokens .ensures rs h)
+    list-tokens rs _ _ _ _ (c .before .before .before .before .before .if1 .left)
+        (separator-fault rs _ _ (sym (c .before .before .enum-told .given .1)
+        ∙ c .before .before .before .before .fault-or-kind .ensures rs h)) (c .before .if2 .left) (c .check-tokens .ensures rs h)
 
 pub check-list-spec : {M : Type 1} → statement M
 check-list-spec =

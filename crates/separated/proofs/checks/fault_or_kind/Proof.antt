@@ -22,7 +22,8 @@ returns : tie.Need-returns
 returns c = λ rs h. or-fault _ _ _ (sym (c .before .first .given .1) ∙ c .before .before .before .token-fault .ensures rs h)
 
 returns-2 : tie.Need-returns-2
-returns-2 c = λ rs h. or-kind _ _ _ (sym (c .before .enum-told .given .1) ∙ c .before .before .before .token-fault .ensures rs h) (c .kind-fault .ensures _ _ rs h)
+returns-2 c = λ rs h. or-kind _ _ _ (sym (c .before .enum-told .given .1) ∙ c .before .before .before .token-fault .ensures rs h)
+    (c .kind-fault .ensures _ _ rs h)
 
 pub fault-or-kind-spec : {M : Type 1} → statement M
 fault-or-kind-spec =

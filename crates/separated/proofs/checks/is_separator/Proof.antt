@@ -32,19 +32,23 @@ kind-of-requires : tie.Need-kind-of-requires Inv-loop μ-loop
 kind-of-requires c κs = search needs
 
 returns : tie.Need-returns Inv-loop μ-loop
-returns c = plainly-found (c .before .before .before .before .before .before .loop .inv) (c .before .before .before .before .before .loop-test .taken) (sym (c .before .before .before .tag-of .ensures) ∙ c .before .before .if1 .taken) (sym (c .before .kind-of .ensures) ∙ c .if2 .taken)
+returns c = plainly-found (c .before .before .before .before .before .before .loop .inv)
+    (c .before .before .before .before .before .loop-test .taken)
+    (sym (c .before .before .before .tag-of .ensures) ∙ c .before .before .if1 .taken) (sym (c .before .kind-of .ensures) ∙ c .if2 .taken)
 
 loop-less : tie.Need-loop-less Inv-loop μ-loop
 loop-less c = omega arith
 
 loop-again : tie.Need-loop-again Inv-loop μ-loop
-loop-again c = plainly-plain (c .before .before .before .before .before .before .loop .inv) (c .before .before .before .before .before .loop-test .taken) (λ z. c .if2 .left (c .before .kind-of .ensures ∙ z))
+loop-again c = plainly-plain (c .before .before .before .before .before .before .loop .inv)
+    (c .before .before .before .before .before .loop-test .taken) (λ z. c .if2 .left (c .before .kind-of .ensures ∙ z))
 
 loop-less-2 : tie.Need-loop-less-2 Inv-loop μ-loop
 loop-less-2 c = omega arith
 
 loop-again-2 : tie.Need-loop-again-2 Inv-loop μ-loop
-loop-again-2 c = plainly-other (c .before .before .before .before .loop .inv) (c .before .before .before .loop-test .taken) (λ z. c .if1 .left (c .before .tag-of .ensures ∙ z))
+loop-again-2 c = plainly-other (c .before .before .before .before .loop .inv) (c .before .before .before .loop-test .taken)
+    (λ z. c .if1 .left (c .before .tag-of .ensures ∙ z))
 
 returns-2 : tie.Need-returns-2 Inv-loop μ-loop
 returns-2 c = plainly-end (c .before .loop .inv) (c .loop-test .left)

@@ -14,7 +14,8 @@ use Rattle.longest_match.proofs.Held.{held-empty}
 use Rattle.record.specs.Records.{recordCount}
 use Rattle.token_list.proofs.Faulting.{held-room}
 use Rattle.token_list.specs.Contracts.{Spread}
-use Rattle.token_list.proofs.Settling.{Retracing, retracing-start, retracing-within, retracing-next, retracing-none, retracing-longer, retracing-other, retracing-end}
+use Rattle.token_list.proofs.Settling.{Retracing, retracing-start, retracing-within, retracing-next, retracing-none}
+use Rattle.token_list.proofs.Settling.{retracing-longer, retracing-other, retracing-end}
 use Rattle.token_list.proofs.readback.read_back.Statement.{statement}
 use Rattle.token_list.proofs.readback.read_back.Tie as tie
 
@@ -27,8 +28,14 @@ abbrev μ-loop : tie.MeasureT-loop
 μ-loop headers states edges rules records text total count at₀ k₀ at k = recordCount records - k
 
 -- by one list of rules that the tables hold, and one pool
-some : (c : tie.At-loop Inv-loop μ-loop) → Retracing (c .before .before .before .before .before .before .pre .0 .rules) (now (c .before .before .before .before .before .before .args .records)) (c .before .before .before .before .before .before .pre .1 .1 .pool) (take (c .before .before .before .before .before .before .args .total) (now (c .before .before .before .before .before .before .args .text))) (c .loop .at) (c .loop .k)
-some c = c .loop .inv (c .before .before .before .before .before .before .pre .0 .rules) (c .before .before .before .before .before .before .pre .1 .1 .pool) (c .before .before .before .before .before .before .pre .0 .holds) (c .before .before .before .before .before .before .pre .1 .1 .spread)
+some : (c : tie.At-loop Inv-loop μ-loop) → Retracing (c .before .before .before .before .before .before .pre .0 .rules)
+    (now (c .before .before .before .before .before .before .args .records))
+    (c .before .before .before .before .before .before .pre .1 .1 .pool)
+    (take (c .before .before .before .before .before .before .args .total)
+    (now (c .before .before .before .before .before .before .args .text))) (c .loop .at) (c .loop .k)
+some c =
+    let start = c .before .before .before .before .before .before in
+    c .loop .inv (start .pre .0 .rules) (start .pre .1 .1 .pool) (start .pre .0 .holds) (start .pre .1 .1 .spread)
 
 loop-holds : tie.Need-loop-holds Inv-loop μ-loop
 loop-holds c = λ rs pool h s. retracing-start s
@@ -47,29 +54,57 @@ find-tag-requires c κs = held-room (c .before .before .before .before .before .
 
 choose-requires : tie.Need-choose-requires Inv-loop μ-loop
 choose-requires c κs =
+    let start = c .before .before .before .before .before .before .before .before .before .before .before in
     let w = some (c .before .before .before .before .before) .within in
-    (c .before .before .before .before .before .before .before .before .before .before .before .pre .0, (rw (length-take-le _ _ (c .before .before .before .before .before .before .before .before .before .before .before .pre .1 .0)) at w, c .before .before .before .before .before .before .before .before .before .before .before .pre .1 .0))
+    (start .pre .0, (rw (length-take-le _ _ (start .pre .1 .0)) at w, start .pre .1 .0))
 
 returns : tie.Need-returns Inv-loop μ-loop
-returns c = λ rs pool h s. retracing-none (c .before .before .before .before .before .before .before .before .loop .inv rs pool h s) (held-empty h) (c .before .before .before .before .before .before .before .loop-test .taken) (c .before .before .before .before .before .before .read-record .ensures) (c .before .before .before .find-tag .ensures _ _ rs (h .tables) (sym (h .count))) (c .before .before .choose .ensures rs _ h (part-front _ _ _)) (c .if1 .taken)
+returns c = λ rs pool h s. retracing-none (c .before .before .before .before .before .before .before .before .loop .inv rs pool h s)
+    (held-empty h) (c .before .before .before .before .before .before .before .loop-test .taken)
+    (c .before .before .before .before .before .before .read-record .ensures)
+    (c .before .before .before .find-tag .ensures _ _ rs (h .tables) (sym (h .count)))
+    (c .before .before .choose .ensures rs _ h (part-front _ _ _)) (c .if1 .taken)
 
 returns-2 : tie.Need-returns-2 Inv-loop μ-loop
-returns-2 c = λ rs pool h s. retracing-longer (c .before .before .before .before .before .before .before .before .before .before .loop .inv rs pool h s) (held-empty h) (c .before .before .before .before .before .before .before .before .before .loop-test .taken) (c .before .before .before .before .before .before .before .before .read-record .ensures) (c .before .before .before .before .before .find-tag .ensures _ _ rs (h .tables) (sym (h .count))) (c .before .before .before .before .choose .ensures rs _ h (part-front _ _ _)) (c .if2 .taken)
+returns-2 c = λ rs pool h s. retracing-longer
+    (c .before .before .before .before .before .before .before .before .before .before .loop .inv rs pool h s) (held-empty h)
+    (c .before .before .before .before .before .before .before .before .before .loop-test .taken)
+    (c .before .before .before .before .before .before .before .before .read-record .ensures)
+    (c .before .before .before .before .before .find-tag .ensures _ _ rs (h .tables) (sym (h .count)))
+    (c .before .before .before .before .choose .ensures rs _ h (part-front _ _ _)) (c .if2 .taken)
 
 returns-3 : tie.Need-returns-3 Inv-loop μ-loop
-returns-3 c = λ rs pool h s. retracing-other (c .before .before .before .before .before .before .before .before .before .before .before .before .loop .inv rs pool h s) (held-empty h) (c .before .before .before .before .before .before .before .before .before .before .before .loop-test .taken) (c .before .before .before .before .before .before .before .before .before .before .read-record .ensures) (c .before .before .before .before .before .before .before .find-tag .ensures _ _ rs (h .tables) (sym (h .count))) (c .before .before .before .before .before .before .choose .ensures rs _ h (part-front _ _ _)) (c .before .before .before .before .if1 .left) (c .before .before .if2 .left) (c .if3 .taken)
+returns-3 c = λ rs pool h s. retracing-other
+    (c .before .before .before .before .before .before .before .before .before .before .before .before .loop .inv rs pool h s)
+    (held-empty h) (c .before .before .before .before .before .before .before .before .before .before .before .loop-test .taken)
+    (c .before .before .before .before .before .before .before .before .before .before .read-record .ensures)
+    (c .before .before .before .before .before .before .before .find-tag .ensures _ _ rs (h .tables) (sym (h .count)))
+    (c .before .before .before .before .before .before .choose .ensures rs _ h (part-front _ _ _))
+    (c .before .before .before .before .if1 .left) (c .before .before .if2 .left) (c .if3 .taken)
 
 add-at : tie.Need-add-at Inv-loop μ-loop
-add-at c = omega (arith, length-take-le (c .before .before .before .before .before .before .before .before .before .before .before .before .before .before .before .before .before .before .args .total) (now (c .before .before .before .before .before .before .before .before .before .before .before .before .before .before .before .before .before .before .args .text)) (c .before .before .before .before .before .before .before .before .before .before .before .before .before .before .before .before .before .before .pre .1 .0), retracing-within (some (c .before .before .before .before .before .before .before .before .before .before .before .before)) (held-empty (c .before .before .before .before .before .before .before .before .before .before .before .before .before .before .before .before .before .before .pre .0 .holds)) (c .before .before .before .before .before .before .before .before .before .before .before .loop-test .taken) (c .before .before .before .before .before .before .before .before .before .before .read-record .ensures), c .before .before .before .before .before .before .before .before .before .before .before .before .before .before .before .before .before .before .good)
+add-at c =
+    let at-loop-test = c .before .before .before .before .before .before .before .before .before .before .before in
+    let start = at-loop-test .before .before .before .before .before .before .before in
+    omega (arith, length-take-le (start .args .total) (now (start .args .text)) (start .pre .1 .0), retracing-within
+        (some (at-loop-test .before)) (held-empty (start .pre .0 .holds)) (at-loop-test .loop-test .taken)
+        (c .before .before .before .before .before .before .before .before .before .before .read-record .ensures), start .good)
 
 add-k : tie.Need-add-k Inv-loop μ-loop
-add-k c = omega (arith, c .before .before .before .before .before .before .before .before .before .before .before .loop-test .taken, c .before .before .before .before .before .before .before .before .before .before .before .before .before .before .before .before .before .before .good)
+add-k c = omega (arith, c .before .before .before .before .before .before .before .before .before .before .before .loop-test .taken,
+    c .before .before .before .before .before .before .before .before .before .before .before .before .before .before .before .before .before .before .good)
 
 loop-less : tie.Need-loop-less Inv-loop μ-loop
 loop-less c = omega (arith, c .before .before .before .before .before .before .before .before .before .before .before .loop-test .taken)
 
 loop-again : tie.Need-loop-again Inv-loop μ-loop
-loop-again c = λ rs pool h s. retracing-next (c .before .before .before .before .before .before .before .before .before .before .before .before .loop .inv rs pool h s) (held-empty h) (c .before .before .before .before .before .before .before .before .before .before .before .loop-test .taken) (c .before .before .before .before .before .before .before .before .before .before .read-record .ensures) (c .before .before .before .before .before .before .before .find-tag .ensures _ _ rs (h .tables) (sym (h .count))) (c .before .before .before .before .before .before .choose .ensures rs _ h (part-front _ _ _)) (c .before .before .before .before .if1 .left) (c .before .before .if2 .left) (c .if3 .left)
+loop-again c = λ rs pool h s. retracing-next
+    (c .before .before .before .before .before .before .before .before .before .before .before .before .loop .inv rs pool h s)
+    (held-empty h) (c .before .before .before .before .before .before .before .before .before .before .before .loop-test .taken)
+    (c .before .before .before .before .before .before .before .before .before .before .read-record .ensures)
+    (c .before .before .before .before .before .before .before .find-tag .ensures _ _ rs (h .tables) (sym (h .count)))
+    (c .before .before .before .before .before .before .choose .ensures rs _ h (part-front _ _ _))
+    (c .before .before .before .before .if1 .left) (c .before .before .if2 .left) (c .if3 .left)
 
 returns-4 : tie.Need-returns-4 Inv-loop μ-loop
 returns-4 c = λ rs pool h s. retracing-end (c .before .loop .inv rs pool h s) (c .loop-test .left)

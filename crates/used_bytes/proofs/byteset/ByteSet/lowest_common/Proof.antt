@@ -27,13 +27,15 @@ element-copy-out-if2 : tie.Need-element-copy-out-if2 Inv-loop μ-loop
 element-copy-out-if2 c = omega arith
 
 returns : tie.Need-returns Inv-loop μ-loop
-returns c = ap lowestOf (sym (seeking-found (c .before .before .before .before .before .loop .inv) (omega arith) (rw (c .before .before .if1 .taken, c .if2 .taken))))
+returns c = ap lowestOf (sym (seeking-found (c .before .before .before .before .before .loop .inv) (omega arith)
+    (rw (c .before .before .if1 .taken, c .if2 .taken))))
 
 loop-less : tie.Need-loop-less Inv-loop μ-loop
 loop-less c = omega arith
 
 loop-again : tie.Need-loop-again Inv-loop μ-loop
-loop-again c = seeking-next (c .before .before .before .before .before .loop .inv) (omega arith) (rw (c .before .before .if1 .taken, c .if2 .left))
+loop-again c = seeking-next (c .before .before .before .before .before .loop .inv) (omega arith)
+    (rw (c .before .before .if1 .taken, c .if2 .left))
 
 loop-less-2 : tie.Need-loop-less-2 Inv-loop μ-loop
 loop-less-2 c = omega arith

@@ -1,3 +1,4 @@
+-- What the layers of the code ask and answer between themselves. Nobody needs to believe it: the operations' contracts do not rest on it.
 -- One automaton for all five rules: what its states stand for, and its tables. The number of a state is the place of its row in
 -- `nextTable`, so that a step adds only the class; a row has an entry for each class and seven that are not used.
 use mathlib.Core.Path.{_≡_}
