@@ -133,11 +133,10 @@ module _ {M : Type 1} (𝓤 : URA M) (H : Heap 𝓤) (A : Atoms 𝓤) (mem : Mem
   abbrev Finish : Contract 𝓤
   Finish = tripleOf 𝓤 H A finish.signature (finish.spec 𝓤 H A mem run)
 
-module _ {M : Type 1} (𝓤 : URA M) (H : Heap 𝓤) (A : Atoms 𝓤) (W : Given 𝓤 H A) (mem : Memory → SProp 𝓤) (run : Routine
-    → Fun 𝓤) (κ₀ κ₁ κ₂ κ₃ : Lft) (q₀ q₁ q₂ q₃ : Share) (book : RefT (List ℕ)) (b o : ℕ) (γ : GName) (ys : List TokenRecord)
-    (pool out : RefT (List ℕ))
-    (b-room : Room u8 (length (book .now))) (room : Room T.the-row (length ys)) (p-room : Room u8 (length (pool .now)))
-    (o-room : Room u8 (length (out .now))) where
+module _ {M : Type 1} (𝓤 : URA M) (H : Heap 𝓤) (A : Atoms 𝓤) (W : Given 𝓤 H A) (mem : Memory → SProp 𝓤)
+    (run : Routine → Fun 𝓤) (κ₀ κ₁ κ₂ κ₃ : Lft) (q₀ q₁ q₂ q₃ : Share) (book : RefT (List ℕ)) (b o : ℕ) (γ : GName) (ys : List TokenRecord)
+    (pool out : RefT (List ℕ)) (b-room : Room u8 (length (book .now))) (room : Room T.the-row (length ys))
+    (p-room : Room u8 (length (pool .now))) (o-room : Room u8 (length (out .now))) where
   abbrev bk : List ℕ
   bk = book .now
 
