@@ -1,4 +1,6 @@
-// What a call answers where it refuses: the number of document 01 and a place.
+// What a call answers: a refusal, or, in an enum for each kind of call, what it came to.
+
+// The number of document 01 and a place.
 ghost use mathlib.Core.Path.{_≡_};
 
 pub struct Refusal {

@@ -1,4 +1,5 @@
--- What the proofs of this crate share, and the laws for the layers above.
+-- The built-in book is accepted (Accepted); its classes (Alike) and its one automaton (Product, Joined) are right, and so is the walk
+-- over it (Scanned).
 pub mod Tests
 pub mod Alike
 pub mod Product

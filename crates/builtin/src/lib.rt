@@ -1,4 +1,5 @@
-// Lexing by the built-in book of document 01, through its byte classes.
+// Lexing by the built-in book of document 01, through its byte classes. `commands` has the book's bytes, `tables` the classes and the
+// automaton of all five rules, `scanner` the walk over them.
 pub mod commands;
 pub mod scanner;
 pub mod tables;

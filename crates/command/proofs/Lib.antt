@@ -1,2 +1,2 @@
--- What the proofs of this crate share, and the laws for the layers above.
+-- Laws of the commands, for the reader.
 pub mod Commands

@@ -1,2 +1,2 @@
--- The definitions of this crate.
+-- The commands of a book, as they stand in its bytes.
 pub mod Commands

@@ -1,4 +1,4 @@
--- What the proofs of this crate share, and the laws for the layers above.
+-- The loop that fills records (Filled), and how the answers come to the outcome, by rules (ByRules) and by a book (Outcomes).
 pub mod Filled
 pub mod ByRules
 pub mod Outcomes

@@ -1,5 +1,6 @@
 // Lexing by a book's bytes, open to every caller: it asks nothing and refuses what is unfit.
-// The tables are locals of the call, lent as arrays to functions that pass them on as slices.
+// The tables are locals of the call, lent as arrays to functions that pass them on as slices. `by_rules` cuts by rules that lent tables
+// hold, `filling` stores the records.
 pub mod by_rules;
 pub mod filling;
 

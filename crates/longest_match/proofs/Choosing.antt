@@ -11,9 +11,9 @@ use lib.Seq.{take-append-add, take-append-seam, drop-append-seam}
 use Rattle.automaton.specs.Choice.{All}
 use Rattle.automaton.specs.Rule.{Rule, matches}
 use Rattle.automaton.proofs.Tests.{clash, or-false}
-use Rattle.longest_match.specs.Lexer.{Found, or, found, isSome, firstMatch, grow, choose, extends, Alone}
+use Rattle.longest_match.specs.Lexer.{Found, or, found, isSome, firstMatch, choose, extends, Alone}
 use Rattle.longest_match.proofs.First.{nothing, none-of, Earliest, earliest, unmatched}
-use Rattle.longest_match.proofs.Longest.{choose-grow}
+use Rattle.longest_match.proofs.Longest.{grow, choose-grow}
 
 or-cases : {A : Type 0} (x y : Option A) (a : A) → or x y ≡ some a → (x ≡ some a) ⊎ ((x ≡ none) × (y ≡ some a))
 or-cases (some b) y a e = inl e

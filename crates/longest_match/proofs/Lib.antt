@@ -1,4 +1,5 @@
--- What the proofs of this crate share, and the laws for the layers above.
+-- The choice of a token and the cut: the laws that every layer above cites (First, Longest, Choosing, Lexing, Held, Parts), and the loops
+-- of this crate (Picking, Cutting).
 pub mod First
 pub mod Longest
 pub mod Choosing

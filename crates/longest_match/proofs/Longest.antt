@@ -5,8 +5,14 @@ use mathlib.Core.List.{List, [], _∷_, _++_, append-assoc}
 use Prim.Native.Nat.{ℕ, zero, suc}
 use lib.ListN.{length, take, drop}
 use Rattle.automaton.specs.Rule.{Rule}
-use Rattle.longest_match.specs.Lexer.{Found, or, found, firstMatch, grow, chooseWithin, choose}
+use Rattle.longest_match.specs.Lexer.{Found, or, found, firstMatch, chooseWithin, choose}
 use Rattle.longest_match.proofs.First.{or-none, or-assoc}
+
+-- w with the most bytes of `after`, at least one, that some rule matches
+unfoldable pub grow : List Rule → List ℕ → List ℕ → Option Found
+grow rules w [] = none
+grow rules w (b ∷ after) =
+    or (grow rules (w ++ (b ∷ [])) after) (found (firstMatch rules (w ++ (b ∷ []))) (w ++ (b ∷ [])) after)
 
 -- `chooseWithin` behind bytes that are read already
 abbrev from : List Rule → List ℕ → ℕ → List ℕ → Option Found

@@ -81,12 +81,6 @@ unfoldable pub extends : List Rule → List ℕ → List ℕ → Bool
 extends rules w [] = false
 extends rules w (b ∷ after) = isSome (firstMatch rules (w ++ (b ∷ []))) || extends rules (w ++ (b ∷ [])) after
 
--- w with the most bytes of `after`, at least one, that some rule matches
-unfoldable pub grow : List Rule → List ℕ → List ℕ → Option Found
-grow rules w [] = none
-grow rules w (b ∷ after) =
-    or (grow rules (w ++ (b ∷ [])) after) (found (firstMatch rules (w ++ (b ∷ []))) (w ++ (b ∷ [])) after)
-
 -- "A token alone is cut as itself": a rule of its tag matches its bytes and no earlier rule does
 abbrev pub Alone : List Rule → Token → Type 0
 Alone rules t = firstMatch rules t.bytes ≡ some t.tag

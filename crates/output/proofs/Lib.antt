@@ -1,3 +1,3 @@
--- What the proofs of this crate share, and the laws for the layers above.
+-- The loop of `copy` (Copying), and bytes put in front of others (Placing).
 pub mod Copying
 pub mod Placing

@@ -9,7 +9,7 @@ use Rattle.output.specs.declared.Placed.{Placed}
 use Rattle.output.specs.declared.Placed.the-variants as placed
 use Rattle.answer.specs.declared.PrintAnswer.the-variants as answer
 
--- ---- What putting bytes in front answers.
+-- ---- in front of what is written
 
 -- the bytes stand from `start` to the end of the scratch
 pub record Stand (start : ℕ) (bytes scratch : List ℕ) : Type 0 where
@@ -21,8 +21,9 @@ pub record Stands (p : Placed) (bytes scratch : List ℕ) : Type 0 where
   pub at : (start : ℕ) → p ≡ placed.At start → Stand start bytes scratch
   pub full : p ≡ placed.Full → length scratch < length bytes
 
--- ---- 22 where the output is too short, and nothing written; else the bytes, and every byte past them as it was.
+-- ---- to the output
 
+-- 22 where the output is too short, and nothing written; else the bytes, and every byte past them as it was
 pub record WritesOut (scratch : List ℕ) (at total : ℕ) (out : List ℕ) (r : PrintAnswer) (exit : List ℕ) : Type 0 where
   pub lacks : length out < total → (r ≡ answer.Refused (record { number = 22; place = total })) × (exit ≡ out)
   pub prints : total ≤ length out → (r ≡ answer.Printed total) × (exit ≡ paste out 0 (drop at scratch) total)

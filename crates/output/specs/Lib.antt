@@ -1,2 +1,2 @@
--- The definitions of this crate.
+-- What putting bytes leaves.
 pub mod Contracts

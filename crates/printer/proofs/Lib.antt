@@ -1,4 +1,5 @@
--- What the proofs of this crate share, and the laws for the layers above.
+-- The rehearsal (Rehearsing), how the answers come to the outcome (ByRules, Outcomes), and demand 3 of it (Accepting, ReadBack,
+-- RoundTrip).
 pub mod Rehearsing
 pub mod ByRules
 pub mod Outcomes

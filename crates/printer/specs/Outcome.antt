@@ -1,5 +1,4 @@
--- The paper's plain writing: from the rules, the records, their pool and the lent output to the answer and what the output holds
--- afterwards.
+-- "Plain writing" of document 01, as a function from what a call is lent to what it answers and leaves behind.
 use mathlib.Core.Bool.{Bool, true, false}
 use mathlib.Core.Option.{Option, none, some}
 use mathlib.Core.List.{List, _++_}
@@ -41,6 +40,8 @@ unfoldable pub unless : Option Refusal → List ℕ → PrintOutcome → PrintOu
 unless (some f) out next = record { answer = answer.Refused f; out = out }
 unless none out next = next
 
+-- ---- by rules
+
 -- 20, 21, 22, then the tokens' bytes joined
 unfoldable pub printChecked : List Rule → List Token → List ℕ → PrintOutcome
 printChecked rules tokens out =
@@ -56,8 +57,7 @@ printRules rules records pool out =
     (unless (firstFault (faultOf rules pool) (recordsOf records) 0) out
     (printChecked rules (tokensOf records pool) out))
 
--- ---- The paper's plain writing, as a whole: from the book's bytes, the records, their pool and the lent output to the answer and what
--- the output holds afterwards.
+-- ---- by a book
 
 -- the book's refusals first
 abbrev pub printReading : Reading → List ℕ → List ℕ → List ℕ → PrintOutcome

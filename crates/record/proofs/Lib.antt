@@ -1,3 +1,3 @@
--- What the proofs of this crate share, and the laws for the layers above.
+-- Records stored, counted and read back (Records), and those of a slice (Encoding).
 pub mod Records
 pub mod Encoding

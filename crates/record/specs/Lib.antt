@@ -1,4 +1,5 @@
--- The definitions of this crate.
+-- The ten bytes of a record (Records), the list that records say with a pool (Tokens), the records that a slice of structs says
+-- (Encoding), and what the layers of the code ask (Contracts).
 pub mod Tokens
 pub mod Records
 pub mod Encoding

@@ -1,11 +1,10 @@
 -- The checks of the code: the search for a separator rule, the faults of tokens, the passes over a list. Assumes nothing.
-use mathlib.Core.Path.{_≡_, refl, sym, ap, _∙_}
+use mathlib.Core.Path.{_≡_, refl, sym, _∙_}
 use mathlib.Core.Bool.{Bool, true, false, _&&_}
 use mathlib.Core.Option.{Option, none, some}
 use mathlib.Core.List.{List, [], _∷_}
 use Prim.Native.Nat.{ℕ, zero, suc, _+_, _<_, _≤_}
 use native.Mathlib.Omega.{arith}
-use native.Mathlib.Numerals.{add-one}
 use lib.Dec.{eqb}
 use lib.ListN.{length, getD}
 use borrow.Author.Count.{below-more}
@@ -21,7 +20,7 @@ use Rattle.longest_match.specs.Contracts.{Holds}
 use Rattle.longest_match.proofs.Held.{table-at}
 use Rattle.record.specs.Records.{recordCount}
 use Rattle.record.specs.declared.TokenRecord.{TokenRecord}
-use Rattle.record.specs.Tokens.{recordAt, recordsOf}
+use Rattle.record.specs.Tokens.{recordsOf}
 use Rattle.token_list.specs.Faults.{faultOf}
 use Rattle.token_list.specs.Checks.{refuse, refuseBy, firstFault}
 use Rattle.used_bytes.specs.Kinds.{separatorKind, separates}

@@ -4,7 +4,6 @@ use mathlib.Core.Option.{none}
 use mathlib.Core.Path.{_≡_}
 use mathlib.Core.List.{List}
 use Prim.Native.Nat.{ℕ}
-use Rattle.automaton.specs.Choice.{if}
 use Rattle.automaton.specs.Rule.{Rule}
 use Rattle.longest_match.specs.Contracts.{Holds, Held}
 use Rattle.record.specs.declared.TokenRecord.{TokenRecord}
@@ -14,8 +13,6 @@ use Rattle.separated.specs.Refusals.{separatedRefusal}
 abbrev pub differs : Bool → Bool → Bool
 differs true kind = not kind
 differs false kind = kind
-
--- ---- What the parts of the code answer, said of the rules that the tables hold.
 
 -- the call is not refused before anything is put together, whichever rules the tables hold
 pub record Passed (hs ss es : List ℕ) (n : ℕ) (sep : TokenRecord) (mode : ℕ) (records pool : List ℕ) : Type 0 where

@@ -1,5 +1,5 @@
 // Printing a list of plain tokens with separators between them, the paper's spacing writing. Tokens and separators are put together in
-// a scratch of the call's own, so that the output stands as it was where the list is refused.
+// a scratch of the call's own, so that the output stands as it was where the list is refused. `checks` has what is refused before that.
 pub mod checks;
 
 use answer::BookAnswer;

@@ -1,5 +1,5 @@
--- What the proofs of this crate share: to walk code by hand (Tests, Arrays, Tables, Locals), of lexing (Opening, Starting, Storing),
--- of printing (Passes, Staging).
+-- What walks by hand over a slice share (Tests, Arrays, Tables, Locals), and the loops of lexing (Opening, Starting, Storing) and of
+-- printing (Passes, Staging).
 pub mod Tests
 pub mod Arrays
 pub mod Tables

@@ -1,6 +1,6 @@
 -- The first and the third pass of `print_tokens` over the records that the tokens say: faults found and bytes counted; what reads on.
 -- The second is token_list's `Joining`. Assumes nothing.
-use mathlib.Core.Path.{_≡_, refl, sym, ap, _∙_, subst}
+use mathlib.Core.Path.{_≡_, sym, ap, _∙_, subst}
 use mathlib.Core.Option.{none, some}
 use mathlib.Core.List.{List, [], _∷_, _++_}
 use Prim.Native.Nat.{ℕ, suc, _+_, _*_, _<_, _≤_}

@@ -36,7 +36,8 @@ use Rattle.printer.proofs.Rehearsing.{spanned-fitting, spanned-laid}
 use Rattle.printer.proofs.ByRules.{answered-long, answered-extended, answered-many, answered-fault, answered-checked, clean-written}
 use Rattle.printer.proofs.Outcomes.{answered-book, answered-refused}
 use Rattle.slices.specs.declared.printing.Stage.{Stage}
-use Rattle.slices.specs.Contracts.{going, done, refusedStage, passOver, movedOn, Steps, Stepped, firstStage, begun, Begins, Finishes, checked}
+use Rattle.slices.specs.Contracts.{going, done, refusedStage, passOver, movedOn, checked, firstStage, begun}
+use Rattle.slices.specs.Contracts.{Steps, Stepped, Begins, Finishes}
 use Rattle.slices.proofs.Passes.{Measuring, measuring-start, measuring-refused, measuring-next, measuring-end}
 use Rattle.slices.proofs.Passes.{Extending, extending-start, extending-found, extending-next, extending-end}
 use Rattle.answer.specs.declared.BookAnswer.the-variants as book

@@ -1,4 +1,4 @@
--- What the proofs of this crate share, and the laws for the layers above.
+-- Whether a separator is due (Due), a list with its separators from a record on (Separated), and the loop that puts it (Putting).
 pub mod Due
 pub mod Separated
 pub mod Putting

@@ -11,7 +11,7 @@ use Rattle.longest_match.specs.Contracts.{Holds, Held}
 use Rattle.record.specs.declared.TokenRecord.{TokenRecord}
 use Rattle.record.specs.Tokens.{recordsOf, tokenIn, InPool}
 
--- ---- What the code asks of the text behind a token.
+-- ---- whether a separator is due
 
 -- nothing is behind
 abbrev pub isLast : List Token → Bool
@@ -25,7 +25,7 @@ pub record Ahead (rules : List Rule) (t : Token) (us : List Token) (len : ℕ) (
   pub alone : Alone rules t
   pub ends : last ≡ isLast us
 
--- ---- What putting a list together asks, said of the rules that the tables hold.
+-- ---- putting a list together
 
 -- the separator and the tokens lie in the pool, and every token is cut as itself alone, whichever rules the tables hold
 pub record Spaceable (hs ss es : List ℕ) (n : ℕ) (sep : TokenRecord) (records pool : List ℕ) : Type 0 where

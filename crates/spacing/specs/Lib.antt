@@ -1,3 +1,3 @@
--- The definitions of this crate.
+-- Where separators are put (Separators), and what the layers of the code ask (Contracts).
 pub mod Separators
 pub mod Contracts

@@ -1,4 +1,4 @@
-// Where separators are put: whether one follows a token.
+// Where separators are put: whether one follows a token. `spelling` puts a list together with them.
 pub mod spelling;
 
 ghost use mathlib.Core.Path.{_≡_};

@@ -1,4 +1,4 @@
--- What the proofs of this crate share, and the laws for the layers above.
+-- One token alone (Alone, Faulting), read on or not (Extended), and the loops over a list (Passes, Settling).
 pub mod Alone
 pub mod Faulting
 pub mod Extended

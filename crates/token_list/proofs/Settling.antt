@@ -1,21 +1,20 @@
 -- The loops of `measure` and `read_back`: what holds at their heads, how a turn keeps it, and how they end. Assumes nothing.
-use mathlib.Core.Path.{_≡_, refl, sym, ap, _∙_, subst}
-use mathlib.Core.Bool.{Bool, true, false}
-use mathlib.Core.Option.{Option, none, some}
+use mathlib.Core.Path.{_≡_, sym, ap, _∙_, subst}
+use mathlib.Core.Bool.{true}
+use mathlib.Core.Option.{none, some}
 use mathlib.Core.List.{List, [], _∷_, _++_}
 use Prim.Native.Nat.{ℕ, _+_, _<_, _≤_}
 use native.Mathlib.Omega.{arith}
 use native.Mathlib.Numerals.{add-one}
 use lib.ListN.{length, drop, length-append, length-drop}
 use lib.Seq.{drop-drop, drop-at}
-use Rattle.answer.specs.declared.Refusal.{Refusal}
 use Rattle.automaton.specs.Choice.{All}
 use Rattle.automaton.specs.Rule.{Rule}
 use Rattle.automaton.proofs.Tests.{clash}
 use Rattle.book.specs.Limits.{maxText}
 use Rattle.book.specs.Contracts.{Ranks}
 use Rattle.book.proofs.Ranking.{ranks-none, ranks-some}
-use Rattle.longest_match.specs.Lexer.{firstMatch, extends, join}
+use Rattle.longest_match.specs.Lexer.{firstMatch, join}
 use Rattle.longest_match.specs.Contracts.{Chooses}
 use Rattle.longest_match.proofs.First.{nothing}
 use Rattle.record.specs.Records.{recordCount}

@@ -1,5 +1,5 @@
-// A list of tokens as a caller lends it, records that point into a byte pool: the faults of its tokens, its bytes joined, and whether it
-// is read back from them.
+// A list of tokens as a caller lends it, records that point into a byte pool: its bytes joined, the first token at fault (`faults` has the
+// fault of one), and whether it is read back (`readback`).
 pub mod faults;
 pub mod readback;
 

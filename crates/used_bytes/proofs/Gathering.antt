@@ -17,8 +17,8 @@ use Rattle.automaton.specs.Contracts.{lowOf, highOf, toOf, nextOf, Chain, Chain
 use Rattle.automaton.proofs.Tests.{and-false-right}
 use Rattle.automaton.proofs.Chains.{At}
 use Rattle.used_bytes.specs.Kinds.{plainKind, separatorKind}
-use Rattle.used_bytes.specs.Contracts.{between}
-use Rattle.used_bytes.specs.Bytes.{lowestFrom, leads, usedByKind, shared, sharedByte}
+use Rattle.used_bytes.specs.Contracts.{between, leads}
+use Rattle.used_bytes.specs.Bytes.{lowestFrom, usedByKind, shared, sharedByte}
 
 -- ---- one chain
 

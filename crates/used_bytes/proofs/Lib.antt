@@ -1,3 +1,3 @@
--- What the proofs of this crate share, and the laws for the layers above.
+-- Marks of a set (Marking), and the used bytes gathered from the tables (Gathering).
 pub mod Marking
 pub mod Gathering

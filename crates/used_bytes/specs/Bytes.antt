@@ -1,23 +1,12 @@
-use mathlib.Core.Bool.{Bool, not, _&&_}
+-- The bytes that rules use, and refusal 23: "a byte used by both a plain and a separator rule (place: the lowest)".
+use mathlib.Core.Bool.{Bool, _&&_}
 use mathlib.Core.Option.{Option, none, some}
 use mathlib.Core.List.{List}
 use Prim.Native.Nat.{ℕ, zero, suc}
 use lib.Dec.{eqb}
 use Rattle.automaton.specs.Choice.{if, any}
-use Rattle.automaton.specs.Rule.{Transition, Rule, covers, used}
+use Rattle.automaton.specs.Rule.{Rule, used}
 use Rattle.used_bytes.specs.Kinds.{plainKind, separatorKind}
-use Rattle.used_bytes.specs.declared.byteset.Lowest.the-variants as lowest
-
--- the lowest of the n bytes from b on of which f holds
-unfoldable pub lowestFrom : (ℕ → Bool) → ℕ → ℕ → Option ℕ
-lowestFrom f b zero = none
-lowestFrom f b (suc n) = if (f b) (some b) (lowestFrom f (suc b) n)
-
--- ---- The bytes that rules use, and refusal 23: "a byte used by both a plain and a separator rule (place: the lowest)".
-
--- the transition covers the byte on its way to a state other than the error state
-abbrev pub leads : ℕ → ℕ → Transition → Bool
-leads error b t = covers t b && not (eqb t.to error)
 
 -- some rule of the kind uses the byte
 unfoldable pub usedByKind : ℕ → List Rule → ℕ → Bool
@@ -25,6 +14,11 @@ usedByKind kind rules b = any (λ (r : Rule). eqb r.kind kind && used r b) rules
 
 unfoldable pub shared : List Rule → ℕ → Bool
 shared rules b = usedByKind plainKind rules b && usedByKind separatorKind rules b
+
+-- the lowest of the n bytes from b on of which f holds
+unfoldable pub lowestFrom : (ℕ → Bool) → ℕ → ℕ → Option ℕ
+lowestFrom f b zero = none
+lowestFrom f b (suc n) = if (f b) (some b) (lowestFrom f (suc b) n)
 
 unfoldable pub sharedByte : List Rule → Option ℕ
 sharedByte rules = lowestFrom (shared rules) 0 256

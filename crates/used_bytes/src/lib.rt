@@ -1,4 +1,4 @@
-// The used bytes of the rules that the tables hold, and refusal 23.
+// The used bytes of the rules that the tables hold, and refusal 23. `byteset` has the set of bytes.
 pub mod byteset;
 
 use crate::byteset::ByteSet;
@@ -12,8 +12,8 @@ ghost use Rattle.automaton.specs.Choice.{any};
 ghost use Rattle.automaton.specs.Rule.{Transition, Rule, used};
 ghost use Rattle.automaton.specs.Contracts.{Chain, Chained, Table, Tabled};
 ghost use Rattle.longest_match.specs.Contracts.{Holds, Held};
-ghost use Rattle.used_bytes.specs.Contracts.{mark, lowestOf};
-ghost use Rattle.used_bytes.specs.Bytes.{leads, usedByKind, sharedByte};
+ghost use Rattle.used_bytes.specs.Contracts.{mark, lowestOf, leads};
+ghost use Rattle.used_bytes.specs.Bytes.{usedByKind, sharedByte};
 
 // The set with the ranges of the chain's transitions to states other than the error state.
 fn with_chain(edges: &[u64], head: usize, error: u64, set: ByteSet) -> ByteSet

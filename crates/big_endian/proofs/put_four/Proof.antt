@@ -1,6 +1,4 @@
 -- `put_four`: the upper two bytes, then the lower two. Assumes nothing.
-use mathlib.Core.Path.{_∙_}
-use Prim.Native.Nat.{_+_}
 use denote.Ref.{now}
 use Rattle.big_endian.specs.Numbers.{two}
 use Rattle.big_endian.proofs.Numbers.{four-stored}

@@ -30,11 +30,11 @@ same-length-2 c = search needs
 
 returns : tie.Need-returns
 returns c =
-    let start =
-        c .before .before .before .before .before .before .before .before .before .before .before .before .before .before .before .before .before in
+    let call = c .before .before .before .before .before .before .before .before .before in
+    let start = call .before .before .before .before .before .before .before .before in
     λ rs h. answered-passed rs (start .args .separator) (start .args .mode) (now (start .args .records)) (now (start .args .pool)) _
         (sym (c .before .before .before .before .before .before .before .enum-told .given .1)
-        ∙ c .before .before .before .before .before .before .before .before .before .check-call .ensures rs h)
+        ∙ call .check-call .ensures rs h)
         (c .before .before .before .before .print-passed .ensures rs h)
 
 returns-2 : tie.Need-returns-2

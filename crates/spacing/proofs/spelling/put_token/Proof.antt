@@ -29,10 +29,9 @@ is-due-requires c κs =
 
 put-both-requires : tie.Need-put-both-requires
 put-both-requires c κs =
-    let start =
-        c .before .before .before .before .before .before .before .before .before .before .before .before .before .before .before .before .before in
-    (start .pre .1 .0, (start .pre .1 .1 .0, omega (arith,
-        c .before .before .before .before .before .before .before .before .before .before .put-token .kept, start .pre .1 .1 .1)))
+    let placed = c .before .before .before .before .before .before .before .before .before .before in
+    let start = placed .before .before .before .before .before .before .before in
+    (start .pre .1 .0, (start .pre .1 .1 .0, omega (arith, placed .put-token .kept, start .pre .1 .1 .1)))
 
 same-length : tie.Need-same-length
 same-length c = search needs
