@@ -56,16 +56,4 @@ returns-2 c = along-end (c .before .loop .inv) (c .loop-test .left) (pick-none _
 
 pub step-spec : {M : Type 1} → statement M
 step-spec =
-    tie.close
-    (tie.spec
-    Inv-loop
-    μ-loop
-    loop-holds
-    sub-e
-    mul-e
-    shared-slice-read-e
-    covers-requires
-    returns
-    loop-less
-    loop-again
-    returns-2)
+    tie.close (tie.spec Inv-loop μ-loop loop-holds sub-e mul-e shared-slice-read-e covers-requires returns loop-less loop-again returns-2)

@@ -25,5 +25,4 @@ returns c =
         (four-stored (now (a .bytes)) (a .at) (a .n))
 
 pub put-four-spec : {M : Type 1} → statement M
-put-four-spec =
-    tie.close (tie.spec put-two-requires add-put-two put-two-requires-2 same-length returns)
+put-four-spec = tie.close (tie.spec put-two-requires add-put-two put-two-requires-2 same-length returns)

@@ -29,12 +29,4 @@ returns c = rw add-one
 
 pub put-two-spec : {M : Type 1} → statement M
 put-two-spec =
-    tie.close
-    (tie.spec
-    cast-bytes
-    slice-write-bytes
-    cast-bytes-2
-    add-bytes
-    slice-write-bytes-2
-    same-length
-    returns)
+    tie.close (tie.spec cast-bytes slice-write-bytes cast-bytes-2 add-bytes slice-write-bytes-2 same-length returns)

@@ -33,13 +33,4 @@ returns c =
 
 pub read-four-spec : {M : Type 1} → statement M
 read-four-spec =
-    tie.close
-    (tie.spec
-    read-two-requires
-    cast-result
-    mul-result
-    add-read-two
-    read-two-requires-2
-    cast-result-2
-    add-result
-    returns)
+    tie.close (tie.spec read-two-requires cast-result mul-result add-read-two read-two-requires-2 cast-result-2 add-result returns)

@@ -32,13 +32,5 @@ returns c = search needs
 
 pub read-two-spec : {M : Type 1} → statement M
 read-two-spec =
-    tie.close
-    (tie.spec
-    shared-slice-read-result
-    cast-result
-    mul-result
-    add-result
-    shared-slice-read-result-2
-    cast-result-2
-    add-result-2
+    tie.close (tie.spec shared-slice-read-result cast-result mul-result add-result shared-slice-read-result-2 cast-result-2 add-result-2
     returns)

@@ -48,16 +48,4 @@ returns-2 c = ranking-end (c .before .loop .inv) (c .loop-test .left)
 
 pub find-tag-spec : {M : Type 1} → statement M
 find-tag-spec =
-    tie.close
-    (tie.spec
-    Inv-loop
-    μ-loop
-    loop-holds
-    mul-h
-    shared-slice-read-h
-    tag-of-requires
-    returns
-    add-k
-    loop-less
-    loop-again
-    returns-2)
+    tie.close (tie.spec Inv-loop μ-loop loop-holds mul-h shared-slice-read-h tag-of-requires returns add-k loop-less loop-again returns-2)

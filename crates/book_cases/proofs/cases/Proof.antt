@@ -49,19 +49,5 @@ returns c = search needs
 
 pub cases-spec : {M : Type 1} → statement M
 cases-spec =
-    tie.close
-    (tie.spec
-    Inv-loop
-    μ-loop
-    loop-holds
-    add-i
-    sub-get
-    get-requires
-    sub-line
-    line-requires
-    loop-less
-    loop-again
-    loop-less-2
-    loop-again-2
-    same-length
-    returns)
+    tie.close (tie.spec Inv-loop μ-loop loop-holds add-i sub-get get-requires sub-line line-requires loop-less loop-again loop-less-2
+    loop-again-2 same-length returns)

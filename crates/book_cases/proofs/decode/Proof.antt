@@ -55,21 +55,5 @@ returns-2 c = search needs
 
 pub decode-spec : {M : Type 1} → statement M
 decode-spec =
-    tie.close
-    (tie.spec
-    Inv-loop
-    μ-loop
-    loop-holds
-    get-requires
-    next-digits-requires
-    add-i
-    cast-put
-    put-requires
-    loop-less
-    loop-again
-    loop-less-2
-    loop-again-2
-    same-length
-    returns
-    same-length-2
-    returns-2)
+    tie.close (tie.spec Inv-loop μ-loop loop-holds get-requires next-digits-requires add-i cast-put put-requires loop-less loop-again
+    loop-less-2 loop-again-2 same-length returns same-length-2 returns-2)

@@ -40,16 +40,5 @@ returns c = search needs
 
 pub fill-spec : {M : Type 1} → statement M
 fill-spec =
-    tie.close
-    (tie.spec
-    Inv-loop
-    μ-loop
-    loop-holds
-    sub-book-byte
-    book-byte-requires
-    put-requires
-    add-i
-    loop-less
-    loop-again
-    same-length
+    tie.close (tie.spec Inv-loop μ-loop loop-holds sub-book-byte book-byte-requires put-requires add-i loop-less loop-again same-length
     returns)

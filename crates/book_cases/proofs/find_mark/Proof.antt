@@ -36,15 +36,4 @@ returns-2 c = search needs
 
 pub find-mark-spec : {M : Type 1} → statement M
 find-mark-spec =
-    tie.close
-    (tie.spec
-    Inv-loop
-    μ-loop
-    loop-holds
-    get-requires
-    is-mark-requires
-    returns
-    add-i
-    loop-less
-    loop-again
-    returns-2)
+    tie.close (tie.spec Inv-loop μ-loop loop-holds get-requires is-mark-requires returns add-i loop-less loop-again returns-2)

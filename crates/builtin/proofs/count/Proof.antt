@@ -62,15 +62,4 @@ returns-2 c = cutting-stop (c .before .loop .inv) (lex-end builtinRules _ _ (end
 
 pub count-spec : {M : Type 1} → statement M
 count-spec =
-    tie.close
-    (tie.spec
-    Inv-loop
-    μ-loop
-    loop-holds
-    scan-at-requires
-    returns
-    add-tokens
-    add-at
-    loop-less
-    loop-again
-    returns-2)
+    tie.close (tie.spec Inv-loop μ-loop loop-holds scan-at-requires returns add-tokens add-at loop-less loop-again returns-2)

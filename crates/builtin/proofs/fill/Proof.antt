@@ -83,18 +83,5 @@ returns-2 c = let e = lex-end builtinRules _ _ (ended c) in
 
 pub fill-spec : {M : Type 1} → statement M
 fill-spec =
-    tie.close
-    (tie.spec
-    Inv-loop
-    μ-loop
-    loop-holds
-    scan-at-requires
-    same-length
-    returns
-    put-record-requires
-    add-tokens
-    add-place
-    loop-less
-    loop-again
-    same-length-2
-    returns-2)
+    tie.close (tie.spec Inv-loop μ-loop loop-holds scan-at-requires same-length returns put-record-requires add-tokens add-place loop-less
+    loop-again same-length-2 returns-2)

@@ -28,11 +28,4 @@ returns c = let e = builtin-outcome
 
 pub lex-builtin-spec : {M : Type 1} → statement M
 lex-builtin-spec =
-    tie.close
-    (tie.spec
-    classes-requires
-    next-states-requires
-    tags-requires
-    lex-lent-requires
-    same-length
-    returns)
+    tie.close (tie.spec classes-requires next-states-requires tags-requires lex-lent-requires same-length returns)

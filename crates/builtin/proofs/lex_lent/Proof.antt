@@ -58,13 +58,4 @@ returns-3 c =
 
 pub lex-lent-spec : {M : Type 1} → statement M
 lex-lent-spec =
-    tie.close
-    (tie.spec
-    refused-requires
-    returns
-    count-requires
-    refused-requires-2
-    returns-2
-    fill-requires
-    same-length
-    returns-3)
+    tie.close (tie.spec refused-requires returns count-requires refused-requires-2 returns-2 fill-requires same-length returns-3)

@@ -129,37 +129,7 @@ returns-8 c = rw (ne-eqb _ _ (c .match .rest .0 .0 .0 .0 .0 .0 .1), ne-eqb _ _ (
 
 pub command-of-spec : {M : Type 1} → statement M
 command-of-spec =
-    tie.close
-    (tie.spec
-    add-read-two
-    read-two-requires
-    add-t7
-    shared-slice-read-t9
-    add-t10
-    shared-slice-read-t12
-    add-t13
-    shared-slice-read-t15
-    add-t16
-    shared-slice-read-t18
-    add-t19
-    shared-slice-read-t21
-    add-t22
-    shared-slice-read-t24
-    add-t25
-    shared-slice-read-t27
-    add-t28
-    shared-slice-read-t30
-    add-t31
-    shared-slice-read-t33
-    add-t34
-    shared-slice-read-t36
-    add-t37
-    shared-slice-read-t39
-    returns
-    returns-2
-    returns-3
-    returns-4
-    returns-5
-    returns-6
-    returns-7
-    returns-8)
+    tie.close (tie.spec add-read-two read-two-requires add-t7 shared-slice-read-t9 add-t10 shared-slice-read-t12 add-t13
+    shared-slice-read-t15 add-t16 shared-slice-read-t18 add-t19 shared-slice-read-t21 add-t22 shared-slice-read-t24 add-t25
+    shared-slice-read-t27 add-t28 shared-slice-read-t30 add-t31 shared-slice-read-t33 add-t34 shared-slice-read-t36 add-t37
+    shared-slice-read-t39 returns returns-2 returns-3 returns-4 returns-5 returns-6 returns-7 returns-8)

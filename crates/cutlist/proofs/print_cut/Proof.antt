@@ -72,22 +72,7 @@ returns c = search needs
 
 pub print-cut-spec : {M : Type 1} → statement M
 print-cut-spec =
-    tie.close
-    (tie.spec
-    slice-aggregate-read-file
-    read-file-requires
-    slice-aggregate-read-file-2
-    read-file-requires-2
-    slice-reshare-prefix-list
-    slice-aggregate-list
-    slice-reshare-prefix-list-2
-    slice-aggregate-list-2
-    list-requires
-    slice-reshare-prefix-write-all
-    slice-aggregate-write-all
-    write-all-requires
-    same-length
-    same-length-2
-    same-length-3
-    same-length-4
+    tie.close (tie.spec slice-aggregate-read-file read-file-requires slice-aggregate-read-file-2 read-file-requires-2
+    slice-reshare-prefix-list slice-aggregate-list slice-reshare-prefix-list-2 slice-aggregate-list-2 list-requires
+    slice-reshare-prefix-write-all slice-aggregate-write-all write-all-requires same-length same-length-2 same-length-3 same-length-4
     returns)

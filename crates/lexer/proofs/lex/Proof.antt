@@ -37,12 +37,4 @@ returns-2 c =
 
 pub lex-spec : {M : Type 1} → statement M
 lex-spec =
-    tie.close
-    (tie.spec
-    load-arrays-requires
-    enum-known-rules
-    lex-arrays-requires
-    enum-known-refusal
-    same-length
-    returns
-    returns-2)
+    tie.close (tie.spec load-arrays-requires enum-known-rules lex-arrays-requires enum-known-refusal same-length returns returns-2)

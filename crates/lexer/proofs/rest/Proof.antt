@@ -20,5 +20,4 @@ returns : tie.Need-returns
 returns c = rest-part (c .before .rest-place .ensures)
 
 pub rest-spec : {M : Type 1} → statement M
-rest-spec =
-    tie.close (tie.spec rest-place-requires sub-result part-result-start part-result-end returns)
+rest-spec = tie.close (tie.spec rest-place-requires sub-result part-result-start part-result-end returns)

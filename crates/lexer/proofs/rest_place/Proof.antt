@@ -29,11 +29,4 @@ returns-2 c = rest-refused (c .before .before .load-arrays .ensures) (c .enum-to
 
 pub rest-place-spec : {M : Type 1} → statement M
 rest-place-spec =
-    tie.close
-    (tie.spec
-    load-arrays-requires
-    enum-known-rules
-    rest-arrays-requires
-    enum-told
-    returns
-    returns-2)
+    tie.close (tie.spec load-arrays-requires enum-known-rules rest-arrays-requires enum-told returns returns-2)

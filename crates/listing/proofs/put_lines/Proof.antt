@@ -48,6 +48,6 @@ returns-2 c =
     puts-refused (l .before .before .before .before .before .answer2 .given .1) _ _ (l .put-line2 .ensures)
 
 pub put-lines-spec : {M : Type 1} → statement M
-put-lines-spec = tie.close (tie.spec (λ c. search needs) put-records-requires (λ c. search needs) sub-put-line
-    put-line-requires (λ c. search needs) (λ c. search needs) (λ c. search needs) put-line-requires-2 (λ c. search needs)
-    returns (λ c. search needs) returns-2)
+put-lines-spec =
+    tie.close (tie.spec (λ c. search needs) put-records-requires (λ c. search needs) sub-put-line put-line-requires (λ c. search needs)
+    (λ c. search needs) (λ c. search needs) put-line-requires-2 (λ c. search needs) returns (λ c. search needs) returns-2)

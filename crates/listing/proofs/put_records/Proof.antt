@@ -35,5 +35,6 @@ returns : tie.Need-returns Inv-loop μ-loop
 returns c = going-end (c .before .loop .inv) (c .before .before .before .before .pre .1) (c .loop-test .left)
 
 pub put-records-spec : {M : Type 1} → statement M
-put-records-spec = tie.close (tie.spec Inv-loop μ-loop loop-holds put-record-requires (λ c. omega arith) (λ c. omega arith)
-    loop-again same-length returns)
+put-records-spec =
+    tie.close (tie.spec Inv-loop μ-loop loop-holds put-record-requires (λ c. omega arith) (λ c. omega arith) loop-again same-length
+    returns)

@@ -25,6 +25,4 @@ returns c = λ rs t h e.
     subst (λ (x : List ℕ). Chooses rs x (c .choose-of .result .rule) (c .choose-of .result .len)) e (c .choose-of .ensures rs h)
 
 pub choose-spec : {M : Type 1} → statement M
-choose-spec =
-    tie.close
-    (tie.spec sub-choose-of part-choose-of-start part-choose-of-end choose-of-requires returns)
+choose-spec = tie.close (tie.spec sub-choose-of part-choose-of-start part-choose-of-end choose-of-requires returns)

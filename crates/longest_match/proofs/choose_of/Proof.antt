@@ -56,15 +56,4 @@ returns c = λ rs h.
 
 pub choose-of-spec : {M : Type 1} → statement M
 choose-of-spec =
-    tie.close
-    (tie.spec
-    Inv-loop
-    μ-loop
-    loop-holds
-    add-next
-    longest-prefix-requires
-    loop-less
-    loop-again
-    loop-less-2
-    loop-again-2
-    returns)
+    tie.close (tie.spec Inv-loop μ-loop loop-holds add-next longest-prefix-requires loop-less loop-again loop-less-2 loop-again-2 returns)

@@ -57,17 +57,5 @@ returns c = let e : c .before .loop .i ≡ c .before .before .args .len = omega 
 
 pub copy-spec : {M : Type 1} → statement M
 copy-spec =
-    tie.close
-    (tie.spec
-    Inv-loop
-    μ-loop
-    loop-holds
-    add-to
-    shared-slice-read-to
-    add-to-2
-    slice-write-to
-    add-i
-    loop-less
-    loop-again
-    same-length
-    returns)
+    tie.close (tie.spec Inv-loop μ-loop loop-holds add-to shared-slice-read-to add-to-2 slice-write-to add-i loop-less loop-again
+    same-length returns)

@@ -44,13 +44,4 @@ returns-2 c =
 
 pub put-both-spec : {M : Type 1} → statement M
 put-both-spec =
-    tie.close
-    (tie.spec
-    put-token-requires
-    enum-known-start
-    put-token-requires-2
-    enum-told
-    same-length
-    returns
-    same-length-2
-    returns-2)
+    tie.close (tie.spec put-token-requires enum-known-start put-token-requires-2 enum-told same-length returns same-length-2 returns-2)

@@ -190,45 +190,8 @@ returns-6 c = loaded-refused (going-stops (c .before .before .before .loop .inv)
 
 pub load-spec : {M : Type 1} → statement M
 load-spec =
-    tie.close
-    (tie.spec
-    Inv-loop
-    μ-loop
-    refused-requires
-    returns
-    new-requires
-    new-requires-2
-    loop-holds
-    command-requires
-    enum-told
-    refused-requires-2
-    same-length
-    same-length-2
-    same-length-3
-    returns-2
-    enum-told-2
-    refused-requires-3
-    same-length-4
-    same-length-5
-    same-length-6
-    returns-3
-    enum-known-command
-    apply-requires
-    enum-known-on
-    loop-less
-    loop-again
-    enum-known-rules
-    same-length-7
-    same-length-8
-    same-length-9
-    returns-4
-    enum-known-refusal
-    same-length-10
-    same-length-11
-    same-length-12
-    returns-5
-    refused-requires-4
-    same-length-13
-    same-length-14
-    same-length-15
-    returns-6)
+    tie.close (tie.spec Inv-loop μ-loop refused-requires returns new-requires new-requires-2 loop-holds command-requires enum-told
+    refused-requires-2 same-length same-length-2 same-length-3 returns-2 enum-told-2 refused-requires-3 same-length-4 same-length-5
+    same-length-6 returns-3 enum-known-command apply-requires enum-known-on loop-less loop-again enum-known-rules same-length-7
+    same-length-8 same-length-9 returns-4 enum-known-refusal same-length-10 same-length-11 same-length-12 returns-5 refused-requires-4
+    same-length-13 same-length-14 same-length-15 returns-6)

@@ -37,13 +37,4 @@ returns c =
 
 pub put-record-spec : {M : Type 1} → statement M
 put-record-spec =
-    tie.close
-    (tie.spec
-    mul-at
-    put-two-requires
-    add-put-four
-    put-four-requires
-    add-put-four-2
-    put-four-requires-2
-    same-length
-    returns)
+    tie.close (tie.spec mul-at put-two-requires add-put-four put-four-requires add-put-four-2 put-four-requires-2 same-length returns)

@@ -28,12 +28,4 @@ returns c = rw (c .before .before .read-two .ensures, c .before .read-four .ensu
 
 pub read-record-spec : {M : Type 1} → statement M
 read-record-spec =
-    tie.close
-    (tie.spec
-    mul-at
-    read-two-requires
-    add-read-four
-    read-four-requires
-    add-read-four-2
-    read-four-requires-2
-    returns)
+    tie.close (tie.spec mul-at read-two-requires add-read-four read-four-requires add-read-four-2 read-four-requires-2 returns)

@@ -55,15 +55,5 @@ returns-2 c =
 
 pub print-passed-spec : {M : Type 1} → statement M
 print-passed-spec =
-    tie.close
-    (tie.spec
-    put-list-requires
-    enum-known-at
-    write-from-requires
-    enum-told
-    refused-requires
-    same-length
-    same-length-2
-    returns
-    same-length-3
-    returns-2)
+    tie.close (tie.spec put-list-requires enum-known-at write-from-requires enum-told refused-requires same-length same-length-2 returns
+    same-length-3 returns-2)

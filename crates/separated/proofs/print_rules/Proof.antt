@@ -45,13 +45,5 @@ returns-2 c =
 
 pub print-rules-spec : {M : Type 1} → statement M
 print-rules-spec =
-    tie.close
-    (tie.spec
-    check-call-requires
-    enum-told
-    print-passed-requires
-    enum-known-refusal
-    same-length
-    same-length-2
-    returns
+    tie.close (tie.spec check-call-requires enum-told print-passed-requires enum-known-refusal same-length same-length-2 returns
     returns-2)

@@ -39,12 +39,4 @@ returns-2 c =
 
 pub print-separated-spec : {M : Type 1} → statement M
 print-separated-spec =
-    tie.close
-    (tie.spec
-    load-arrays-requires
-    enum-known-rules
-    print-arrays-requires
-    enum-known-refusal
-    same-length
-    returns
-    returns-2)
+    tie.close (tie.spec load-arrays-requires enum-known-rules print-arrays-requires enum-known-refusal same-length returns returns-2)

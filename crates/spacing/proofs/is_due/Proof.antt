@@ -33,6 +33,4 @@ returns-4 c = λ rs h t us a. due-no _ a (c .before .before .before .before .bef
     (c .before .before .choose .ensures rs _ h (part-end _ _)) (c .if3 .left)
 
 pub is-due-spec : {M : Type 1} → statement M
-is-due-spec =
-    tie.close
-    (tie.spec returns meaning-of-requires returns-2 choose-requires returns-3 returns-4)
+is-due-spec = tie.close (tie.spec returns meaning-of-requires returns-2 choose-requires returns-3 returns-4)

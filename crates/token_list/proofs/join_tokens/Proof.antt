@@ -60,18 +60,5 @@ returns c = joining-end (c .before .loop .inv) (c .loop-test .left)
 
 pub join-tokens-spec : {M : Type 1} → statement M
 join-tokens-spec =
-    tie.close
-    (tie.spec
-    Inv-loop
-    μ-loop
-    loop-holds
-    read-record-requires
-    cast-len
-    cast-copy
-    copy-requires
-    add-at
-    add-k
-    loop-less
-    loop-again
-    same-length
-    returns)
+    tie.close (tie.spec Inv-loop μ-loop loop-holds read-record-requires cast-len cast-copy copy-requires add-at add-k loop-less loop-again
+    same-length returns)

@@ -21,6 +21,4 @@ returns c = λ rs h. c .lowest-common .ensures ∙ ap lowestOf
     (c .before .before .used-by-kind .ensures rs h) (c .before .used-by-kind2 .ensures rs h))
 
 pub shared-byte-spec : {M : Type 1} → statement M
-shared-byte-spec =
-    tie.close
-    (tie.spec used-by-kind-requires used-by-kind-requires-2 lowest-common-requires returns)
+shared-byte-spec = tie.close (tie.spec used-by-kind-requires used-by-kind-requires-2 lowest-common-requires returns)

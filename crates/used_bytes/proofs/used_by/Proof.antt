@@ -73,21 +73,5 @@ returns c = λ m t. let e : c .before .loop .s ≡ 256 = omega arith in gathered
 
 pub used-by-spec : {M : Type 1} → statement M
 used-by-spec =
-    tie.close
-    (tie.spec
-    Inv-loop
-    μ-loop
-    mul-error
-    shared-slice-read-error
-    mul-base
-    empty-requires
-    loop-holds
-    add-cell
-    mul-cell
-    shared-slice-read-cell
-    cast-with-chain
-    with-chain-requires
-    add-s
-    loop-less
-    loop-again
-    returns)
+    tie.close (tie.spec Inv-loop μ-loop mul-error shared-slice-read-error mul-base empty-requires loop-holds add-cell mul-cell
+    shared-slice-read-cell cast-with-chain with-chain-requires add-s loop-less loop-again returns)

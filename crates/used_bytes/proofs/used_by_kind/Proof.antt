@@ -88,20 +88,5 @@ returns c = λ rs h. kinds-end (c .before .loop .inv .1 rs h) (omega (arith, h .
 
 pub used-by-kind-spec : {M : Type 1} → statement M
 used-by-kind-spec =
-    tie.close
-    (tie.spec
-    Inv-loop
-    μ-loop
-    empty-requires
-    loop-holds
-    add-next
-    mul-header
-    shared-slice-read-header
-    kind-of-requires
-    used-by-requires
-    joined-requires
-    loop-less
-    loop-again
-    loop-less-2
-    loop-again-2
-    returns)
+    tie.close (tie.spec Inv-loop μ-loop empty-requires loop-holds add-next mul-header shared-slice-read-header kind-of-requires
+    used-by-requires joined-requires loop-less loop-again loop-less-2 loop-again-2 returns)

@@ -48,17 +48,5 @@ returns c = gathering-end (c .before .loop .inv) (c .loop-test .left)
 
 pub with-chain-spec : {M : Type 1} → statement M
 with-chain-spec =
-    tie.close
-    (tie.spec
-    Inv-loop
-    μ-loop
-    loop-holds
-    sub-e
-    mul-e
-    shared-slice-read-e
-    with-range-requires
-    loop-less
-    loop-again
-    loop-less-2
-    loop-again-2
-    returns)
+    tie.close (tie.spec Inv-loop μ-loop loop-holds sub-e mul-e shared-slice-read-e with-range-requires loop-less loop-again loop-less-2
+    loop-again-2 returns)

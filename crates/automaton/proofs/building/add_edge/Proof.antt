@@ -47,19 +47,5 @@ returns c = (refl, rw (c .edge-word .ensures))
 
 pub add-edge-spec : {M : Type 1} → statement M
 add-edge-spec =
-    tie.close
-    (tie.spec
-    mul-old
-    slice-read-old
-    edge-word-requires
-    mul-edges
-    slice-write-edges
-    add-states
-    mul-states
-    cast-states
-    add-states-2
-    mul-states-2
-    slice-write-states
-    same-length
-    same-length-2
-    returns)
+    tie.close (tie.spec mul-old slice-read-old edge-word-requires mul-edges slice-write-edges add-states mul-states cast-states
+    add-states-2 mul-states-2 slice-write-states same-length same-length-2 returns)

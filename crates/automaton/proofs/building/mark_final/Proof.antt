@@ -29,13 +29,4 @@ returns c = search needs
 
 pub mark-final-spec : {M : Type 1} → statement M
 mark-final-spec =
-    tie.close
-    (tie.spec
-    mul-old
-    slice-read-old
-    mul-states
-    add-states
-    mul-states-2
-    slice-write-states
-    same-length
-    returns)
+    tie.close (tie.spec mul-old slice-read-old mul-states add-states mul-states-2 slice-write-states same-length returns)

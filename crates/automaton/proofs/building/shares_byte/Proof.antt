@@ -53,15 +53,4 @@ returns-2 c = along-end (c .before .loop .inv) (c .loop-test .left) refl
 
 pub shares-byte-spec : {M : Type 1} → statement M
 shares-byte-spec =
-    tie.close
-    (tie.spec
-    Inv-loop
-    μ-loop
-    loop-holds
-    sub-e
-    mul-e
-    shared-slice-read-e
-    returns
-    loop-less
-    loop-again
-    returns-2)
+    tie.close (tie.spec Inv-loop μ-loop loop-holds sub-e mul-e shared-slice-read-e returns loop-less loop-again returns-2)

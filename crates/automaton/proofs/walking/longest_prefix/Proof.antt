@@ -131,28 +131,6 @@ returns-2 c = λ m t. walk-end (c .before .loop .inv m t) (c .loop-test .left)
 
 pub longest-prefix-spec : {M : Type 1} → statement M
 longest-prefix-spec =
-    tie.close
-    (tie.spec
-    Inv-loop
-    μ-loop
-    mul-header
-    shared-slice-read-header
-    mul-base
-    loop-holds
-    add-cell
-    mul-cell
-    shared-slice-read-cell
-    cast-step
-    shared-slice-read-step
-    cast-step-2
-    step-requires
-    returns
-    add-i
-    add-reached
-    mul-reached
-    shared-slice-read-reached
-    loop-less
-    loop-again
-    loop-less-2
-    loop-again-2
-    returns-2)
+    tie.close (tie.spec Inv-loop μ-loop mul-header shared-slice-read-header mul-base loop-holds add-cell mul-cell shared-slice-read-cell
+    cast-step shared-slice-read-step cast-step-2 step-requires returns add-i add-reached mul-reached shared-slice-read-reached loop-less
+    loop-again loop-less-2 loop-again-2 returns-2)

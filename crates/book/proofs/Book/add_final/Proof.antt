@@ -22,5 +22,4 @@ returns c = λ hs es at len d h i.
     final-added h i _ at len _ (k .before .before .before .fits .s .fits) (omega arith) (k .mark-final .ensures)
 
 pub add-final-spec : {M : Type 1} → statement M
-add-final-spec =
-    tie.close (tie.spec mul-mark-final add-mark-final mark-final-requires same-length returns)
+add-final-spec = tie.close (tie.spec mul-mark-final add-mark-final mark-final-requires same-length returns)

@@ -25,6 +25,4 @@ returns-3 : tie.Need-returns-3
 returns-3 c = λ hs ss es d h i. end-last h _ _ _ (c .before .if1 .left) (c .if2 .left)
 
 pub end-spec : {M : Type 1} → statement M
-end-spec =
-    tie.close
-    (tie.spec refused-requires returns add-if2 add-refused refused-requires-2 returns-2 returns-3)
+end-spec = tie.close (tie.spec refused-requires returns add-if2 add-refused refused-requires-2 returns-2 returns-3)

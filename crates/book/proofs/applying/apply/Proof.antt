@@ -139,37 +139,7 @@ returns-8 c = rw (c .before .enum-told2 .given .1) (λ d h i. c .end .ensures _ 
 
 pub apply-spec : {M : Type 1} → statement M
 apply-spec =
-    tie.close
-    (tie.spec
-    enum-known-command
-    open-rule-requires
-    enum-known-command-2
-    set-start-requires
-    enum-known-command-3
-    set-error-requires
-    enum-known-command-4
-    add-final-requires
-    enum-known-command-5
-    add-transition-requires
-    enum-known-command-6
-    add-transition-requires-2
-    enum-told
-    close-requires
-    enum-told-2
-    end-requires
-    same-length
-    returns
-    returns-2
-    returns-3
-    same-length-2
-    returns-4
-    same-length-3
-    same-length-4
-    returns-5
-    same-length-5
-    same-length-6
-    returns-6
-    same-length-7
-    same-length-8
-    returns-7
-    returns-8)
+    tie.close (tie.spec enum-known-command open-rule-requires enum-known-command-2 set-start-requires enum-known-command-3
+    set-error-requires enum-known-command-4 add-final-requires enum-known-command-5 add-transition-requires enum-known-command-6
+    add-transition-requires-2 enum-told close-requires enum-told-2 end-requires same-length returns returns-2 returns-3 same-length-2
+    returns-4 same-length-3 same-length-4 returns-5 same-length-5 same-length-6 returns-6 same-length-7 same-length-8 returns-7 returns-8)

@@ -134,35 +134,7 @@ returns-7 c = λ es len d h i.
 
 pub close-spec : {M : Type 1} → statement M
 close-spec =
-    tie.close
-    (tie.spec
-    refused-requires
-    returns
-    refused-requires-2
-    returns-2
-    refused-requires-3
-    returns-3
-    mul-base
-    cast-error
-    add-error
-    mul-error
-    shared-slice-read-error
-    refused-requires-4
-    returns-4
-    refused-requires-5
-    returns-5
-    cast-start
-    add-start
-    mul-start
-    shared-slice-read-start
-    refused-requires-6
-    returns-6
-    cast-header
-    cast-header-2
-    header-requires
-    mul-headers
-    slice-write-headers
-    add-between
-    between-requires
-    same-length
-    returns-7)
+    tie.close (tie.spec refused-requires returns refused-requires-2 returns-2 refused-requires-3 returns-3 mul-base cast-error add-error
+    mul-error shared-slice-read-error refused-requires-4 returns-4 refused-requires-5 returns-5 cast-start add-start mul-start
+    shared-slice-read-start refused-requires-6 returns-6 cast-header cast-header-2 header-requires mul-headers slice-write-headers
+    add-between between-requires same-length returns-7)

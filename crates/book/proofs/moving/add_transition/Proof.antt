@@ -76,22 +76,5 @@ returns-3 c = λ hs d h i.
 
 pub add-transition-spec : {M : Type 1} → statement M
 add-transition-spec =
-    tie.close
-    (tie.spec
-    refused-requires
-    returns
-    refused-requires-2
-    returns-2
-    mul-cell
-    add-cell
-    mul-head
-    slice-read-head
-    cast-head
-    shares-byte-requires
-    either-requires
-    add-edge-requires
-    add-book
-    add-book-2
-    same-length
-    same-length-2
-    returns-3)
+    tie.close (tie.spec refused-requires returns refused-requires-2 returns-2 mul-cell add-cell mul-head slice-read-head cast-head
+    shares-byte-requires either-requires add-edge-requires add-book add-book-2 same-length same-length-2 returns-3)

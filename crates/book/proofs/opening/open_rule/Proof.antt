@@ -54,16 +54,5 @@ returns-5 c = λ ss es len d h i.
 
 pub open-rule-spec : {M : Type 1} → statement M
 open-rule-spec =
-    tie.close
-    (tie.spec
-    refused-requires
-    returns
-    refused-requires-2
-    returns-2
-    refused-requires-3
-    returns-3
-    is-taken-requires
-    refused-requires-4
-    returns-4
-    between-requires
-    returns-5)
+    tie.close (tie.spec refused-requires returns refused-requires-2 returns-2 refused-requires-3 returns-3 is-taken-requires
+    refused-requires-4 returns-4 between-requires returns-5)

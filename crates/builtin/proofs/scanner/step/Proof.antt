@@ -41,11 +41,4 @@ returns c = next-is (c .before .before)
 
 pub step-spec : {M : Type 1} → statement M
 step-spec =
-    tie.close
-    (tie.spec
-    element-copy-out-class
-    cast-result
-    add-result
-    element-copy-out-result
-    cast-result-2
-    returns)
+    tie.close (tie.spec element-copy-out-class cast-result add-result element-copy-out-result cast-result-2 returns)

@@ -46,14 +46,5 @@ returns-3 c = let h : _ ≡ _ = c .before .before .operands .ensures in rw
 
 pub command-spec : {M : Type 1} → statement M
 command-spec =
-    tie.close
-    (tie.spec
-    shared-slice-read-code
-    is-placed-requires
-    returns
-    add-next
-    operands-requires
-    add-next-2
-    returns-2
-    command-of-requires
-    returns-3)
+    tie.close (tie.spec shared-slice-read-code is-placed-requires returns add-next operands-requires add-next-2 returns-2
+    command-of-requires returns-3)

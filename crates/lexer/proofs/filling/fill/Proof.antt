@@ -128,21 +128,5 @@ returns-2 c = (
 
 pub fill-spec : {M : Type 1} → statement M
 fill-spec =
-    tie.close
-    (tie.spec
-    Inv-loop
-    μ-loop
-    loop-holds
-    choose-requires
-    same-length
-    returns
-    mul-header
-    shared-slice-read-header
-    tag-of-requires
-    put-record-requires
-    add-tokens
-    add-place
-    loop-less
-    loop-again
-    same-length-2
-    returns-2)
+    tie.close (tie.spec Inv-loop μ-loop loop-holds choose-requires same-length returns mul-header shared-slice-read-header tag-of-requires
+    put-record-requires add-tokens add-place loop-less loop-again same-length-2 returns-2)

@@ -55,17 +55,5 @@ returns-3 c = λ rs h. answered-troubled rs _ _ _ (c .before .before .before .be
 
 pub print-rules-spec : {M : Type 1} → statement M
 print-rules-spec =
-    tie.close
-    (tie.spec
-    refused-requires
-    returns
-    rehearse-requires
-    enum-known-total
-    write-requires
-    enum-known-found
-    find-refusal-requires
-    same-length
-    same-length-2
-    returns-2
-    same-length-3
-    returns-3)
+    tie.close (tie.spec refused-requires returns rehearse-requires enum-known-total write-requires enum-known-found find-refusal-requires
+    same-length same-length-2 returns-2 same-length-3 returns-3)

@@ -22,5 +22,4 @@ returns-2 : tie.Need-returns-2
 returns-2 c = λ rs h. trouble-fault rs _ _ (sym (c .before .refusal .given .1) ∙ c .before .before .before .check-tokens .ensures rs h)
 
 pub find-refusal-spec : {M : Type 1} → statement M
-find-refusal-spec =
-    tie.close (tie.spec check-tokens-requires enum-told enum-known-refusal returns returns-2)
+find-refusal-spec = tie.close (tie.spec check-tokens-requires enum-told enum-known-refusal returns returns-2)

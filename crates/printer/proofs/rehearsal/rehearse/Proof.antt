@@ -33,13 +33,4 @@ returns-2 c = λ rs h. rehearses-beyond rs _ _ _ (c .before .before .before .mea
 
 pub rehearse-spec : {M : Type 1} → statement M
 rehearse-spec =
-    tie.close
-    (tie.spec
-    measure-requires
-    enum-known-total
-    rehearse-bytes-requires
-    enum-told
-    wrong-requires
-    same-length
-    returns
-    returns-2)
+    tie.close (tie.spec measure-requires enum-known-total rehearse-bytes-requires enum-told wrong-requires same-length returns returns-2)

@@ -43,12 +43,4 @@ returns-2 c =
 
 pub rehearse-bytes-spec : {M : Type 1} → statement M
 rehearse-bytes-spec =
-    tie.close
-    (tie.spec
-    join-tokens-requires
-    read-back-requires
-    wrong-requires
-    same-length
-    returns
-    same-length-2
-    returns-2)
+    tie.close (tie.spec join-tokens-requires read-back-requires wrong-requires same-length returns same-length-2 returns-2)

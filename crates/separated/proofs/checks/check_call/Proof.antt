@@ -30,12 +30,4 @@ returns-2 c = λ rs h. call-list rs _ _ _ _ (sym (c .before .enum-told .given .1
 
 pub check-call-spec : {M : Type 1} → statement M
 check-call-spec =
-    tie.close
-    (tie.spec
-    shared-byte-requires
-    enum-known-b
-    refused-requires
-    enum-told
-    check-list-requires
-    returns
-    returns-2)
+    tie.close (tie.spec shared-byte-requires enum-known-b refused-requires enum-told check-list-requires returns returns-2)

@@ -64,18 +64,5 @@ returns-2 c = λ rs h. passing-end (c .before .loop .inv rs h) (c .loop-test .le
 
 pub check-tokens-spec : {M : Type 1} → statement M
 check-tokens-spec =
-    tie.close
-    (tie.spec
-    Inv-loop
-    μ-loop
-    loop-holds
-    read-record-requires
-    fault-or-kind-requires
-    enum-known-number
-    refused-requires
-    returns
-    enum-told
-    add-k
-    loop-less
-    loop-again
-    returns-2)
+    tie.close (tie.spec Inv-loop μ-loop loop-holds read-record-requires fault-or-kind-requires enum-known-number refused-requires returns
+    enum-told add-k loop-less loop-again returns-2)

@@ -27,11 +27,4 @@ returns-2 c = λ rs h. or-kind _ _ _ (sym (c .before .enum-told .given .1) ∙ c
 
 pub fault-or-kind-spec : {M : Type 1} → statement M
 fault-or-kind-spec =
-    tie.close
-    (tie.spec
-    token-fault-requires
-    enum-known-first
-    enum-told
-    kind-fault-requires
-    returns
-    returns-2)
+    tie.close (tie.spec token-fault-requires enum-known-first enum-told kind-fault-requires returns returns-2)

@@ -55,19 +55,5 @@ returns-2 c = plainly-end (c .before .loop .inv) (c .loop-test .left)
 
 pub is-separator-spec : {M : Type 1} → statement M
 is-separator-spec =
-    tie.close
-    (tie.spec
-    Inv-loop
-    μ-loop
-    loop-holds
-    mul-header
-    shared-slice-read-header
-    add-next
-    tag-of-requires
-    kind-of-requires
-    returns
-    loop-less
-    loop-again
-    loop-less-2
-    loop-again-2
-    returns-2)
+    tie.close (tie.spec Inv-loop μ-loop loop-holds mul-header shared-slice-read-header add-next tag-of-requires kind-of-requires returns
+    loop-less loop-again loop-less-2 loop-again-2 returns-2)

@@ -91,15 +91,5 @@ returns-2 c = λ rs h.
 
 pub pending-at-spec : {M : Type 1} → statement M
 pending-at-spec =
-    tie.close
-    (tie.spec
-    choose-requires
-    returns
-    mul-header
-    shared-slice-read-header
-    tag-of-requires
-    cast-t18
-    cast-t19
-    cast-t20
-    add-t13
+    tie.close (tie.spec choose-requires returns mul-header shared-slice-read-header tag-of-requires cast-t18 cast-t19 cast-t20 add-t13
     returns-2)

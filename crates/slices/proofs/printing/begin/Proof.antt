@@ -31,12 +31,4 @@ returns-2 c =
 
 pub begin-spec : {M : Type 1} → statement M
 begin-spec =
-    tie.close
-    (tie.spec
-    load-arrays-requires
-    enum-known-rules
-    begin-rules-requires
-    enum-known-refusal
-    refuse-requires
-    returns
-    returns-2)
+    tie.close (tie.spec load-arrays-requires enum-known-rules begin-rules-requires enum-known-refusal refuse-requires returns returns-2)

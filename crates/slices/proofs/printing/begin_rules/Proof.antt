@@ -23,5 +23,4 @@ returns-3 : tie.Need-returns-3
 returns-3 c = rw (le-ltb _ _ (c .before .before .if1 .left), ne-eqb _ _ (c .before .if2 .left)) (c .go .ensures)
 
 pub begin-rules-spec : {M : Type 1} → statement M
-begin-rules-spec =
-    tie.close (tie.spec refuse-requires end-requires go-requires returns returns-2 returns-3)
+begin-rules-spec = tie.close (tie.spec refuse-requires end-requires go-requires returns returns-2 returns-3)

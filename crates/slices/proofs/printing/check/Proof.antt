@@ -39,13 +39,4 @@ returns-2 c = λ rs h.
 
 pub check-spec : {M : Type 1} → statement M
 check-spec =
-    tie.close
-    (tie.spec
-    cast-len
-    token-fault-requires
-    enum-known-number
-    refuse-requires
-    enum-told
-    move-on-requires
-    returns
-    returns-2)
+    tie.close (tie.spec cast-len token-fault-requires enum-known-number refuse-requires enum-told move-on-requires returns returns-2)

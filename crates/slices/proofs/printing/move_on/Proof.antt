@@ -58,17 +58,5 @@ returns-5 c = rw (
 
 pub move-on-spec : {M : Type 1} → statement M
 move-on-spec =
-    tie.close
-    (tie.spec
-    add-index
-    add-at
-    go-requires
-    returns
-    refuse-requires
-    returns-2
-    go-requires-2
-    returns-3
-    go-requires-3
-    returns-4
-    end-requires
-    returns-5)
+    tie.close (tie.spec add-index add-at go-requires returns refuse-requires returns-2 go-requires-2 returns-3 go-requires-3 returns-4
+    end-requires returns-5)

@@ -31,5 +31,4 @@ returns-2 c = λ rs h. record {
 }
 
 pub read-on-spec : {M : Type 1} → statement M
-read-on-spec =
-    tie.close (tie.spec choose-requires refuse-requires returns move-on-requires returns-2)
+read-on-spec = tie.close (tie.spec choose-requires refuse-requires returns move-on-requires returns-2)

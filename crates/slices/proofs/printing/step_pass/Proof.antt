@@ -59,14 +59,4 @@ returns-3 c =
 
 pub step-pass-spec : {M : Type 1} → statement M
 step-pass-spec =
-    tie.close
-    (tie.spec
-    check-requires
-    returns
-    join-requires
-    same-length
-    returns-2
-    cast-read-on
-    read-on-requires
-    same-length-2
-    returns-3)
+    tie.close (tie.spec check-requires returns join-requires same-length returns-2 cast-read-on read-on-requires same-length-2 returns-3)

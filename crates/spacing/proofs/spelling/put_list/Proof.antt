@@ -97,19 +97,5 @@ returns-2 c =
 
 pub put-list-spec : {M : Type 1} → statement M
 put-list-spec =
-    tie.close
-    (tie.spec
-    Inv-loop
-    μ-loop
-    loop-holds
-    sub-k
-    read-record-requires
-    put-token-requires
-    enum-known-start
-    loop-less
-    loop-again
-    enum-told
-    same-length
-    returns
-    same-length-2
-    returns-2)
+    tie.close (tie.spec Inv-loop μ-loop loop-holds sub-k read-record-requires put-token-requires enum-known-start loop-less loop-again
+    enum-told same-length returns same-length-2 returns-2)

@@ -82,17 +82,5 @@ returns-3 c =
 
 pub put-token-spec : {M : Type 1} → statement M
 put-token-spec =
-    tie.close
-    (tie.spec
-    put-token-requires
-    enum-known-start
-    cast-is-due
-    is-due-requires
-    put-both-requires
-    same-length
-    returns
-    enum-told
-    same-length-2
-    returns-2
-    same-length-3
-    returns-3)
+    tie.close (tie.spec put-token-requires enum-known-start cast-is-due is-due-requires put-both-requires same-length returns enum-told
+    same-length-2 returns-2 same-length-3 returns-3)

@@ -65,18 +65,5 @@ returns-6 c = λ rs h. checked-same h _ _ (omega (arith,
 
 pub token-fault-spec : {M : Type 1} → statement M
 token-fault-spec =
-    tie.close
-    (tie.spec
-    cast-place
-    cast-len
-    add-if1
-    returns
-    cast-find-tag
-    find-tag-requires
-    returns-2
-    add-choose
-    choose-requires
-    returns-3
-    returns-4
-    returns-5
-    returns-6)
+    tie.close (tie.spec cast-place cast-len add-if1 returns cast-find-tag find-tag-requires returns-2 add-choose choose-requires returns-3
+    returns-4 returns-5 returns-6)

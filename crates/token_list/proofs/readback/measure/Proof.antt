@@ -56,19 +56,5 @@ returns-3 c = spanning-end (c .before .loop .inv) (c .loop-test .left)
 
 pub measure-spec : {M : Type 1} → statement M
 measure-spec =
-    tie.close
-    (tie.spec
-    Inv-loop
-    μ-loop
-    loop-holds
-    read-record-requires
-    cast-len
-    cast-if1
-    add-if1
-    returns
-    add-total
-    returns-2
-    add-k
-    loop-less
-    loop-again
-    returns-3)
+    tie.close (tie.spec Inv-loop μ-loop loop-holds read-record-requires cast-len cast-if1 add-if1 returns add-total returns-2 add-k
+    loop-less loop-again returns-3)

@@ -112,21 +112,5 @@ returns-4 c = λ rs pool h s. retracing-end (c .before .loop .inv rs pool h s) (
 
 pub read-back-spec : {M : Type 1} → statement M
 read-back-spec =
-    tie.close
-    (tie.spec
-    Inv-loop
-    μ-loop
-    loop-holds
-    read-record-requires
-    cast-len
-    cast-find-tag
-    find-tag-requires
-    choose-requires
-    returns
-    returns-2
-    returns-3
-    add-at
-    add-k
-    loop-less
-    loop-again
-    returns-4)
+    tie.close (tie.spec Inv-loop μ-loop loop-holds read-record-requires cast-len cast-find-tag find-tag-requires choose-requires returns
+    returns-2 returns-3 add-at add-k loop-less loop-again returns-4)

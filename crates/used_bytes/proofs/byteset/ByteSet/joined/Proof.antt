@@ -41,16 +41,5 @@ returns c = merging-end (c .before .loop .inv) (omega arith)
 
 pub joined-spec : {M : Type 1} → statement M
 joined-spec =
-    tie.close
-    (tie.spec
-    Inv-loop
-    μ-loop
-    loop-holds
-    add-b
-    element-copy-out-if1
-    element-write-self
-    loop-less
-    loop-again
-    loop-less-2
-    loop-again-2
-    returns)
+    tie.close (tie.spec Inv-loop μ-loop loop-holds add-b element-copy-out-if1 element-write-self loop-less loop-again loop-less-2
+    loop-again-2 returns)

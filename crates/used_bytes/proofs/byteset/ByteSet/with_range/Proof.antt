@@ -31,6 +31,4 @@ returns : tie.Need-returns Inv-loop μ-loop
 returns c = ranging-end (c .before .loop .inv) (c .loop-test .left)
 
 pub with-range-spec : {M : Type 1} → statement M
-with-range-spec =
-    tie.close
-    (tie.spec Inv-loop μ-loop loop-holds element-write-self add-b loop-less loop-again returns)
+with-range-spec = tie.close (tie.spec Inv-loop μ-loop loop-holds element-write-self add-b loop-less loop-again returns)
