@@ -1,56 +1,170 @@
--- Tables while they are filled: a transition more, a final state more, and what a store elsewhere leaves alone. Assumes nothing.
+-- The table of a rule while it is filled: a transition more, a final state more, the spots put in at the end, and what a change elsewhere
+-- leaves alone. Assumes nothing.
 use mathlib.Core.Path.{_≡_, refl, sym, _∙_, ap, subst}
 use mathlib.Core.Bool.{Bool, true, false, not, _&&_, _||_}
+use mathlib.Core.Logic.{_⊎_, inl, inr}
 use mathlib.Core.List.{List, [], _∷_}
-use Prim.Native.Nat.{ℕ, _+_, _-_, _/_, _%_, _<_, _≤_}
+use Prim.Native.Nat.{ℕ, _+_, _-_, _*_, _/_, _%_, _<_, _≤_}
 use native.Mathlib.Omega.{arith}
 use lib.ListN.{length, getD, set, length-set}
 use lib.Seq.{getD-set-same, getD-set-other}
 use lib.Dec.{eqb, leb}
 use borrow.Author.Tests.{eq-eqb, ne-eqb, eqb-true, eqb-false}
-use Rattle.automaton.specs.Choice.{if, any, among}
-use Rattle.automaton.specs.Rule.{Transition, meets, stateCount}
-use Rattle.automaton.specs.Contracts.{nextOf, edgeWord, Chain, leaving, shares, headAt, linked, marked, Cells, Built}
+use Rattle.automaton.specs.Choice.{if, All, any, among}
+use Rattle.automaton.specs.Rule.{Transition, Rule, meets, Ranged, stateCount}
+use Rattle.automaton.specs.Contracts.{edgeStart, lowOf, highOf, nextOf, toOf, spotOf, edgeWord, bareSpot, stateOf, headOf, isFinal}
+use Rattle.automaton.specs.Contracts.{edgeAt, nameAt, bodyAt, firstOf, endOf, Edge, Listed, Link, Chain, leaving, shares, Spot, Body, Table}
+use Rattle.automaton.specs.Contracts.{rowWord, cellAt, spotAt, settled, Built, Settles}
 
--- ---- chains
+-- ---- words, taken apart
 
--- a store past the links of a chain leaves it alone
-chain-set : (es : List ℕ) (n e h : ℕ) (ts : List Transition) → h ≤ n → Chain es h ts → Chain (set es n e) h ts
-chain-set es n e h [] l c = c
-chain-set es n e h (t ∷ ts) l (k, c) =
-    let p = k .some in
-    let q : getD (set es n e) (h - 1) 0 ≡ getD es (h - 1) 0 = getD-set-other es n (h - 1) e 0 (λ z. omega arith) in (
+record Parts (a b c d : ℕ) : Type 0 where
+  low : lowOf (edgeWord a b c d) ≡ a
+  high : highOf (edgeWord a b c d) ≡ b
+  next : nextOf (edgeWord a b c d) ≡ c
+  spot : spotOf (edgeWord a b c d) ≡ d
+
+word-parts : (low high next spot : ℕ) → low < 256 → high < 256 → next < 65536 → Parts low high next spot
+word-parts low high next spot l h n = record { low = omega arith; high = omega arith; next = omega arith; spot = omega arith }
+
+spot-state : (s c : ℕ) → c < 131072 → stateOf (s * 131072 + c) ≡ s
+spot-state s c l = omega arith
+
+pub cell-small : (rows : List ℕ) (stamp s : ℕ) → cellAt rows stamp s < 131072
+cell-small rows stamp s = go (eqb (getD rows s 0 / 131072) stamp)
+  where
+    go : (c : Bool) → if c (getD rows s 0 % 131072) 0 < 131072
+    go true = omega arith
+    go false = omega arith
+
+-- ---- what a change leaves alone
+
+-- the transitions from first to before end are the same in both tables, whatever spots they have
+pub record Agrees (tb tb₁ : List ℕ) (first end : ℕ) : Type 0 where
+  pub length-same : length tb₁ ≡ length tb
+  pub low-same : (i : ℕ) → first ≤ i → i < end → lowOf (edgeAt tb₁ i) ≡ lowOf (edgeAt tb i)
+  pub high-same : (i : ℕ) → first ≤ i → i < end → highOf (edgeAt tb₁ i) ≡ highOf (edgeAt tb i)
+  pub next-same : (i : ℕ) → first ≤ i → i < end → nextOf (edgeAt tb₁ i) ≡ nextOf (edgeAt tb i)
+  pub to-same : (i : ℕ) → first ≤ i → i < end → toOf (edgeAt tb₁ i) ≡ toOf (edgeAt tb i)
+
+module _ {tb tb₁ : List ℕ} {first end : ℕ} (a : Agrees tb tb₁ first end) where
+  edge-agrees : {i : ℕ} {t : Transition} → first ≤ i → i < end → Edge tb i t → Edge tb₁ i t
+  edge-agrees {i} f l e =
       record {
-        some = k .some;
-        room = simp length-set (k .room);
-        back = rw q (k .back);
-        low = rw q (k .low);
-        high = rw q (k .high);
-        to = rw q (k .to);
-      },
-      rw q (chain-set es n e (nextOf (getD es (h - 1) 0)) ts (omega (arith, k .back)) c),
-    )
+        room = rw (a .length-same) (e .room);
+        low = a .low-same i f l ∙ e .low;
+        high = a .high-same i f l ∙ e .high;
+        to = a .to-same i f l ∙ e .to;
+      }
 
--- a new link in front
-chain-more : (es : List ℕ) (n h : ℕ) (t : Transition) (ts : List Transition) → n < length es → h ≤ n
-    → t.low < 256 → t.high < 256 → t.to < 65536 → Chain es h ts → Chain (set es n (edgeWord t.low t.high t.to h)) (n + 1) (t ∷ ts)
-chain-more es n h t ts r l a b d c =
-    let w = edgeWord t.low t.high t.to h in
-    let z : n + 1 - 1 ≡ n = omega arith in
-    let q : getD (set es n w) (n + 1 - 1) 0 ≡ w = ap (λ (i : ℕ). getD (set es n w) i 0) z ∙ getD-set-same es n w 0 r in
-    let x : nextOf w ≡ h = omega arith in (
+  pub chain-agrees : (h : ℕ) (ts : List Transition) → h < end → Chain tb first h ts → Chain tb₁ first h ts
+  chain-agrees h [] l c = c
+  chain-agrees h (t ∷ ts) l (k, c) =
+      let q = a .next-same h (k .above) l in (
+        record { some = k .some; above = k .above; back = rw q (k .back); edge = edge-agrees (k .above) l (k .edge) },
+        rw q (chain-agrees (nextOf (edgeAt tb h)) ts (omega (arith, k .back)) c),
+      )
+
+  pub listed-agrees : (e : ℕ) (ts : List Transition) → e ≤ end → Listed tb first e ts → Listed tb₁ first e ts
+  listed-agrees e [] l c = c
+  listed-agrees e (t ∷ ts) l (f, k, c) =
+      (f, edge-agrees (omega arith) (omega arith) k, listed-agrees (e - 1) ts (omega arith) c)
+
+  pub spot-agrees : {fs : List ℕ} {ts : List Transition} {s p : ℕ} → Spot tb first end fs ts s p → Spot tb₁ first end fs ts s p
+  spot-agrees {ts = ts} {s} {p} k =
+      record { state = k .state; chain = chain-agrees (headOf p) (leaving s ts) (k .below) (k .chain); below = k .below; final = k .final }
+
+-- the words from first to before end are the same in both tables
+pub record Keeps (tb tb₁ : List ℕ) (first end : ℕ) : Type 0 where
+  pub length-same : length tb₁ ≡ length tb
+  pub words : (i : ℕ) → first ≤ i → i < end → edgeAt tb₁ i ≡ edgeAt tb i
+
+pub keeps-set : (tb : List ℕ) (first end n v : ℕ) → (n < first) ⊎ (end ≤ n) → Keeps tb (set tb n v) first end
+keeps-set tb first end n v (inl l) =
+    record { length-same = length-set tb n v; words = λ i f e. getD-set-other tb n i v 0 (λ z. omega arith) }
+keeps-set tb first end n v (inr l) =
+    record { length-same = length-set tb n v; words = λ i f e. getD-set-other tb n i v 0 (λ z. omega arith) }
+
+module _ {tb tb₁ : List ℕ} {first end : ℕ} (k : Keeps tb tb₁ first end) where
+  pub keeps-agrees : Agrees tb tb₁ first end
+  keeps-agrees =
       record {
-        some = omega arith;
-        room = simp length-set (omega arith);
-        back = rw q (omega arith);
-        low = rw q (omega arith);
-        high = rw q (omega arith);
-        to = rw q (omega arith);
-      },
-      subst (λ (i : ℕ). Chain (set es n w) i ts) (sym x ∙ ap nextOf (sym q)) (chain-set es n w h ts l c),
-    )
+        length-same = k .length-same;
+        low-same = λ i f l. ap lowOf (k .words i f l);
+        high-same = λ i f l. ap highOf (k .words i f l);
+        next-same = λ i f l. ap nextOf (k .words i f l);
+        to-same = λ i f l. ap toOf (k .words i f l);
+      }
 
--- ---- the cells of a rule
+  pub body-keeps : {fs : List ℕ} {ts : List Transition} → Body tb first end fs ts → Body tb₁ first end fs ts
+  body-keeps {fs} {ts} b =
+      record {
+        room = rw (k .length-same) (b .room);
+        listed = listed-agrees keeps-agrees end ts (omega arith) (b .listed);
+        spots = λ i f l. rw (k .words i f l) (spot-agrees keeps-agrees (b .spots i f l));
+      }
+
+-- a rule is still there where its two words and its transitions are
+pub table-keeps : {tb tb₁ : List ℕ} {k : ℕ} {r : Rule} → nameAt tb₁ k ≡ nameAt tb k → bodyAt tb₁ k ≡ bodyAt tb k
+    → Keeps tb tb₁ (firstOf (bodyAt tb k)) (endOf (bodyAt tb k)) → Table tb k r → Table tb₁ k r
+table-keeps {tb} {tb₁} {k} {r} n b s t =
+    record {
+      number = t .number;
+      room = rw (s .length-same) (t .room);
+      name = n ∙ t .name;
+      kind = t .kind;
+      start = rw b (spot-agrees (keeps-agrees s) (t .start));
+      body = rw b (body-keeps s (t .body));
+      sound = t .sound;
+    }
+
+-- the transitions lead to states
+pub listed-below : (tb : List ℕ) (first end : ℕ) (ts : List Transition) → All (Ranged stateCount) ts → Listed tb first end ts
+    → (i : ℕ) → first ≤ i → i < end → toOf (edgeAt tb i) < stateCount
+listed-below tb first end [] r c i f l = absurd (omega arith)
+listed-below tb first end (t ∷ ts) (q, r) (k, e, c) i f l = go (eqb i (end - 1)) refl (listed-below tb first (end - 1) ts r c i f)
+  where
+    go : (x : Bool) → eqb i (end - 1) ≡ x → (i < end - 1 → toOf (edgeAt tb i) < stateCount) → toOf (edgeAt tb i) < stateCount
+    go true z h = let y = eqb-true i (end - 1) z in rw (y, e .to) (q .to-below)
+    go false z h = let y = eqb-false i (end - 1) z in h (omega arith)
+
+-- ---- a new link in front of a chain
+
+module _ (tb : List ℕ) (first n h : ℕ) (t : Transition) (room : n < length tb) (short : n < 65536) (f : first ≤ n) (pos : 0 < n)
+    (lo : t.low < 256) (hi : t.high < 256) (l : h < n) where
+  abbrev word : ℕ
+  word = edgeWord t.low t.high h (bareSpot t.to)
+
+  abbrev tb₁ : List ℕ
+  tb₁ = set tb n word
+
+  here : edgeAt tb₁ n ≡ word
+  here = getD-set-same tb n word 0 room
+
+  parts₁ : Parts t.low t.high h (bareSpot t.to)
+  parts₁ = word-parts t.low t.high h (bareSpot t.to) lo hi (omega arith)
+
+  pub new-edge : Edge (set tb n (edgeWord t.low t.high h (bareSpot t.to))) n t
+  new-edge =
+      record {
+        room = simp length-set room;
+        low = ap lowOf here ∙ parts₁ .low;
+        high = ap highOf here ∙ parts₁ .high;
+        to = ap toOf here ∙ ap stateOf (parts₁ .spot) ∙ (omega arith);
+      }
+
+  next-here : nextOf (edgeAt tb₁ n) ≡ h
+  next-here = ap nextOf here ∙ parts₁ .next
+
+  pub chain-more : (ts : List Transition) → Chain tb first h ts
+      → Chain (set tb n (edgeWord t.low t.high h (bareSpot t.to))) first n (t ∷ ts)
+  chain-more ts c =
+      (
+        record { some = pos; above = f; back = rw next-here l; edge = new-edge },
+        rw next-here (chain-agrees (keeps-agrees (keeps-set tb first n n word (inr (omega arith)))) h ts l c),
+      )
+
+-- ---- the cells of an open rule
 
 leaving-hit : (s : ℕ) (t : Transition) (ts : List Transition) → t.from ≡ s → leaving s (t ∷ ts) ≡ t ∷ leaving s ts
 unfolding leaving
@@ -60,109 +174,226 @@ leaving-miss : (s : ℕ) (t : Transition) (ts : List Transition) → (t.from ≡
 unfolding leaving
 leaving-miss s t ts e = rw (ne-eqb t.from s e)
 
--- The cell of state `from` becomes v. What holds of v at `from`, and of the cells before at the other states, holds of the cells now.
-module _ (ss : List ℕ) (base from v : ℕ) (room : base + stateCount ≤ length ss) (below : from < stateCount) (P : ℕ → ℕ → Type 0) where
-  stored : P from v → ((s : ℕ) → s < stateCount → (from ≡ s → ⊥) → P s (getD ss (base + s) 0))
-      → (s : ℕ) → s < stateCount → P s (getD (set ss (base + from) v) (base + s) 0)
-  stored here there s l = go (eqb from s) refl
+-- The cell of state `from` becomes one with this head and mark. What holds of it, and of the other states' cells before, holds of all now.
+module _ (rows : List ℕ) (stamp from head mark : ℕ) (room : length rows ≡ stateCount) (below : from < stateCount)
+    (short : head < 65536) (bit : mark < 2) (P : ℕ → ℕ → Type 0) where
+  abbrev rows₁ : List ℕ
+  rows₁ = set rows from (rowWord stamp head mark)
+
+  there : cellAt rows₁ stamp from ≡ head * 2 + mark
+  there =
+      let q : getD rows₁ from 0 ≡ rowWord stamp head mark = getD-set-same rows from (rowWord stamp head mark) 0 (omega arith) in
+      let d : rowWord stamp head mark / 131072 ≡ stamp = omega arith in
+      let m : rowWord stamp head mark % 131072 ≡ head * 2 + mark = omega arith in
+      rw (q, eq-eqb _ _ d, m)
+
+  other : (s : ℕ) → (from ≡ s → ⊥) → cellAt rows₁ stamp s ≡ cellAt rows stamp s
+  other s n = rw (getD-set-other rows from s (rowWord stamp head mark) 0 (λ z. n (sym z)))
+
+  stored : P from (head * 2 + mark) → ((s : ℕ) → s < stateCount → (from ≡ s → ⊥) → P s (cellAt rows stamp s))
+      → (s : ℕ) → s < stateCount → P s (cellAt (set rows from (rowWord stamp head mark)) stamp s)
+  stored p q s l = go (eqb from s) refl
     where
-      go : (e : Bool) → eqb from s ≡ e → P s (getD (set ss (base + from) v) (base + s) 0)
-      go true e =
-          subst (λ (x : ℕ). P x (getD (set ss (base + from) v) (base + x) 0)) (eqb-true from s e)
-          (rw (getD-set-same ss (base + from) v 0 (omega arith)) here)
-      go false e =
-          let n = eqb-false from s e in
-          rw (getD-set-other ss (base + from) (base + s) v 0 (λ z. n (omega arith))) (there s l n)
+      go : (e : Bool) → eqb from s ≡ e → P s (cellAt rows₁ stamp s)
+      go true e = subst (λ (x : ℕ). P x (cellAt rows₁ stamp x)) (eqb-true from s e) (subst (P from) (sym there) p)
+      go false e = let n = eqb-false from s e in subst (P s) (sym (other s n)) (q s l n)
 
-module _ {ss es : List ℕ} {base n : ℕ} {fs : List ℕ} {ts : List Transition} (b : Built ss es base n fs ts) where
+module _ {tb rows : List ℕ} {stamp first end : ℕ} {fs : List ℕ} {ts : List Transition} (b : Built tb rows stamp first end fs ts) where
+  first-end : (e : ℕ) (us : List Transition) → Listed tb first e us → first ≤ e
+  first-end e [] c = omega arith
+  first-end e (t ∷ us) (l, k, c) = omega arith
+
   -- a transition more
-  module _ (t : Transition) (r : n < length es) (f : t.from < stateCount) (lo : t.low < 256) (hi : t.high < 256) (to : t.to < 65536) where
+  module _ (t : Transition) (room : end < length tb) (short : end + 1 < 65536) (f : t.from < stateCount)
+      (lo : t.low < 256) (hi : t.high < 256) where
     abbrev cell : ℕ
-    cell = getD ss (base + t.from) 0
+    cell = cellAt rows stamp t.from
 
-    abbrev es₁ : List ℕ
-    es₁ = set es n (edgeWord t.low t.high t.to (cell / 2))
+    abbrev word₁ : ℕ
+    word₁ = edgeWord t.low t.high (cell / 2) (bareSpot t.to)
 
-    stored₁ : (P : ℕ → ℕ → Type 0) → P t.from (linked cell n) → ((s : ℕ) → s < stateCount → (t.from ≡ s → ⊥) → P s (getD ss (base + s) 0))
-        → (s : ℕ) → s < stateCount → P s (getD (set ss (base + t.from) (linked cell n)) (base + s) 0)
-    stored₁ = stored ss base t.from (linked cell n) (b .cells .room) f
+    le : first ≤ end
+    le = first-end end ts (b .listed)
 
-    pub built-edge : Built (set ss (base + t.from) (linked (getD ss (base + t.from) 0) n))
-        (set es n (edgeWord t.low t.high t.to (getD ss (base + t.from) 0 / 2))) base (n + 1) fs (t ∷ ts)
+    same : Keeps tb (set tb end word₁) first end
+    same = keeps-set tb first end end word₁ (inr (omega arith))
+
+    stored₁ : (P : ℕ → ℕ → Type 0) → P t.from (end * 2 + cell % 2)
+        → ((s : ℕ) → s < stateCount → (t.from ≡ s → ⊥) → P s (cellAt rows stamp s))
+        → (s : ℕ) → s < stateCount → P s (cellAt (set rows t.from (rowWord stamp end (cell % 2))) stamp s)
+    stored₁ = stored rows stamp t.from end (cell % 2) (b .cells) f (omega arith) (omega arith)
+
+    pub built-edge : Built (set tb end (edgeWord t.low t.high (cellAt rows stamp t.from / 2) (bareSpot t.to)))
+        (set rows t.from (rowWord stamp end (cellAt rows stamp t.from % 2))) stamp first (end + 1) fs (t ∷ ts)
     built-edge =
-        let h : linked cell n / 2 ≡ n + 1 = omega arith in
-        let m : linked cell n % 2 ≡ cell % 2 = omega arith in
+        let h : (end * 2 + cell % 2) / 2 ≡ end = omega arith in
+        let m : (end * 2 + cell % 2) % 2 ≡ cell % 2 = omega arith in
+        let z : end + 1 - 1 ≡ end = omega arith in
+        let pos : 0 < end = omega (arith, b .start, le) in
         record {
-          cells = record {
-            room = simp length-set (b .cells .room);
-            chains = stored₁ (λ s x. Chain es₁ (x / 2) (leaving s (t ∷ ts)))
-                (rw (leaving-hit t.from t ts refl, h)
-                (chain-more es n (cell / 2) t (leaving t.from ts) r (b .tops t.from f) lo hi to (b .cells .chains t.from f)))
-                (λ s l ne. rw (leaving-miss s t ts ne)
-                (chain-set es n _ (headAt ss (base + s)) (leaving s ts) (b .tops s l) (b .cells .chains s l)));
-            finals = stored₁ (λ s x. eqb (x % 2) 1 ≡ among s fs) (rw m (b .cells .finals t.from f)) (λ s l ne. b .cells .finals s l);
-          };
-          edges = simp length-set (omega arith);
-          tops = stored₁ (λ s x. x / 2 ≤ n + 1) (omega arith) (λ s l ne. omega (arith, b .tops s l));
+          start = b .start;
+          room = simp length-set (omega arith);
+          short = short;
+          cells = simp length-set (b .cells);
+          listed = (
+            omega (arith, le),
+            rw z (new-edge tb first end (cell / 2) t room (omega arith) le pos lo hi (b .tops t.from f)),
+            rw z (listed-agrees (keeps-agrees same) end ts (omega arith) (b .listed)),
+          );
+          chains = stored₁ (λ s x. Chain (set tb end word₁) first (x / 2) (leaving s (t ∷ ts)))
+              (rw (leaving-hit t.from t ts refl, h)
+              (chain-more tb first end (cell / 2) t room (omega arith) le pos lo hi (b .tops t.from f) (leaving t.from ts) (b .chains t.from f)))
+              (λ s l ne. rw (leaving-miss s t ts ne)
+              (chain-agrees (keeps-agrees same) (cellAt rows stamp s / 2) (leaving s ts) (b .tops s l) (b .chains s l)));
+          tops = stored₁ (λ s x. x / 2 < end + 1) (omega arith) (λ s l ne. omega (arith, b .tops s l));
+          finals = stored₁ (λ s x. eqb (x % 2) 1 ≡ among s fs) (rw m (b .finals t.from f)) (λ s l ne. b .finals s l);
         }
 
   -- a final state more
   module _ (f : ℕ) (l : f < stateCount) where
-    abbrev mark : ℕ
-    mark = marked (getD ss (base + f) 0)
+    abbrev head : ℕ
+    head = cellAt rows stamp f / 2
 
-    stored₂ : (P : ℕ → ℕ → Type 0) → P f mark → ((s : ℕ) → s < stateCount → (f ≡ s → ⊥) → P s (getD ss (base + s) 0))
-        → (s : ℕ) → s < stateCount → P s (getD (set ss (base + f) mark) (base + s) 0)
-    stored₂ = stored ss base f mark (b .cells .room) l
+    stored₂ : (P : ℕ → ℕ → Type 0) → P f (head * 2 + 1) → ((s : ℕ) → s < stateCount → (f ≡ s → ⊥) → P s (cellAt rows stamp s))
+        → (s : ℕ) → s < stateCount → P s (cellAt (set rows f (rowWord stamp head 1)) stamp s)
+    stored₂ = stored rows stamp f head 1 (b .cells) l (omega (arith, b .tops f l, b .short)) (omega arith)
 
-    pub built-final : Built (set ss (base + f) (marked (getD ss (base + f) 0))) es base n (f ∷ fs) ts
+    pub built-final : Built tb (set rows f (rowWord stamp (cellAt rows stamp f / 2) 1)) stamp first end (f ∷ fs) ts
     built-final =
-        let h : mark / 2 ≡ headAt ss (base + f) = omega arith in
-        let m : mark % 2 ≡ 1 = omega arith in
+        let h : (head * 2 + 1) / 2 ≡ head = omega arith in
+        let m : (head * 2 + 1) % 2 ≡ 1 = omega arith in
         record {
-          cells = record {
-            room = simp length-set (b .cells .room);
-            chains = stored₂ (λ s x. Chain es (x / 2) (leaving s ts)) (rw h (b .cells .chains f l)) (λ s k ne. b .cells .chains s k);
-            finals = stored₂ (λ s x. eqb (x % 2) 1 ≡ eqb s f || among s fs) (rw (m, eq-eqb f f refl))
-                (λ s k ne. rw (ne-eqb s f (λ z. ne (sym z))) (b .cells .finals s k));
-          };
-          edges = b .edges;
-          tops = stored₂ (λ s x. x / 2 ≤ n) (rw h (b .tops f l)) (λ s k ne. b .tops s k);
+          start = b .start;
+          room = b .room;
+          short = b .short;
+          cells = simp length-set (b .cells);
+          listed = b .listed;
+          chains = stored₂ (λ s x. Chain tb first (x / 2) (leaving s ts)) (rw h (b .chains f l)) (λ s k ne. b .chains s k);
+          tops = stored₂ (λ s x. x / 2 < end) (rw h (b .tops f l)) (λ s k ne. b .tops s k);
+          finals = stored₂ (λ s x. eqb (x % 2) 1 ≡ eqb s f || among s fs) (rw (m, eq-eqb f f refl))
+              (λ s k ne. rw (ne-eqb s f (λ z. ne (sym z))) (b .finals s k));
         }
 
-  -- a store into a cell of another rule, and edges that leave the chains alone
-  frame : (i v m : ℕ) (es₁ : List ℕ) → ((s : ℕ) → s < stateCount → base + s ≡ i → ⊥) → n ≤ m → m ≤ length es₁
-      → ((h : ℕ) (us : List Transition) → h ≤ n → Chain es h us → Chain es₁ h us) → Built (set ss i v) es₁ base m fs ts
-  frame i v m es₁ out l k same =
-      let q : (s : ℕ) → s < stateCount → getD (set ss i v) (base + s) 0 ≡ getD ss (base + s) 0 =
-      λ s h. getD-set-other ss i (base + s) v 0 (out s h) in
-      record {
-        cells = record {
-          room = simp length-set (b .cells .room);
-          chains = λ s h. rw (q s h) (same (headAt ss (base + s)) (leaving s ts) (b .tops s h) (b .cells .chains s h));
-          finals = λ s h. rw (q s h) (b .cells .finals s h);
-        };
-        edges = k;
-        tops = λ s h. rw (q s h) (omega (arith, b .tops s h));
-      }
+  -- ---- the spots, put in at the end
 
-  pub built-frame : (i v m e : ℕ) → ((s : ℕ) → s < stateCount → base + s ≡ i → ⊥) → n ≤ m → m ≤ length es
-      → Built (set ss i v) (set es n e) base m fs ts
-  built-frame i v m e out l k = frame i v m (set es n e) out l (simp length-set k) (chain-set es n e)
+  module _ {tb₁ : List ℕ} (w : Settles rows stamp first end tb tb₁) where
+    parts : (e : ℕ) → Parts (lowOf e) (highOf e) (nextOf e) (spotAt rows stamp (toOf e))
+    parts e = word-parts (lowOf e) (highOf e) (nextOf e) (spotAt rows stamp (toOf e)) (omega arith) (omega arith) (omega arith)
 
-  pub built-cell-frame : (i v : ℕ) → ((s : ℕ) → s < stateCount → base + s ≡ i → ⊥) → Built (set ss i v) es base n fs ts
-  built-cell-frame i v out = frame i v n es out (omega arith) (b .edges) (λ h us l c. c)
+    settled-agrees : Agrees tb tb₁ first end
+    settled-agrees =
+        record {
+          length-same = w .same-length;
+          low-same = λ i f l. ap lowOf (w .inside i f l) ∙ (parts (edgeAt tb i)) .low;
+          high-same = λ i f l. ap highOf (w .inside i f l) ∙ (parts (edgeAt tb i)) .high;
+          next-same = λ i f l. ap nextOf (w .inside i f l) ∙ (parts (edgeAt tb i)) .next;
+          to-same = λ i f l. ap toOf (w .inside i f l) ∙ settled-to (edgeAt tb i);
+        }
+      where
+        settled-to : (e : ℕ) → toOf (settled rows stamp e) ≡ toOf e
+        settled-to e = ap stateOf ((parts e) .spot) ∙ spot-state (toOf e) (cellAt rows stamp (toOf e)) (cell-small rows stamp (toOf e))
 
--- cells of zeros are those of a rule with nothing in it
-pub built-blank : (ss es : List ℕ) (base n : ℕ) → base + stateCount ≤ length ss → n ≤ length es
-    → ((s : ℕ) → s < stateCount → getD ss (base + s) 0 ≡ 0) → Built ss es base n [] []
+    -- of every state
+    pub built-spot : (s : ℕ) → s < stateCount → Spot tb₁ first end fs ts s (spotAt rows stamp s)
+    built-spot s l =
+        let c = cellAt rows stamp s in
+        let t : c / 2 < end = b .tops s l in
+        let h : headOf (spotAt rows stamp s) ≡ c / 2 = omega (arith, b .short) in
+        let m : spotAt rows stamp s % 2 ≡ c % 2 = omega arith in
+        record {
+          state = omega (arith, b .short);
+          chain = rw h (chain-agrees settled-agrees (c / 2) (leaving s ts) t (b .chains s l));
+          below = rw h t;
+          final = rw m (b .finals s l);
+        }
+
+    pub built-body : All (Ranged stateCount) ts → Body tb₁ first end fs ts
+    built-body r =
+        record {
+          room = rw (w .same-length) (b .room);
+          listed = listed-agrees settled-agrees end ts (omega arith) (b .listed);
+          spots = λ i f l.
+              let q : toOf (edgeAt tb₁ i) ≡ toOf (edgeAt tb i) = settled-agrees .to-same i f l in
+              let p : spotOf (edgeAt tb₁ i) ≡ spotAt rows stamp (toOf (edgeAt tb i)) = ap spotOf (w .inside i f l) ∙ (parts (edgeAt tb i)) .spot in
+              rw (q, p) (built-spot (toOf (edgeAt tb i)) (listed-below tb first end ts r (b .listed) i f l));
+        }
+
+-- cells that were written for other rules are those of a rule with nothing in it
+pub built-blank : (tb rows : List ℕ) (stamp first : ℕ) → edgeStart ≤ first → first ≤ length tb → first < 65536 → length rows ≡ stateCount
+    → ((s : ℕ) → s < stateCount → getD rows s 0 / 131072 ≡ stamp → ⊥) → Built tb rows stamp first first [] []
 unfolding leaving
-built-blank ss es base n r e z =
+built-blank tb rows stamp first l r h n z =
+    let q : (s : ℕ) → s < stateCount → cellAt rows stamp s ≡ 0 = λ s k. rw (ne-eqb _ _ (z s k)) in
     record {
-      cells = record { room = r; chains = λ s h. rw (z s h); finals = λ s h. rw (z s h) };
-      edges = e;
-      tops = λ s h. rw (z s h) (omega arith);
+      start = l;
+      room = r;
+      short = h;
+      cells = n;
+      listed = refl;
+      chains = λ s k. rw (q s k);
+      tops = λ s k. rw (q s k) (omega arith);
+      finals = λ s k. rw (q s k);
     }
+
+-- ---- the loop of `settle`
+
+-- the words before i are settled
+pub record Settling (rows : List ℕ) (stamp first end : ℕ) (tb tb₁ : List ℕ) (i : ℕ) : Type 0 where
+  pub from : first ≤ i
+  pub within : i ≤ end
+  pub settles : Settles rows stamp first i tb tb₁
+
+pub settling-start : (rows : List ℕ) (stamp first end : ℕ) (tb : List ℕ) → first ≤ end → Settling rows stamp first end tb tb first
+settling-start rows stamp first end tb l =
+    record {
+      from = omega arith;
+      within = l;
+      settles = record { same-length = refl; inside = λ i f k. absurd (omega arith); outside = λ i o. refl };
+    }
+
+module _ {rows : List ℕ} {stamp first end : ℕ} {tb tb₁ : List ℕ} {i : ℕ} (w : Settling rows stamp first end tb tb₁ i) where
+  -- the word at i is the old one
+  pub settling-here : edgeAt tb₁ i ≡ edgeAt tb i
+  settling-here = w .settles .outside i (inr (omega arith))
+
+  pub settling-next : {tb₂ : List ℕ} → i < end → i < length tb₁ → tb₂ ≡ set tb₁ i (settled rows stamp (edgeAt tb₁ i))
+      → Settling rows stamp first end tb tb₂ (i + 1)
+  settling-next more room e =
+      rw e
+      (record {
+        from = omega (arith, w .from);
+        within = omega arith;
+        settles = record {
+          same-length = simp length-set (w .settles .same-length);
+          inside = λ j f k. go j f k (eqb j i) refl;
+          outside = λ j o. there j (apart j o) ∙ w .settles .outside j (widen j o);
+        };
+      })
+    where
+      there : (j : ℕ) → (j ≡ i → ⊥) → edgeAt (set tb₁ i (settled rows stamp (edgeAt tb₁ i))) j ≡ edgeAt tb₁ j
+      there j n = getD-set-other tb₁ i j (settled rows stamp (edgeAt tb₁ i)) 0 n
+
+      apart : (j : ℕ) → (j < first) ⊎ (i + 1 ≤ j) → j ≡ i → ⊥
+      apart j (inl p) z = absurd (omega arith)
+      apart j (inr p) z = absurd (omega arith)
+
+      widen : (j : ℕ) → (j < first) ⊎ (i + 1 ≤ j) → (j < first) ⊎ (i ≤ j)
+      widen j (inl p) = inl p
+      widen j (inr p) = inr (omega arith)
+
+      go : (j : ℕ) → first ≤ j → j < i + 1 → (c : Bool) → eqb j i ≡ c
+          → edgeAt (set tb₁ i (settled rows stamp (edgeAt tb₁ i))) j ≡ settled rows stamp (edgeAt tb j)
+      go j f k true z =
+          let q = eqb-true j i z in
+          rw q (getD-set-same tb₁ i (settled rows stamp (edgeAt tb₁ i)) 0 room ∙ ap (settled rows stamp) settling-here)
+      go j f k false z =
+          let q = eqb-false j i z in
+          there j q ∙ w .settles .inside j f (omega arith)
+
+  pub settling-end : end ≤ i → Settles rows stamp first end tb tb₁
+  settling-end l =
+      let q : i ≡ end = omega (arith, w .within) in
+      subst (λ (x : ℕ). Settles rows stamp first x tb tb₁) q (w .settles)
 
 -- ---- what the chains and the marks of the cells tell of a rule
 
@@ -180,19 +411,20 @@ leaves (t ∷ ts) s = go (eqb t.from s) (leaves ts s)
     go true ih = refl
     go false ih = ih
 
-chain-some : (es : List ℕ) (h : ℕ) (ts : List Transition) → Chain es h ts → some-there ts ≡ not (eqb h 0)
-chain-some es h [] c = rw (eq-eqb h 0 c)
-chain-some es h (t ∷ ts) (k, c) = let p = k .some in rw (ne-eqb h 0 (λ e. omega arith))
+chain-some : (tb : List ℕ) (first h : ℕ) (ts : List Transition) → Chain tb first h ts → some-there ts ≡ not (eqb h 0)
+chain-some tb first h [] c = rw (eq-eqb h 0 c)
+chain-some tb first h (t ∷ ts) (k, c) = let p = k .some in rw (ne-eqb h 0 (λ e. omega arith))
 
 -- a head is 0 exactly where nothing leaves the state
-module _ {ss es : List ℕ} {base : ℕ} {fs : List ℕ} {ts : List Transition} (c : Cells ss es base fs ts) (s : ℕ) (l : s < stateCount) where
-  head-leaves : any (λ (t : Transition). eqb t.from s) ts ≡ not (eqb (headAt ss (base + s)) 0)
-  head-leaves = leaves ts s ∙ chain-some es (headAt ss (base + s)) (leaving s ts) (c .chains s l)
+module _ {tb rows : List ℕ} {stamp first end : ℕ} {fs : List ℕ} {ts : List Transition} (b : Built tb rows stamp first end fs ts)
+    (s : ℕ) (l : s < stateCount) where
+  head-leaves : any (λ (t : Transition). eqb t.from s) ts ≡ not (eqb (cellAt rows stamp s / 2) 0)
+  head-leaves = leaves ts s ∙ chain-some tb first (cellAt rows stamp s / 2) (leaving s ts) (b .chains s l)
 
-  pub head-none : headAt ss (base + s) ≡ 0 → any (λ (t : Transition). eqb t.from s) ts ≡ false
+  pub head-none : cellAt rows stamp s / 2 ≡ 0 → any (λ (t : Transition). eqb t.from s) ts ≡ false
   head-none z = head-leaves ∙ rw (eq-eqb _ _ z)
 
-  pub head-some : (headAt ss (base + s) ≡ 0 → ⊥) → any (λ (t : Transition). eqb t.from s) ts ≡ true
+  pub head-some : (cellAt rows stamp s / 2 ≡ 0 → ⊥) → any (λ (t : Transition). eqb t.from s) ts ≡ true
   head-some z = head-leaves ∙ rw (ne-eqb _ _ z)
 
 -- a new transition meets one that is there exactly where it shares a byte with one of its state's chain

@@ -1,6 +1,7 @@
--- Laws of rules (`Walks`, `Used`) and of the tables that hold them (`Chains`, `Built`). `Tests` takes tests apart.
+-- Laws of rules (`Walks`, `Used`) and of the tables that hold them (`Chains`, `Built`, `Ranking`). `Tests` takes tests apart.
 pub mod Tests
 pub mod Chains
 pub mod Walks
 pub mod Built
+pub mod Ranking
 pub mod Used

@@ -2,17 +2,17 @@
 use mathlib.Core.Path.{_≡_, refl, sym, _∙_, ap}
 use mathlib.Core.Bool.{Bool, true, false, _&&_}
 use mathlib.Core.List.{List, [], _∷_}
-use Prim.Native.Nat.{ℕ, zero, suc, _+_, _-_, _*_, _%_, _<_, _≤_}
+use Prim.Native.Nat.{ℕ, zero, suc, _+_, _-_, _<_, _≤_}
 use native.Mathlib.Nat.{zero-add, suc-add}
 use native.Mathlib.Omega.{arith}
 use native.Mathlib.Numerals.{add-one}
 use lib.ListN.{length, getD, take}
 use lib.Dec.{eqb}
-use borrow.Author.Tests.{eq-eqb, ne-eqb}
-use Rattle.automaton.specs.Choice.{if, All, any, among}
+use Rattle.automaton.specs.Choice.{if, any, among}
 use Rattle.automaton.specs.Rule.{Transition, Rule, covers, target, step, walk, matches, longestWithin, longest}
-use Rattle.automaton.specs.Rule.{Ranged, Sound, stateCount}
-use Rattle.automaton.specs.Contracts.{errorOf, startOf, kindOf, tagOf, headAt, finalAt, leaving, pick, Chain, Table}
+use Rattle.automaton.specs.Rule.{Sound, stateCount}
+use Rattle.automaton.specs.Contracts.{stateOf, headOf, isFinal, spotOf, toOf, edgeAt, errorOf, kindOf, tagOf, firstOf, endOf}
+use Rattle.automaton.specs.Contracts.{startOf, nameAt, bodyAt, leaving, pick, Chain, Finds, Spot, Table}
 use Rattle.automaton.proofs.Tests.{or-false}
 
 -- the chain of a state leads where the rule does
@@ -25,16 +25,6 @@ pick-leaving s b error (t ∷ ts) = go (eqb t.from s) (pick-leaving s b error ts
         → pick (if e (t ∷ leaving s ts) (leaving s ts)) b error ≡ if (e && covers t b) t.to (target ts s b error)
     go true ih = rw ih
     go false ih = ih
-
--- a step stays among the states
-target-below : (n s b error : ℕ) (ts : List Transition) → error < n → All (Ranged n) ts → target ts s b error < n
-unfolding target
-target-below n s b error [] l h = l
-target-below n s b error (t ∷ ts) l (r, h) = go (eqb t.from s && covers t b) (target-below n s b error ts l h)
-  where
-    go : (e : Bool) → target ts s b error < n → if e t.to (target ts s b error) < n
-    go true k = r .to-below
-    go false k = k
 
 -- nothing leaves the error state
 pub target-stays : (error b : ℕ) (ts : List Transition) → any (λ (t : Transition). eqb t.from error) ts ≡ false
@@ -87,67 +77,79 @@ module _ (r : Rule) where
         let q : length t - n + n ≡ length t = omega arith in
         sym (longest-stays t n (length t - n) (omega arith) e) ∙ ap (λ (x : ℕ). longestWithin r t x) q
 
--- ---- a header word, taken apart
+-- ---- a rule's name, taken apart
 
-module _ {hs ss es : List ℕ} {k : ℕ} {r : Rule} (table : Table hs ss es k r) where
-  pub header-error : errorOf (getD hs k 0) ≡ r.error
-  header-error = rw (table .word) (omega (arith, table .sound .error-below))
+module _ {tb : List ℕ} {k : ℕ} {r : Rule} (table : Table tb k r) where
+  pub name-error : errorOf (nameAt tb k) ≡ r.error
+  name-error = rw (table .name) (omega (arith, table .sound .error-below, table .kind))
 
-  pub header-start : startOf (getD hs k 0) ≡ r.start
-  header-start = rw (table .word) (omega (arith, table .sound .error-below, table .sound .start-below))
+  pub name-kind : kindOf (nameAt tb k) ≡ r.kind
+  name-kind = rw (table .name) (omega (arith, table .sound .error-below, table .kind))
 
-  pub header-kind : kindOf (getD hs k 0) ≡ r.kind
-  header-kind = rw (table .word) (omega (arith, table .sound .error-below, table .sound .start-below, table .kind))
-
-  pub header-tag : tagOf (getD hs k 0) ≡ r.tag
-  header-tag = rw (table .word) (omega (arith, table .sound .error-below, table .sound .start-below, table .kind))
+  pub name-tag : tagOf (nameAt tb k) ≡ r.tag
+  name-tag = rw (table .name) (omega (arith, table .sound .error-below, table .kind))
 
 -- ---- the loop of `longest_prefix`
 
--- i bytes are read, the rule stands in s, and `best` of them are the longest that it matches
-pub record Walk (r : Rule) (t : List ℕ) (s best i : ℕ) : Type 0 where
+-- i bytes are read, the rule stands in the state of the spot p, and `best` of them are the longest that it matches
+pub record Walk (tb : List ℕ) (k : ℕ) (r : Rule) (t : List ℕ) (p best i : ℕ) : Type 0 where
   pub within : i ≤ length t
-  pub inside : s < stateCount
-  pub state : s ≡ walk r r.start (take i t)
+  pub spot : Spot tb (firstOf (bodyAt tb k)) (endOf (bodyAt tb k)) r.finals r.transitions (walk r r.start (take i t)) p
   pub most : best ≡ longestWithin r t i
 
-pub walk-start : (r : Rule) (t : List ℕ) (s : ℕ) → Sound stateCount r → s ≡ r.start → Walk r t s 0 0
-unfolding walk
-walk-start r t s h e = rw e (record { within = omega arith; inside = h .start-below; state = refl; most = longest-zero r t })
+module _ {tb : List ℕ} {k : ℕ} {r : Rule} (table : Table tb k r) where
+  pub walk-start : (t : List ℕ) {p : ℕ} → p ≡ startOf (bodyAt tb k) → Walk tb k r t p 0 0
+  unfolding walk
+  walk-start t e = rw e (record { within = omega arith; spot = table .start; most = longest-zero r t })
 
-module _ {hs ss es : List ℕ} {k : ℕ} {r : Rule} (table : Table hs ss es k r)
-    {t : List ℕ} {s best i next : ℕ} (w : Walk r t s best i) (more : i < length t)
-    (e : (ts : List Transition) → Chain es (headAt ss (k * stateCount + s)) ts → next ≡ pick ts (getD t i 0) (errorOf (getD hs k 0))) where
-  leads : next ≡ step r s (getD t i 0)
-  leads =
-      e (leaving s r.transitions) (table .cells .chains s (w .inside))
-      ∙ rw (header-error table) (pick-leaving s (getD t i 0) r.error r.transitions)
+  module _ {t : List ℕ} {p best i : ℕ} (w : Walk tb k r t p best i) where
+    pub walk-end : length t ≤ i → best ≡ longest r t
+    walk-end l =
+        let q : i ≡ length t = omega (arith, w .within) in
+        w .most ∙ ap (λ (x : ℕ). longestWithin r t x) q
 
-  reached : next ≡ walk r r.start (take (suc i) t)
-  reached = leads ∙ ap (λ (x : ℕ). step r x (getD t i 0)) (w .state) ∙ sym (walk-more r t i r.start more)
+    module _ {link : ℕ} (more : i < length t)
+        (f : (first : ℕ) (ts : List Transition) → Chain tb first (headOf p) ts → Finds tb first (headOf p) ts (getD t i 0) link) where
+      abbrev here : ℕ
+      here = walk r r.start (take i t)
 
-  pub next-inside : next < stateCount
-  next-inside = rw leads (target-below stateCount s (getD t i 0) r.error r.transitions (table .sound .error-below) (table .sound .ranged))
+      finds : Finds tb (firstOf (bodyAt tb k)) (headOf p) (leaving here r.transitions) (getD t i 0) link
+      finds = f (firstOf (bodyAt tb k)) (leaving here r.transitions) (w .spot .chain)
 
-  final-here : finalAt ss (k * stateCount + next) ≡ among (walk r r.start (take (suc i) t)) r.finals
-  final-here = table .cells .finals next next-inside ∙ ap (λ (x : ℕ). among x r.finals) reached
+      -- one byte more leads where the chain does
+      leads : walk r r.start (take (suc i) t) ≡ pick (leaving here r.transitions) (getD t i 0) r.error
+      leads = walk-more r t i r.start more ∙ sym (pick-leaving here (getD t i 0) r.error r.transitions)
 
-  pub walk-final : getD ss (k * stateCount + next) 0 % 2 ≡ 1 → Walk r t next (i + 1) (i + 1)
-  walk-final f =
-      rw add-one
-      (record { within = more; inside = next-inside; state = reached; most = longest-yes r t i (sym final-here ∙ eq-eqb _ _ f) })
+      stop : walk r r.start (take (suc i) t) ≡ r.error → best ≡ longest r t
+      stop q =
+          w .most ∙ longest-no r t i (ap (λ (x : ℕ). among x r.finals) q ∙ table .sound .fails)
+          ∙ longest-done r (table .sound) t (suc i) more q
 
-  pub walk-other : (getD ss (k * stateCount + next) 0 % 2 ≡ 1 → ⊥) → Walk r t next best (i + 1)
-  walk-other f =
-      rw add-one
-      (record { within = more; inside = next-inside; state = reached; most = w .most ∙ longest-no r t i (sym final-here ∙ ne-eqb _ _ f) })
+      pub walk-nothing : link ≡ 0 → best ≡ longest r t
+      walk-nothing z = stop (leads ∙ finds .nothing z r.error)
 
-  pub walk-error : next ≡ errorOf (getD hs k 0) → best ≡ longest r t
-  walk-error z =
-      let q : walk r r.start (take (suc i) t) ≡ r.error = sym reached ∙ z ∙ header-error table in
-      w .most ∙ longest-no r t i (ap (λ (x : ℕ). among x r.finals) q ∙ table .sound .fails) ∙ longest-done r (table .sound) t (suc i) more q
+      module _ (some : link ≡ 0 → ⊥) where
+        pos : 0 < link
+        pos = omega arith
 
-pub walk-end : {r : Rule} {t : List ℕ} {s best i : ℕ} → Walk r t s best i → length t ≤ i → best ≡ longest r t
-walk-end {r} {t} {i = i} w l =
-    let q : i ≡ length t = omega (arith, w .within) in
-    w .most ∙ ap (λ (x : ℕ). longestWithin r t x) q
+        pub link-above : firstOf (bodyAt tb k) ≤ link
+        link-above = finds .above pos
+
+        pub link-below : link < endOf (bodyAt tb k)
+        link-below = omega (arith, finds .below, w .spot .below)
+
+        reached : walk r r.start (take (suc i) t) ≡ toOf (edgeAt tb link)
+        reached = leads ∙ finds .to pos r.error
+
+        next : Spot tb (firstOf (bodyAt tb k)) (endOf (bodyAt tb k)) r.finals r.transitions
+            (walk r r.start (take (suc i) t)) (spotOf (edgeAt tb link))
+        next = rw reached (table .body .spots link link-above link-below)
+
+        pub walk-error : toOf (edgeAt tb link) ≡ r.error → best ≡ longest r t
+        walk-error z = stop (reached ∙ z)
+
+        pub walk-final : isFinal (spotOf (edgeAt tb link)) ≡ true → Walk tb k r t (spotOf (edgeAt tb link)) (i + 1) (i + 1)
+        walk-final e = rw add-one (record { within = more; spot = next; most = longest-yes r t i (sym (next .final) ∙ e) })
+
+        pub walk-other : isFinal (spotOf (edgeAt tb link)) ≡ false → Walk tb k r t (spotOf (edgeAt tb link)) best (i + 1)
+        walk-other e = rw add-one (record { within = more; spot = next; most = w .most ∙ longest-no r t i (sym (next .final) ∙ e) })

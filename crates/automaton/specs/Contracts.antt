@@ -1,6 +1,7 @@
 -- What the layers of the code ask and answer between themselves. Nobody needs to believe it: the operations' contracts do not rest on it.
 use mathlib.Core.Path.{_≡_}
-use mathlib.Core.Bool.{Bool, _&&_}
+use mathlib.Core.Bool.{Bool, false, _&&_}
+use mathlib.Core.Logic.{_⊎_}
 use mathlib.Core.List.{List, [], _∷_}
 use Prim.Native.Nat.{ℕ, _+_, _-_, _*_, _/_, _%_, _<_, _≤_}
 use lib.Dec.{leb, eqb}
@@ -8,16 +9,39 @@ use lib.ListN.{length, getD}
 use Rattle.automaton.specs.Rule.{stateCount, Transition, Rule, covers, Sound}
 use Rattle.automaton.specs.Choice.{if, among}
 
--- ---- How flat arrays hold the rules of a book.
--- `headers` has a word for each rule; `states` a cell for each rule and state: twice the head of the chain of the transitions
--- that leave the state, plus 1 where the state is final; `edges` a word for each transition, with the next link of its chain.
--- A link is 0 for none, else a place in `edges` plus 1, and the links of a chain fall.
+-- ---- How one slice of words, the table, holds the rules of a book.
+-- Word 0 is the number of rules. Two words for each rule follow, its name (tag, kind and error state) and its body (the spot of its start,
+-- and where the words of its transitions lie), with room for `ruleRoom` rules; then a word for each transition, rule by rule.
+-- A spot is what a walk asks of a state: its number, the head of the chain of the transitions that leave it, and whether it is final.
+-- The word of a transition has the spot to which it leads and the next link of its chain. A link is 0 for none, else the place of a
+-- transition's word, and the links of a chain fall.
+
+-- rules that a table has room for, and the place of the first transition's word
+abbrev pub ruleRoom : ℕ
+ruleRoom = 32
+
+abbrev pub edgeStart : ℕ
+edgeStart = 65
 
 -- ---- Words.
 
+-- a spot, and its parts
+-- of a state of which nothing is known yet but its number
+abbrev pub bareSpot : ℕ → ℕ
+bareSpot state = state * 131072
+
+abbrev pub stateOf : ℕ → ℕ
+stateOf p = p / 131072
+
+abbrev pub headOf : ℕ → ℕ
+headOf p = p / 2 % 65536
+
+abbrev pub isFinal : ℕ → Bool
+isFinal p = eqb (p % 2) 1
+
 -- the word of a transition, and its parts; the state that it leaves is that of its chain
 abbrev pub edgeWord : ℕ → ℕ → ℕ → ℕ → ℕ
-edgeWord low high to next = next * 4294967296 + to * 65536 + high * 256 + low
+edgeWord low high next spot = spot * 4294967296 + next * 65536 + high * 256 + low
 
 abbrev pub lowOf : ℕ → ℕ
 lowOf e = e % 256
@@ -25,56 +49,101 @@ lowOf e = e % 256
 abbrev pub highOf : ℕ → ℕ
 highOf e = e / 256 % 256
 
-abbrev pub toOf : ℕ → ℕ
-toOf e = e / 65536 % 65536
-
 abbrev pub nextOf : ℕ → ℕ
-nextOf e = e / 4294967296
+nextOf e = e / 65536 % 65536
+
+abbrev pub spotOf : ℕ → ℕ
+spotOf e = e / 4294967296
+
+abbrev pub toOf : ℕ → ℕ
+toOf e = stateOf (spotOf e)
 
 abbrev pub coversWord : ℕ → ℕ → Bool
 coversWord e b = leb (lowOf e) b && leb b (highOf e)
 
--- the word of a rule, and its parts
-abbrev pub headerWord : ℕ → ℕ → ℕ → ℕ → ℕ
-headerWord tag kind start error = tag * 1099511627776 + kind * 4294967296 + start * 65536 + error
-
-abbrev pub errorOf : ℕ → ℕ
-errorOf h = h % 65536
-
-abbrev pub startOf : ℕ → ℕ
-startOf h = h / 65536 % 65536
-
-abbrev pub kindOf : ℕ → ℕ
-kindOf h = h / 4294967296 % 256
+-- the name of a rule, and its parts
+abbrev pub nameWord : ℕ → ℕ → ℕ → ℕ
+nameWord tag kind error = tag * 16777216 + kind * 65536 + error
 
 abbrev pub tagOf : ℕ → ℕ
-tagOf h = h / 1099511627776
+tagOf w = w / 16777216
 
--- ---- Chains.
+abbrev pub kindOf : ℕ → ℕ
+kindOf w = w / 65536 % 256
 
--- the link h leads to the word of t, whose next link is lower
-pub record Link (es : List ℕ) (h : ℕ) (t : Transition) : Type 0 where
+abbrev pub errorOf : ℕ → ℕ
+errorOf w = w % 65536
+
+-- the body of a rule, and its parts: its transitions' words stand from `first` to before `end`
+abbrev pub bodyWord : ℕ → ℕ → ℕ → ℕ
+bodyWord start first end = start * 4294967296 + first * 65536 + end
+
+abbrev pub startOf : ℕ → ℕ
+startOf w = w / 4294967296
+
+abbrev pub firstOf : ℕ → ℕ
+firstOf w = w / 65536 % 65536
+
+abbrev pub endOf : ℕ → ℕ
+endOf w = w % 65536
+
+-- ---- The words of a table.
+
+abbrev pub countAt : List ℕ → ℕ
+countAt tb = getD tb 0 0
+
+abbrev pub nameAt : List ℕ → ℕ → ℕ
+nameAt tb k = getD tb (2 * k + 1) 0
+
+abbrev pub bodyAt : List ℕ → ℕ → ℕ
+bodyAt tb k = getD tb (2 * k + 2) 0
+
+abbrev pub edgeAt : List ℕ → ℕ → ℕ
+edgeAt tb i = getD tb i 0
+
+-- ---- Transitions.
+
+-- the word at i is that of t
+pub record Edge (tb : List ℕ) (i : ℕ) (t : Transition) : Type 0 where
+  pub room : i < length tb
+  pub low : lowOf (edgeAt tb i) ≡ t.low
+  pub high : highOf (edgeAt tb i) ≡ t.high
+  pub to : toOf (edgeAt tb i) ≡ t.to
+
+-- the words from first to before end are those of these transitions, the last one first
+abbrev pub Listed : List ℕ → ℕ → ℕ → List Transition → Type 0
+Listed tb first end [] = end ≡ first
+Listed tb first end (t ∷ ts) = (first < end) × Edge tb (end - 1) t × Listed tb first (end - 1) ts
+
+-- the link h leads to the word of t, not before `first`, and its next link is lower
+pub record Link (tb : List ℕ) (first h : ℕ) (t : Transition) : Type 0 where
   pub some : 0 < h
-  pub room : h ≤ length es
-  pub back : nextOf (getD es (h - 1) 0) < h
-  pub low : lowOf (getD es (h - 1) 0) ≡ t.low
-  pub high : highOf (getD es (h - 1) 0) ≡ t.high
-  pub to : toOf (getD es (h - 1) 0) ≡ t.to
+  pub above : first ≤ h
+  pub back : nextOf (edgeAt tb h) < h
+  pub edge : Edge tb h t
 
 -- the chain from link h is just these transitions
-abbrev pub Chain : List ℕ → ℕ → List Transition → Type 0
-Chain es h [] = h ≡ 0
-Chain es h (t ∷ ts) = Link es h t × Chain es (nextOf (getD es (h - 1) 0)) ts
+abbrev pub Chain : List ℕ → ℕ → ℕ → List Transition → Type 0
+Chain tb first h [] = h ≡ 0
+Chain tb first h (t ∷ ts) = Link tb first h t × Chain tb first (nextOf (edgeAt tb h)) ts
 
 -- a chain starts at link h
-pub record Chained (es : List ℕ) (h : ℕ) : Type 0 where
+pub record Chained (tb : List ℕ) (h : ℕ) : Type 0 where
+  pub first : ℕ
   pub transitions : List Transition
-  pub chain : Chain es h transitions
+  pub chain : Chain tb first h transitions
 
 -- where a chain's transitions lead at b: by the first that covers b, else to the error state
 unfoldable pub pick : List Transition → ℕ → ℕ → ℕ
 pick [] b error = error
 pick (t ∷ ts) b error = if (covers t b) t.to (pick ts b error)
+
+-- the link of the first transition that covers b, 0 for none
+pub record Finds (tb : List ℕ) (first head : ℕ) (ts : List Transition) (b link : ℕ) : Type 0 where
+  pub nothing : link ≡ 0 → (error : ℕ) → pick ts b error ≡ error
+  pub above : 0 < link → first ≤ link
+  pub below : link ≤ head
+  pub to : 0 < link → (error : ℕ) → pick ts b error ≡ toOf (edgeAt tb link)
 
 -- t shares a byte with low to high
 abbrev pub shares : ℕ → ℕ → Transition → Bool
@@ -85,34 +154,35 @@ unfoldable pub leaving : ℕ → List Transition → List Transition
 leaving s [] = []
 leaving s (t ∷ ts) = if (eqb t.from s) (t ∷ leaving s ts) (leaving s ts)
 
--- ---- The cells of a rule.
-
-abbrev pub headAt : List ℕ → ℕ → ℕ
-headAt ss i = getD ss i 0 / 2
-
-abbrev pub finalAt : List ℕ → ℕ → Bool
-finalAt ss i = eqb (getD ss i 0 % 2) 1
-
--- the cells from base on are those of a rule with these final states and transitions
-pub record Cells (ss es : List ℕ) (base : ℕ) (fs : List ℕ) (ts : List Transition) : Type 0 where
-  pub room : base + stateCount ≤ length ss
-  pub chains : (s : ℕ) → s < stateCount → Chain es (headAt ss (base + s)) (leaving s ts)
-  pub finals : (s : ℕ) → s < stateCount → finalAt ss (base + s) ≡ among s fs
-
 -- ---- The rules of a book.
 
--- rule number k of the tables is r
-pub record Table (hs ss es : List ℕ) (k : ℕ) (r : Rule) : Type 0 where
-  pub room : k < length hs
-  pub word : getD hs k 0 ≡ headerWord r.tag r.kind r.start r.error
+-- p is the spot of state s of a rule with these final states and transitions, whose words stand from first to before end
+pub record Spot (tb : List ℕ) (first end : ℕ) (fs : List ℕ) (ts : List Transition) (s p : ℕ) : Type 0 where
+  pub state : stateOf p ≡ s
+  pub chain : Chain tb first (headOf p) (leaving s ts)
+  pub below : headOf p < end
+  pub final : isFinal p ≡ among s fs
+
+-- the transitions of a rule stand from first to before end, each with the spot to which it leads
+pub record Body (tb : List ℕ) (first end : ℕ) (fs : List ℕ) (ts : List Transition) : Type 0 where
+  pub room : end ≤ length tb
+  pub listed : Listed tb first end ts
+  pub spots : (i : ℕ) → first ≤ i → i < end → Spot tb first end fs ts (toOf (edgeAt tb i)) (spotOf (edgeAt tb i))
+
+-- rule number k of the table is r
+pub record Table (tb : List ℕ) (k : ℕ) (r : Rule) : Type 0 where
+  pub number : k < ruleRoom
+  pub room : edgeStart ≤ length tb
+  pub name : nameAt tb k ≡ nameWord r.tag r.kind r.error
   pub kind : r.kind < 256
-  pub cells : Cells ss es (k * stateCount) r.finals r.transitions
+  pub start : Spot tb (firstOf (bodyAt tb k)) (endOf (bodyAt tb k)) r.finals r.transitions r.start (startOf (bodyAt tb k))
+  pub body : Body tb (firstOf (bodyAt tb k)) (endOf (bodyAt tb k)) r.finals r.transitions
   pub sound : Sound stateCount r
 
--- the tables have a rule number k
-pub record Tabled (hs ss es : List ℕ) (k : ℕ) : Type 0 where
+-- the table has a rule number k
+pub record Tabled (tb : List ℕ) (k : ℕ) : Type 0 where
   pub rule : Rule
-  pub table : Table hs ss es k rule
+  pub table : Table tb k rule
 
 -- a rule with nothing in it, for a number that no rule has
 abbrev pub blank : Rule
@@ -121,22 +191,56 @@ blank = record { tag = 0; kind = 0; start = 0; error = 0; finals = []; transitio
 abbrev pub ruleAt : List Rule → ℕ → Rule
 ruleAt rules k = getD rules k blank
 
--- the tables hold these rules, in this order
-pub record Tables (hs ss es : List ℕ) (rules : List Rule) : Type 0 where
-  pub each : (k : ℕ) → k < length rules → Table hs ss es k (ruleAt rules k)
+-- the table holds these rules, in this order
+pub record Holds (tb : List ℕ) (rules : List Rule) : Type 0 where
+  pub room : edgeStart ≤ length tb
+  pub few : length rules ≤ ruleRoom
+  pub count : countAt tb ≡ length rules
+  pub each : (k : ℕ) → k < length rules → Table tb k (ruleAt rules k)
 
--- ---- While the tables are filled.
+-- the table holds some rules
+pub record Held (tb : List ℕ) : Type 0 where
+  pub rules : List Rule
+  pub holds : Holds tb rules
 
--- the cells of a rule while n edges are in use
-pub record Built (ss es : List ℕ) (base n : ℕ) (fs : List ℕ) (ts : List Transition) : Type 0 where
-  pub cells : Cells ss es base fs ts
-  pub edges : n ≤ length es
-  pub tops : (s : ℕ) → s < stateCount → headAt ss (base + s) ≤ n
+-- k is the number of the first rule of this tag, or that of all rules where none has it
+pub record Ranks (rules : List Rule) (tag k : ℕ) : Type 0 where
+  pub within : k ≤ length rules
+  pub earlier : (j : ℕ) → j < k → eqb ((ruleAt rules j) .tag) tag ≡ false
+  pub here : k < length rules → (ruleAt rules k) .tag ≡ tag
 
--- a cell with a transition more, which becomes edge number n
-abbrev pub linked : ℕ → ℕ → ℕ
-linked cell n = (n + 1) * 2 + cell % 2
+-- ---- While a rule is open.
+-- `rows` has a cell for each state: the stamp of the rule for which it was written, the head of the state's chain and whether it is final.
+-- A cell with another stamp counts as empty, so that a new rule needs no cell cleared.
 
--- a cell whose state becomes final
-abbrev pub marked : ℕ → ℕ
-marked cell = cell / 2 * 2 + 1
+abbrev pub rowWord : ℕ → ℕ → ℕ → ℕ
+rowWord stamp head final = stamp * 131072 + head * 2 + final
+
+-- the cell of state s in the rule with this stamp: twice the head, plus 1 where the state is final
+abbrev pub cellAt : List ℕ → ℕ → ℕ → ℕ
+cellAt rows stamp s = if (eqb (getD rows s 0 / 131072) stamp) (getD rows s 0 % 131072) 0
+
+-- what the words from first to before end and the cells hold of an open rule
+pub record Built (tb rows : List ℕ) (stamp first end : ℕ) (fs : List ℕ) (ts : List Transition) : Type 0 where
+  pub start : edgeStart ≤ first
+  pub room : end ≤ length tb
+  pub short : end < 65536
+  pub cells : length rows ≡ stateCount
+  pub listed : Listed tb first end ts
+  pub chains : (s : ℕ) → s < stateCount → Chain tb first (cellAt rows stamp s / 2) (leaving s ts)
+  pub tops : (s : ℕ) → s < stateCount → cellAt rows stamp s / 2 < end
+  pub finals : (s : ℕ) → s < stateCount → eqb (cellAt rows stamp s % 2) 1 ≡ among s fs
+
+-- the spot of state s in the rule with this stamp
+abbrev pub spotAt : List ℕ → ℕ → ℕ → ℕ
+spotAt rows stamp s = s * 131072 + cellAt rows stamp s
+
+-- a transition's word with the spot of the state to which it leads
+abbrev pub settled : List ℕ → ℕ → ℕ → ℕ
+settled rows stamp e = edgeWord (lowOf e) (highOf e) (nextOf e) (spotAt rows stamp (toOf e))
+
+-- the words from first to before end are settled, and no other word has changed
+pub record Settles (rows : List ℕ) (stamp first end : ℕ) (tb tb₁ : List ℕ) : Type 0 where
+  pub same-length : length tb₁ ≡ length tb
+  pub inside : (i : ℕ) → first ≤ i → i < end → edgeAt tb₁ i ≡ settled rows stamp (edgeAt tb i)
+  pub outside : (i : ℕ) → (i < first) ⊎ (end ≤ i) → edgeAt tb₁ i ≡ edgeAt tb i

@@ -1,62 +1,122 @@
-// Filling the tables of a rule: its transitions and final states.
+// Filling the table with a rule: its transitions, chained by the state that they leave, and at its end the spots to which they lead.
+// While a rule is open, `rows` has the cells of its states.
 ghost use mathlib.Core.Path.{_≡_};
 ghost use mathlib.Core.List.{List};
-ghost use Prim.Native.Nat.{_/_, _<_};
-ghost use lib.ListN.{length, getD, set};
+ghost use Prim.Native.Nat.{ℕ, _+_, _*_, _/_, _%_, _≤_, _<_};
+ghost use lib.ListN.{length, set};
 ghost use Rattle.automaton.specs.Choice.{any};
-ghost use Rattle.automaton.specs.Rule.{Transition};
-ghost use Rattle.automaton.specs.Contracts.{edgeWord, Chain, Chained, shares, linked, marked};
+ghost use Rattle.automaton.specs.Rule.{Transition, stateCount};
+ghost use Rattle.automaton.specs.Contracts.{ruleRoom, edgeStart, edgeWord, bareSpot, nameWord, bodyWord, Chain, Chained, shares};
+ghost use Rattle.automaton.specs.Contracts.{rowWord, cellAt, spotAt, Settles, settled, edgeAt, toOf};
+
+// The cell of state `s` in the rule with this stamp: twice the head of its chain, plus 1 where it is final.
+pub fn cell(rows: &[u32], stamp: u32, s: usize) -> u32
+    requires { ⌜ s < length (now rows) ⌝ }
+    ensures { λ r. ⌜ r ≡ cellAt (now (rows .entry)) stamp s ⌝ }
+{
+    let row = rows[s];
+    if row / 131072 == stamp { row % 131072 } else { 0 }
+}
 
 // Whether some transition of the chain that starts at `head` shares a byte with `low` to `high`.
-pub fn shares_byte(edges: &[u64], head: usize, low: u8, high: u8) -> bool
-    requires { ⌜ Chained (now edges) head ⌝ }
-    ensures { λ r. ⌜ ((ts : List Transition) → Chain (now (edges .entry)) head ts → r ≡ any (shares low high) ts) ⌝ }
+pub fn shares_byte(table: &[u64], head: usize, low: u8, high: u8) -> bool
+    requires { ⌜ Chained (now table) head ⌝ }
+    ensures { λ r. ⌜ ((first : ℕ) (ts : List Transition) → Chain (now (table .entry)) first head ts → r ≡ any (shares low high) ts) ⌝ }
 {
     let first = low as u64;
     let last = high as u64;
     let mut h = head;
     while h != 0 {
-        let e = edges[h - 1];
-        if first <= e / 256 % 256 {
-            if e % 256 <= last {
+        let e = table[h];
+        if first <= crate::words::high(e) {
+            if crate::words::low(e) <= last {
                 return true;
             }
         }
-        h = (e / 4294967296) as usize;
+        h = crate::words::next(e);
     }
     false
 }
 
-// Puts a transition, as number `count`, in front of the chain of the state whose cell is `cell`.
-pub fn add_edge(
-    states: &mut [u16],
-    edges: &mut [u64],
-    cell: usize,
-    count: usize,
-    low: u8,
-    high: u8,
-    to: u16,
-)
-    requires { ⌜ (cell < length (now states)) × (count < length (now edges)) × (count < 32767) ⌝ }
-    ensures { λ r. ⌜ now (states .exit) ≡ set (now (states .entry)) cell (linked (getD (now (states .entry)) cell 0) count) ⌝ }
-    ensures { λ r. ⌜ now (edges .exit) ≡ set (now (edges .entry)) count (edgeWord low high to (getD (now (states .entry)) cell 0 / 2)) ⌝ }
+// Stores the word of a transition to state `to`, with the next link of its chain.
+pub fn put_edge(table: &mut [u64], at: usize, low: u8, high: u8, next: usize, to: u8)
+    requires { ⌜ (at < length (now table)) × (next < 65536) ⌝ }
+    ensures { λ r. ⌜ now (table .exit) ≡ set (now (table .entry)) at (edgeWord low high next (bareSpot to)) ⌝ }
 {
-    let old = states[cell];
-    edges[count] = edge_word(low, high, to, old / 2);
-    states[cell] = ((count + 1) * 2) as u16 + old % 2;
+    table[at] = crate::words::edge(low, high, next, (to as u64) * 131072);
 }
 
-fn edge_word(low: u8, high: u8, to: u16, next: u16) -> u64
-    ensures { λ r. ⌜ r ≡ edgeWord low high to next ⌝ }
+// Makes `link` the head of the chain of state `s`.
+pub fn link_state(rows: &mut [u32], stamp: u32, s: usize, link: usize)
+    requires { ⌜ (s < length (now rows)) × (stamp ≤ ruleRoom) × (link < 65536) ⌝ }
+    ensures { λ r. ⌜ now (rows .exit) ≡ set (now (rows .entry)) s (rowWord stamp link (cellAt (now (rows .entry)) stamp s % 2)) ⌝ }
 {
-    (next as u64) * 4294967296 + (to as u64) * 65536 + (high as u64) * 256 + (low as u64)
+    let old = cell(rows, stamp, s);
+    rows[s] = stamp * 131072 + (link as u32) * 2 + old % 2;
 }
 
-// Marks the state of `cell` as final.
-pub fn mark_final(states: &mut [u16], cell: usize)
-    requires { ⌜ cell < length (now states) ⌝ }
-    ensures { λ r. ⌜ now (states .exit) ≡ set (now (states .entry)) cell (marked (getD (now (states .entry)) cell 0)) ⌝ }
+// Marks state `s` as final.
+pub fn mark_final(rows: &mut [u32], stamp: u32, s: usize)
+    requires { ⌜ (s < length (now rows)) × (stamp ≤ ruleRoom) ⌝ }
+    ensures { λ r. ⌜ now (rows .exit) ≡ set (now (rows .entry)) s (rowWord stamp (cellAt (now (rows .entry)) stamp s / 2) 1) ⌝ }
 {
-    let old = states[cell];
-    states[cell] = old / 2 * 2 + 1;
+    let old = cell(rows, stamp, s);
+    rows[s] = stamp * 131072 + old / 2 * 2 + 1;
+}
+
+// The spot of state `s`.
+pub fn spot_of(rows: &[u32], stamp: u32, s: usize) -> u64
+    requires { ⌜ (s < length (now rows)) × (length (now rows) ≡ stateCount) ⌝ }
+    ensures { λ r. ⌜ r ≡ spotAt (now (rows .entry)) stamp s ⌝ }
+{
+    (s as u64) * 131072 + (cell(rows, stamp, s) as u64)
+}
+
+// Puts into each of the words from `first` to before `end` the spot of the state to which it leads.
+pub fn settle(table: &mut [u64], rows: &[u32], stamp: u32, first: usize, end: usize)
+    requires { ⌜ (first ≤ end) × (end ≤ length (now table)) × (length (now rows) ≡ stateCount) ⌝ }
+    requires { ⌜ ((i : ℕ) → first ≤ i → i < end → toOf (edgeAt (now table) i) < stateCount) ⌝ }
+    ensures { λ r. ⌜ Settles (now (rows .entry)) stamp first end (now (table .entry)) (now (table .exit)) ⌝ }
+{
+    let mut i = first;
+    while i < end {
+        settle_one(table, rows, stamp, i);
+        i += 1;
+    }
+}
+
+fn settle_one(table: &mut [u64], rows: &[u32], stamp: u32, i: usize)
+    requires { ⌜ (i < length (now table)) × (length (now rows) ≡ stateCount) × (toOf (edgeAt (now table) i) < stateCount) ⌝ }
+    ensures { λ r. ⌜ now (table .exit) ≡ set (now (table .entry)) i (settled (now (rows .entry)) stamp (edgeAt (now (table .entry)) i)) ⌝ }
+{
+    let e = table[i];
+    let to = crate::words::state(crate::words::spot(e)) as usize;
+    let low = crate::words::low(e) as u8;
+    let high = crate::words::high(e) as u8;
+    table[i] = crate::words::edge(low, high, crate::words::next(e), spot_of(rows, stamp, to));
+}
+
+// Stores the name of rule number `rule`.
+pub fn put_name(table: &mut [u64], rule: usize, tag: u16, kind: u8, error: u8)
+    requires { ⌜ (rule < ruleRoom) × (edgeStart ≤ length (now table)) ⌝ }
+    ensures { λ r. ⌜ now (table .exit) ≡ set (now (table .entry)) (2 * rule + 1) (nameWord tag kind error) ⌝ }
+{
+    table[2 * rule + 1] = (tag as u64) * 16777216 + (kind as u64) * 65536 + (error as u64);
+}
+
+// Stores the body of rule number `rule`.
+pub fn put_body(table: &mut [u64], rule: usize, start: u64, first: usize, end: usize)
+    requires { ⌜ (rule < ruleRoom) × (edgeStart ≤ length (now table)) ⌝ }
+    requires { ⌜ (start < 4294967296) × (first < 65536) × (end < 65536) ⌝ }
+    ensures { λ r. ⌜ now (table .exit) ≡ set (now (table .entry)) (2 * rule + 2) (bodyWord start first end) ⌝ }
+{
+    table[2 * rule + 2] = start * 4294967296 + (first as u64) * 65536 + (end as u64);
+}
+
+// Stores the number of rules.
+pub fn put_count(table: &mut [u64], rules: usize)
+    requires { ⌜ edgeStart ≤ length (now table) ⌝ }
+    ensures { λ r. ⌜ now (table .exit) ≡ set (now (table .entry)) 0 rules ⌝ }
+{
+    table[0] = rules as u64;
 }

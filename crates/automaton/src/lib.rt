@@ -1,62 +1,89 @@
-// Rules at run time: their transitions in flat arrays, chained by the state that they leave, and one step along them.
-// A step costs the transitions that leave the state, whatever the size of the rule.
-// `building` fills the arrays; `walking` goes along them over a text.
+// Rules at run time: a book's rules in one slice of words, the table. What is in a table and where is said in specs/Contracts.antt and
+// known here, in `words` and in `building` alone. A step costs the transitions that leave the state, whatever the size of the rule.
+// `building` fills a table; `walking` goes along a rule's transitions over a text.
 pub mod building;
 pub mod walking;
+pub mod words;
 
 ghost use mathlib.Core.Path.{_≡_};
 ghost use mathlib.Core.List.{List};
-ghost use Rattle.automaton.specs.Rule.{Transition};
-ghost use Rattle.automaton.specs.Contracts.{coversWord, kindOf, tagOf, headerWord, Chain, Chained, pick};
+ghost use lib.ListN.{length};
+ghost use Rattle.automaton.specs.Rule.{Rule};
+ghost use Rattle.automaton.specs.Contracts.{firstOf, endOf, startOf, bodyAt, Table, Tabled, Holds, Held, Ranks};
 
-// The states of a rule are below this; `states` has as many cells for each rule.
+// Rules that a table has room for, and the place of the first transition.
+pub const RULES: usize = 32;
+
+pub const EDGE_START: usize = 65;
+
+// The states of a rule are below this.
 pub const STATES: usize = 256;
 
-// A rule's header word: tag, kind, start and error state.
-pub fn header(tag: u16, kind: u8, start: u16, error: u16) -> u64
-    ensures { λ r. ⌜ r ≡ headerWord tag kind start error ⌝ }
+// How many rules the table holds.
+pub fn count_of(table: &[u64]) -> usize
+    requires { ⌜ Held (now table) ⌝ }
+    ensures { λ r. ⌜ ((rs : List Rule) → Holds (now (table .entry)) rs → r ≡ length rs) ⌝ }
 {
-    (tag as u64) * 1099511627776
-        + (kind as u64) * 4294967296
-        + (start as u64) * 65536
-        + (error as u64)
+    table[0] as usize
 }
 
-pub fn tag_of(header: u64) -> u64
-    ensures { λ r. ⌜ r ≡ tagOf header ⌝ }
+pub fn tag_of(table: &[u64], rule: usize) -> u64
+    requires { ⌜ Tabled (now table) rule ⌝ }
+    ensures { λ r. ⌜ ((m : Rule) → Table (now (table .entry)) rule m → r ≡ m .tag) ⌝ }
 {
-    header / 1099511627776
+    table[2 * rule + 1] / 16777216
 }
 
-pub fn kind_of(header: u64) -> u64
-    ensures { λ r. ⌜ r ≡ kindOf header ⌝ }
+pub fn kind_of(table: &[u64], rule: usize) -> u64
+    requires { ⌜ Tabled (now table) rule ⌝ }
+    ensures { λ r. ⌜ ((m : Rule) → Table (now (table .entry)) rule m → r ≡ m .kind) ⌝ }
 {
-    header / 4294967296 % 256
+    table[2 * rule + 1] / 65536 % 256
 }
 
-// Whether the transition of an edge word covers `byte`.
-fn covers(edge: u64, byte: u64) -> bool
-    ensures { λ r. ⌜ r ≡ coversWord edge byte ⌝ }
+// The number of the error state.
+pub fn error_of(table: &[u64], rule: usize) -> u64
+    requires { ⌜ Tabled (now table) rule ⌝ }
+    ensures { λ r. ⌜ ((m : Rule) → Table (now (table .entry)) rule m → r ≡ m .error) ⌝ }
 {
-    if edge % 256 <= byte {
-        byte <= edge / 256 % 256
-    } else {
-        false
-    }
+    table[2 * rule + 1] % 65536
 }
 
-// Where the chain that starts at `head` leads at `byte`.
-pub fn step(edges: &[u64], head: usize, byte: u64, error: usize) -> usize
-    requires { ⌜ Chained (now edges) head ⌝ }
-    ensures { λ r. ⌜ ((ts : List Transition) → Chain (now (edges .entry)) head ts → r ≡ pick ts byte error) ⌝ }
+// The spot of the start.
+pub fn start_of(table: &[u64], rule: usize) -> u64
+    requires { ⌜ Tabled (now table) rule ⌝ }
+    ensures { λ r. ⌜ r ≡ startOf (bodyAt (now (table .entry)) rule) ⌝ }
 {
-    let mut h = head;
-    while h != 0 {
-        let e = edges[h - 1];
-        if covers(e, byte) {
-            return (e / 65536 % 65536) as usize;
+    table[2 * rule + 2] / 4294967296
+}
+
+// The place of the rule's first transition, and the one behind its last.
+pub fn first_of(table: &[u64], rule: usize) -> usize
+    requires { ⌜ Tabled (now table) rule ⌝ }
+    ensures { λ r. ⌜ r ≡ firstOf (bodyAt (now (table .entry)) rule) ⌝ }
+{
+    (table[2 * rule + 2] / 65536 % 65536) as usize
+}
+
+pub fn end_of(table: &[u64], rule: usize) -> usize
+    requires { ⌜ Tabled (now table) rule ⌝ }
+    ensures { λ r. ⌜ r ≡ endOf (bodyAt (now (table .entry)) rule) ⌝ }
+{
+    (table[2 * rule + 2] % 65536) as usize
+}
+
+// The number of the first rule of this tag; that of all rules where none has it.
+pub fn find_tag(table: &[u64], tag: u64) -> usize
+    requires { ⌜ Held (now table) ⌝ }
+    ensures { λ r. ⌜ ((rs : List Rule) → Holds (now (table .entry)) rs → Ranks rs tag r) ⌝ }
+{
+    let rules = count_of(table);
+    let mut k = 0;
+    while k < rules {
+        if tag_of(table, k) == tag {
+            return k;
         }
-        h = (e / 4294967296) as usize;
+        k += 1;
     }
-    error
+    k
 }

@@ -1,37 +1,48 @@
 // The walk of a rule over a text.
-use crate::STATES;
 ghost use mathlib.Core.Path.{_≡_};
-ghost use Rattle.automaton.specs.Rule.{Rule, longest};
-ghost use Rattle.automaton.specs.Contracts.{Table, Tabled};
+ghost use mathlib.Core.List.{List};
+ghost use Prim.Native.Nat.{ℕ};
+ghost use Rattle.automaton.specs.Rule.{Transition, Rule, longest};
+ghost use Rattle.automaton.specs.Contracts.{Chain, Chained, Finds, Table, Tabled};
+
+// The link of the transition that covers `byte` in the chain that starts at `head`; 0 for none.
+fn find(table: &[u64], head: usize, byte: u64) -> usize
+    requires { ⌜ Chained (now table) head ⌝ }
+    ensures { λ r. ⌜ ((first : ℕ) (ts : List Transition) → Chain (now (table .entry)) first head ts
+        → Finds (now (table .entry)) first head ts byte r) ⌝ }
+{
+    let mut h = head;
+    while h != 0 {
+        let e = table[h];
+        if crate::words::covers(e, byte) {
+            return h;
+        }
+        h = crate::words::next(e);
+    }
+    h
+}
 
 // The number of bytes of the longest prefix of `text` that rule number `rule` matches, 0 for none.
 // The walk goes through states that are not final and stops at the error state.
-pub fn longest_prefix(
-    headers: &[u64],
-    states: &[u16],
-    edges: &[u64],
-    rule: usize,
-    text: &[u8],
-) -> usize
-    requires { ⌜ Tabled (now headers) (now states) (now edges) rule ⌝ }
-    ensures { λ r. ⌜ ((m : Rule) → Table (now (headers .entry)) (now (states .entry)) (now (edges .entry)) rule m
-        → r ≡ longest m (now (text .entry))) ⌝ }
+pub fn longest_prefix(table: &[u64], rule: usize, text: &[u8]) -> usize
+    requires { ⌜ Tabled (now table) rule ⌝ }
+    ensures { λ r. ⌜ ((m : Rule) → Table (now (table .entry)) rule m → r ≡ longest m (now (text .entry))) ⌝ }
 {
-    let header = headers[rule];
-    let base = rule * STATES;
-    let error = (header % 65536) as usize;
-    let mut s = (header / 65536 % 65536) as usize;
+    let error = crate::error_of(table, rule);
+    let mut spot = crate::start_of(table, rule);
     let mut best = 0;
     let mut i = 0;
     while i < text.len() {
-        let cell = states[base + s];
-        s = crate::step(edges, (cell / 2) as usize, text[i] as u64, error);
-        if s == error {
+        let link = find(table, crate::words::head(spot), text[i] as u64);
+        if link == 0 {
+            return best;
+        }
+        spot = crate::words::spot(table[link]);
+        if crate::words::state(spot) == error {
             return best;
         }
         i += 1;
-        let reached = states[base + s];
-        if reached % 2 == 1 {
+        if crate::words::is_final(spot) {
             best = i;
         }
     }

@@ -1,6 +1,6 @@
 use borrow.Author.Tests.{le-leb, lt-leb}
-use Rattle.automaton.proofs.covers.Statement.{statement}
-use Rattle.automaton.proofs.covers.Tie as tie
+use Rattle.automaton.proofs.words.covers.Statement.{statement}
+use Rattle.automaton.proofs.words.covers.Tie as tie
 
 returns : tie.Need-returns
 returns c = simp (le-leb _ _ (c .if1 .taken))
