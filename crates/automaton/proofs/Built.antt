@@ -14,7 +14,7 @@ use Rattle.automaton.specs.Choice.{if, All, any, among}
 use Rattle.automaton.specs.Rule.{Transition, Rule, meets, Ranged, stateCount}
 use Rattle.automaton.specs.Contracts.{edgeStart, lowOf, highOf, nextOf, toOf, spotOf, edgeWord, bareSpot, stateOf, headOf, isFinal}
 use Rattle.automaton.specs.Contracts.{edgeAt, nameAt, bodyAt, firstOf, endOf, Edge, Listed, Link, Chain, leaving, shares, Spot, Body, Table}
-use Rattle.automaton.specs.Contracts.{rowWord, cellAt, spotAt, settled, Built, Settles}
+use Rattle.automaton.specs.Contracts.{rowWord, cellAt, headIn, spotAt, settled, Built, Settles}
 
 -- ---- words, taken apart
 
@@ -36,6 +36,9 @@ cell-small rows stamp s = go (eqb (getD rows s 0 / 131072) stamp)
     go : (c : Bool) → if c (getD rows s 0 % 131072) 0 < 131072
     go true = omega arith
     go false = omega arith
+
+pub spot-small : (rows : List ℕ) (stamp s : ℕ) → s < stateCount → spotAt rows stamp s < 4294967296
+spot-small rows stamp s l = let c = cell-small rows stamp s in omega arith
 
 -- ---- what a change leaves alone
 
@@ -118,6 +121,14 @@ table-keeps {tb} {tb₁} {k} {r} n b s t =
       sound = t .sound;
     }
 
+pub listed-order : (tb : List ℕ) (first end : ℕ) (ts : List Transition) → Listed tb first end ts → first ≤ end
+listed-order tb first end [] c = omega arith
+listed-order tb first end (t ∷ ts) (l, k, c) = omega arith
+
+pub listed-length : (tb : List ℕ) (first end : ℕ) (ts : List Transition) → Listed tb first end ts → end ≡ first + length ts
+listed-length tb first end [] c = omega arith
+listed-length tb first end (t ∷ ts) (l, k, c) = let q = listed-length tb first (end - 1) ts c in omega arith
+
 -- the transitions lead to states
 pub listed-below : (tb : List ℕ) (first end : ℕ) (ts : List Transition) → All (Ranged stateCount) ts → Listed tb first end ts
     → (i : ℕ) → first ≤ i → i < end → toOf (edgeAt tb i) < stateCount
@@ -199,9 +210,8 @@ module _ (rows : List ℕ) (stamp from head mark : ℕ) (room : length rows ≡ 
       go false e = let n = eqb-false from s e in subst (P s) (sym (other s n)) (q s l n)
 
 module _ {tb rows : List ℕ} {stamp first end : ℕ} {fs : List ℕ} {ts : List Transition} (b : Built tb rows stamp first end fs ts) where
-  first-end : (e : ℕ) (us : List Transition) → Listed tb first e us → first ≤ e
-  first-end e [] c = omega arith
-  first-end e (t ∷ us) (l, k, c) = omega arith
+  pub built-order : first ≤ end
+  built-order = listed-order tb first end ts (b .listed)
 
   -- a transition more
   module _ (t : Transition) (room : end < length tb) (short : end + 1 < 65536) (f : t.from < stateCount)
@@ -211,9 +221,6 @@ module _ {tb rows : List ℕ} {stamp first end : ℕ} {fs : List ℕ} {ts : List
 
     abbrev word₁ : ℕ
     word₁ = edgeWord t.low t.high (cell / 2) (bareSpot t.to)
-
-    le : first ≤ end
-    le = first-end end ts (b .listed)
 
     same : Keeps tb (set tb end word₁) first end
     same = keeps-set tb first end end word₁ (inr (omega arith))
@@ -229,20 +236,20 @@ module _ {tb rows : List ℕ} {stamp first end : ℕ} {fs : List ℕ} {ts : List
         let h : (end * 2 + cell % 2) / 2 ≡ end = omega arith in
         let m : (end * 2 + cell % 2) % 2 ≡ cell % 2 = omega arith in
         let z : end + 1 - 1 ≡ end = omega arith in
-        let pos : 0 < end = omega (arith, b .start, le) in
+        let pos : 0 < end = omega (arith, b .start, built-order) in
         record {
           start = b .start;
           room = simp length-set (omega arith);
           short = short;
           cells = simp length-set (b .cells);
           listed = (
-            omega (arith, le),
-            rw z (new-edge tb first end (cell / 2) t room (omega arith) le pos lo hi (b .tops t.from f)),
+            omega (arith, built-order),
+            rw z (new-edge tb first end (cell / 2) t room (omega arith) built-order pos lo hi (b .tops t.from f)),
             rw z (listed-agrees (keeps-agrees same) end ts (omega arith) (b .listed)),
           );
           chains = stored₁ (λ s x. Chain (set tb end word₁) first (x / 2) (leaving s (t ∷ ts)))
               (rw (leaving-hit t.from t ts refl, h)
-              (chain-more tb first end (cell / 2) t room (omega arith) le pos lo hi (b .tops t.from f) (leaving t.from ts) (b .chains t.from f)))
+              (chain-more tb first end (cell / 2) t room (omega arith) built-order pos lo hi (b .tops t.from f) (leaving t.from ts) (b .chains t.from f)))
               (λ s l ne. rw (leaving-miss s t ts ne)
               (chain-agrees (keeps-agrees same) (cellAt rows stamp s / 2) (leaving s ts) (b .tops s l) (b .chains s l)));
           tops = stored₁ (λ s x. x / 2 < end + 1) (omega arith) (λ s l ne. omega (arith, b .tops s l));
@@ -418,13 +425,13 @@ chain-some tb first h (t ∷ ts) (k, c) = let p = k .some in rw (ne-eqb h 0 (λ 
 -- a head is 0 exactly where nothing leaves the state
 module _ {tb rows : List ℕ} {stamp first end : ℕ} {fs : List ℕ} {ts : List Transition} (b : Built tb rows stamp first end fs ts)
     (s : ℕ) (l : s < stateCount) where
-  head-leaves : any (λ (t : Transition). eqb t.from s) ts ≡ not (eqb (cellAt rows stamp s / 2) 0)
-  head-leaves = leaves ts s ∙ chain-some tb first (cellAt rows stamp s / 2) (leaving s ts) (b .chains s l)
+  head-leaves : any (λ (t : Transition). eqb t.from s) ts ≡ not (eqb (headIn rows stamp s) 0)
+  head-leaves = leaves ts s ∙ chain-some tb first (headIn rows stamp s) (leaving s ts) (b .chains s l)
 
-  pub head-none : cellAt rows stamp s / 2 ≡ 0 → any (λ (t : Transition). eqb t.from s) ts ≡ false
+  pub head-none : headIn rows stamp s ≡ 0 → any (λ (t : Transition). eqb t.from s) ts ≡ false
   head-none z = head-leaves ∙ rw (eq-eqb _ _ z)
 
-  pub head-some : (cellAt rows stamp s / 2 ≡ 0 → ⊥) → any (λ (t : Transition). eqb t.from s) ts ≡ true
+  pub head-some : (headIn rows stamp s ≡ 0 → ⊥) → any (λ (t : Transition). eqb t.from s) ts ≡ true
   head-some z = head-leaves ∙ rw (ne-eqb _ _ z)
 
 -- a new transition meets one that is there exactly where it shares a byte with one of its state's chain

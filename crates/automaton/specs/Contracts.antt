@@ -220,6 +220,12 @@ rowWord stamp head final = stamp * 131072 + head * 2 + final
 abbrev pub cellAt : List ℕ → ℕ → ℕ → ℕ
 cellAt rows stamp s = if (eqb (getD rows s 0 / 131072) stamp) (getD rows s 0 % 131072) 0
 
+abbrev pub headIn : List ℕ → ℕ → ℕ → ℕ
+headIn rows stamp s = cellAt rows stamp s / 2
+
+abbrev pub finalIn : List ℕ → ℕ → ℕ → Bool
+finalIn rows stamp s = eqb (cellAt rows stamp s % 2) 1
+
 -- what the words from first to before end and the cells hold of an open rule
 pub record Built (tb rows : List ℕ) (stamp first end : ℕ) (fs : List ℕ) (ts : List Transition) : Type 0 where
   pub start : edgeStart ≤ first
@@ -227,9 +233,9 @@ pub record Built (tb rows : List ℕ) (stamp first end : ℕ) (fs : List ℕ) (t
   pub short : end < 65536
   pub cells : length rows ≡ stateCount
   pub listed : Listed tb first end ts
-  pub chains : (s : ℕ) → s < stateCount → Chain tb first (cellAt rows stamp s / 2) (leaving s ts)
-  pub tops : (s : ℕ) → s < stateCount → cellAt rows stamp s / 2 < end
-  pub finals : (s : ℕ) → s < stateCount → eqb (cellAt rows stamp s % 2) 1 ≡ among s fs
+  pub chains : (s : ℕ) → s < stateCount → Chain tb first (headIn rows stamp s) (leaving s ts)
+  pub tops : (s : ℕ) → s < stateCount → headIn rows stamp s < end
+  pub finals : (s : ℕ) → s < stateCount → finalIn rows stamp s ≡ among s fs
 
 -- the spot of state s in the rule with this stamp
 abbrev pub spotAt : List ℕ → ℕ → ℕ → ℕ

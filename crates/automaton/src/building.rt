@@ -7,15 +7,31 @@ ghost use lib.ListN.{length, set};
 ghost use Rattle.automaton.specs.Choice.{any};
 ghost use Rattle.automaton.specs.Rule.{Transition, stateCount};
 ghost use Rattle.automaton.specs.Contracts.{ruleRoom, edgeStart, edgeWord, bareSpot, nameWord, bodyWord, Chain, Chained, shares};
-ghost use Rattle.automaton.specs.Contracts.{rowWord, cellAt, spotAt, Settles, settled, edgeAt, toOf};
+ghost use Rattle.automaton.specs.Contracts.{rowWord, cellAt, headIn, finalIn, spotAt, Settles, settled, edgeAt, toOf};
 
 // The cell of state `s` in the rule with this stamp: twice the head of its chain, plus 1 where it is final.
-pub fn cell(rows: &[u32], stamp: u32, s: usize) -> u32
+fn cell(rows: &[u32], stamp: u32, s: usize) -> u32
     requires { ⌜ s < length (now rows) ⌝ }
     ensures { λ r. ⌜ r ≡ cellAt (now (rows .entry)) stamp s ⌝ }
 {
     let row = rows[s];
     if row / 131072 == stamp { row % 131072 } else { 0 }
+}
+
+// The head of the chain of state `s`.
+pub fn head(rows: &[u32], stamp: u32, s: usize) -> usize
+    requires { ⌜ s < length (now rows) ⌝ }
+    ensures { λ r. ⌜ r ≡ headIn (now (rows .entry)) stamp s ⌝ }
+{
+    (cell(rows, stamp, s) / 2) as usize
+}
+
+// Whether state `s` is final.
+pub fn is_final(rows: &[u32], stamp: u32, s: usize) -> bool
+    requires { ⌜ s < length (now rows) ⌝ }
+    ensures { λ r. ⌜ r ≡ finalIn (now (rows .entry)) stamp s ⌝ }
+{
+    cell(rows, stamp, s) % 2 == 1
 }
 
 // Whether some transition of the chain that starts at `head` shares a byte with `low` to `high`.
@@ -66,7 +82,7 @@ pub fn mark_final(rows: &mut [u32], stamp: u32, s: usize)
 
 // The spot of state `s`.
 pub fn spot_of(rows: &[u32], stamp: u32, s: usize) -> u64
-    requires { ⌜ (s < length (now rows)) × (length (now rows) ≡ stateCount) ⌝ }
+    requires { ⌜ (s < stateCount) × (length (now rows) ≡ stateCount) ⌝ }
     ensures { λ r. ⌜ r ≡ spotAt (now (rows .entry)) stamp s ⌝ }
 {
     (s as u64) * 131072 + (cell(rows, stamp, s) as u64)

@@ -1,182 +1,219 @@
--- The tables while a book is read: a final state more, a transition more, a rule closed. Assumes nothing.
-use mathlib.Core.Path.{_≡_, refl, _∙_}
+-- The table while a book is read: a final state more, a transition more, a rule closed. Assumes nothing.
+use mathlib.Core.Path.{_≡_, refl, sym, _∙_, ap, subst}
 use mathlib.Core.Bool.{Bool, true, false}
+use mathlib.Core.Logic.{inl, inr}
 use mathlib.Core.List.{List, [], _∷_, _++_}
-use Prim.Native.Nat.{ℕ, _+_, _*_, _/_, _<_, _≤_}
+use Prim.Native.Nat.{ℕ, _+_, _*_, _/_, _%_, _<_, _≤_}
 use native.Mathlib.Omega.{arith}
 use lib.Dec.{eqb}
-use lib.ListN.{replicate, length-replicate, getD-replicate, length, getD, set, length-set, length-append, List·getD-append}
+use lib.ListN.{length, getD, set, length-set, length-append, List·getD-append}
 use lib.Seq.{getD-set-same, getD-set-other, getD-at}
 use borrow.Author.Tests.{eqb-true, eqb-false}
 use borrow.Author.Count.{below-more}
 use Rattle.automaton.specs.Rule.{Transition, Rule, stateCount}
-use Rattle.automaton.specs.Contracts.{headerWord, edgeWord, headAt, linked, marked, blank, ruleAt, Cells, Table, Built}
-use Rattle.automaton.proofs.Built.{built-edge, built-final, built-frame, built-cell-frame, built-blank}
+use Rattle.automaton.specs.Contracts.{edgeStart, nameWord, bodyWord, startOf, firstOf, endOf, bareSpot, edgeWord, countAt, nameAt, bodyAt, edgeAt}
+use Rattle.automaton.specs.Contracts.{rowWord, headIn, cellAt, spotAt, blank, ruleAt, Table, Holds, Built, Settles}
+use Rattle.automaton.proofs.Built.{built-edge, built-final, built-blank, built-spot, built-body, built-order}
+use Rattle.automaton.proofs.Built.{Keeps, keeps-set, keeps-agrees, spot-agrees, body-keeps, table-keeps}
 use Rattle.book.specs.Limits.{maxRules}
 use Rattle.book.specs.Valid.{ValidRule}
-use Rattle.book.specs.Contracts.{edgeCount, cellCount, Fresh, Stored}
+use Rattle.book.specs.Contracts.{Fresh, Stored}
 
--- a rule's cells, and its table, in other cells and edges
-retable : {hs ss es ss₁ es₁ : List ℕ} {k : ℕ} {r : Rule} → Table hs ss es k r
-    → Cells ss₁ es₁ (k * stateCount) r.finals r.transitions → Table hs ss₁ es₁ k r
-retable t c = record { room = t .room; word = t .word; kind = t .kind; cells = c; sound = t .sound }
-
--- one place stored, read at any place: the bound of its head
-top-set : (ss : List ℕ) (j v n i : ℕ) → j < length ss → v / 2 ≤ n → headAt ss i ≤ n → headAt (set ss j v) i ≤ n
-top-set ss j v n i r l h = go (eqb i j) refl
+-- one cell stored: the bound of the stamps
+stamp-set : (rows : List ℕ) (stamp j head mark : ℕ) → j < length rows → head * 2 + mark < 131072
+    → ((s : ℕ) → s < stateCount → getD rows s 0 / 131072 ≤ stamp)
+    → (s : ℕ) → s < stateCount → getD (set rows j (rowWord stamp head mark)) s 0 / 131072 ≤ stamp
+stamp-set rows stamp j head mark r l h s k = go (eqb s j) refl
   where
-    go : (t : Bool) → eqb i j ≡ t → headAt (set ss j v) i ≤ n
-    go true e = rw (eqb-true i j e, getD-set-same ss j v 0 r) l
-    go false e = rw (getD-set-other ss j i v 0 (eqb-false i j e)) h
+    go : (t : Bool) → eqb s j ≡ t → getD (set rows j (rowWord stamp head mark)) s 0 / 131072 ≤ stamp
+    go true e = rw (eqb-true s j e, getD-set-same rows j (rowWord stamp head mark) 0 r) (omega arith)
+    go false e = rw (getD-set-other rows j s (rowWord stamp head mark) 0 (eqb-false s j e)) (h s k)
 
-module _ {edges : ℕ} {hs ss es : List ℕ} {rules : List Rule} {fs : List ℕ} {ts : List Transition}
-    (st : Stored edges hs ss es rules fs ts) where
-  built : (k : ℕ) → k < maxRules → {gs : List ℕ} {us : List Transition} → Cells ss es (k * stateCount) gs us
-      → Built ss es (k * stateCount) edges gs us
-  built k l c =
-      let z = st .sized .edges in
-      record { cells = c; edges = omega (arith, st .room); tops = λ s h. st .tops (k * stateCount + s) (omega arith) }
+module _ {first end : ℕ} {tb rows : List ℕ} {rules : List Rule} {fs : List ℕ} {ts : List Transition}
+    (st : Stored first end tb rows rules fs ts) where
+  abbrev stamp : ℕ
+  stamp = length rules + 1
 
-  module _ (open-room : length rules < maxRules) (s : ℕ) (below : s < stateCount) where
-    cell-inside : length rules * stateCount + s < length ss
-    cell-inside = let z = st .sized .cells in omega arith
+  -- a final state more
+  pub stored-final : (s : ℕ) → s < stateCount
+      → Stored first end tb (set rows s (rowWord (length rules + 1) (headIn rows (length rules + 1) s) 1)) rules (s ∷ fs) ts
+  stored-final s l =
+      record {
+        holds = st .holds;
+        apart = st .apart;
+        stamps = stamp-set rows stamp s (headIn rows stamp s) 1 (omega (arith, st .built .cells))
+            (omega (arith, st .built .tops s l, st .built .short)) (st .stamps);
+        built = built-final (st .built) s l;
+      }
 
-    apart : (k : ℕ) → k < length rules → (q : ℕ) → q < stateCount → k * stateCount + q ≡ length rules * stateCount + s → ⊥
-    apart k l q m e = omega arith
-
-    beyond : (v i : ℕ) → (length rules + 1) * stateCount ≤ i → i < cellCount → getD (set ss (length rules * stateCount + s) v) i 0 ≡ 0
-    beyond v i l m = getD-set-other ss (length rules * stateCount + s) i v 0 (λ e. omega arith) ∙ st .blank i l m
-
-    abbrev place : ℕ
-    place = length rules * stateCount + s
-
-    -- a final state more
-    pub stored-final : Stored edges hs
-        (set ss (length rules * stateCount + s) (marked (getD ss (length rules * stateCount + s) 0))) es rules (s ∷ fs) ts
-    stored-final =
-        record {
-          sized = record { headers = st .sized .headers; cells = simp length-set (st .sized .cells); edges = st .sized .edges };
-          tables = record {
-            each = λ k l.
-                let t = st .tables .each k l in
-                retable t (built-cell-frame (built k (omega arith) (t .cells)) place (marked (getD ss place 0)) (apart k l) .cells);
-          };
-          room = st .room;
-          tops = λ i l. top-set ss place (marked (getD ss place 0)) edges i cell-inside
-              (let z = st .tops place (omega arith) in omega arith) (st .tops i l);
-          current = λ l. built-final (built (length rules) l (st .current l)) s below .cells;
-          blank = beyond (marked (getD ss place 0));
-        }
+  -- closed rules in a table with the same words before `first`
+  module _ {tb₁ : List ℕ} (length-same : length tb₁ ≡ length tb)
+      (words : (i : ℕ) → edgeStart ≤ i → i < first → edgeAt tb₁ i ≡ edgeAt tb i)
+      (k : ℕ) (l : k < length rules) (n : nameAt tb₁ k ≡ nameAt tb k) (b : bodyAt tb₁ k ≡ bodyAt tb k) where
+    still : Table tb₁ k (ruleAt rules k)
+    still =
+        let p = st .apart k l in
+        table-keeps n b (record { length-same = length-same; words = λ i f e. words i (omega (arith, p .0)) (omega (arith, p .1)) })
+        (st .holds .each k l)
 
   -- a transition more
-  module _ (open-room : length rules < maxRules) (t : Transition) (more : edges < edgeCount) (f : t.from < stateCount)
-      (lo : t.low < 256) (hi : t.high < 256) (to : t.to < 65536) where
-    abbrev at : ℕ
-    at = length rules * stateCount + t.from
-
-    abbrev cell : ℕ
-    cell = linked (getD ss at 0) edges
-
+  module _ (t : Transition) (more : end < length tb) (short : end + 1 < 65536) (f : t.from < stateCount)
+      (lo : t.low < 256) (hi : t.high < 256) where
     abbrev word : ℕ
-    word = edgeWord t.low t.high t.to (getD ss at 0 / 2)
+    word = edgeWord t.low t.high (headIn rows stamp t.from) (bareSpot t.to)
 
-    pub stored-edge : Stored (edges + 1) hs
-        (set ss (length rules * stateCount + t.from) (linked (getD ss (length rules * stateCount + t.from) 0) edges))
-        (set es edges (edgeWord t.low t.high t.to (getD ss (length rules * stateCount + t.from) 0 / 2))) rules fs (t ∷ ts)
+    order : first ≤ end
+    order = built-order (st .built)
+
+    before : (i : ℕ) → i < end → edgeAt (set tb end word) i ≡ edgeAt tb i
+    before i l = getD-set-other tb end i word 0 (λ z. omega arith)
+
+    pub stored-edge : Stored first (end + 1) (set tb end (edgeWord t.low t.high (headIn rows (length rules + 1) t.from) (bareSpot t.to)))
+        (set rows t.from (rowWord (length rules + 1) end (cellAt rows (length rules + 1) t.from % 2))) rules fs (t ∷ ts)
     stored-edge =
-        let z = st .sized .edges in
+        let z = st .built .start in
+        let o = order in
+        let few = st .holds .few in
         record {
-          sized = record {
-            headers = st .sized .headers;
-            cells = simp length-set (st .sized .cells);
-            edges = simp length-set (st .sized .edges);
+          holds = record {
+            room = simp length-set (st .holds .room);
+            few = few;
+            count = before 0 (omega arith) ∙ st .holds .count;
+            each = λ k l. still (length-set tb end word) (λ i a b. before i (omega arith)) k l
+                (before (2 * k + 1) (omega arith)) (before (2 * k + 2) (omega arith));
           };
-          tables = record {
-            each = λ k l.
-                let b = st .tables .each k l in
-                let c = built k (omega arith) (b .cells) in
-                retable b (built-frame c at cell edges word (apart open-room t.from f k l) (omega arith) (omega arith) .cells);
-          };
-          room = omega arith;
-          tops = λ i l. top-set ss at cell (edges + 1) i
-              (cell-inside open-room t.from f) (omega arith) (let q = st .tops i l in omega arith);
-          current = λ l. built-edge (built (length rules) l (st .current l)) t (omega arith) f lo hi to .cells;
-          blank = beyond open-room t.from f cell;
+          apart = λ k l. rw (before (2 * k + 2) (omega arith)) (st .apart k l);
+          stamps = stamp-set rows stamp t.from end (cellAt rows stamp t.from % 2) (omega (arith, st .built .cells)) (omega arith) (st .stamps);
+          built = built-edge (st .built) t more short f lo hi;
         }
 
   -- the open rule closed
   module _ (r : Rule) (v : ValidRule r) (same-finals : r.finals ≡ fs) (same-transitions : r.transitions ≡ ts)
-      (open-room : length rules < maxRules) where
+      (open-room : length rules < maxRules) {middle : List ℕ} (w : Settles rows (length rules + 1) first end tb middle) where
+    abbrev rule : ℕ
+    rule = length rules
+
+    abbrev name : ℕ
+    name = nameWord r.tag r.kind r.error
+
+    abbrev body : ℕ
+    body = bodyWord (spotAt rows stamp r.start) first end
+
+    abbrev tb₁ : List ℕ
+    tb₁ = set (set (set middle (2 * rule + 1) name) (2 * rule + 2) body) 0 (rule + 1)
+
+    same-size : length tb₁ ≡ length tb
+    same-size = simp length-set (w .same-length)
+
+    -- every other word is that of the settled table
+    read : (i : ℕ) → 0 < i → (i ≡ 2 * rule + 1 → ⊥) → (i ≡ 2 * rule + 2 → ⊥) → edgeAt tb₁ i ≡ edgeAt middle i
+    read i p a b =
+        getD-set-other (set (set middle (2 * rule + 1) name) (2 * rule + 2) body) 0 i (rule + 1) 0 (λ z. omega arith)
+        ∙ getD-set-other (set middle (2 * rule + 1) name) (2 * rule + 2) i body 0 b ∙ getD-set-other middle (2 * rule + 1) i name 0 a
+
+    old : (i : ℕ) → 0 < i → (i ≡ 2 * rule + 1 → ⊥) → (i ≡ 2 * rule + 2 → ⊥) → i < first → edgeAt tb₁ i ≡ edgeAt tb i
+    old i p a b l = read i p a b ∙ w .outside i (inl l)
+
+    name-here : nameAt tb₁ rule ≡ name
+    name-here =
+        let m = w .same-length in
+        let l = st .holds .room in
+        getD-set-other (set (set middle (2 * rule + 1) name) (2 * rule + 2) body) 0 (2 * rule + 1) (rule + 1) 0 (λ z. omega arith)
+        ∙ getD-set-other (set middle (2 * rule + 1) name) (2 * rule + 2) (2 * rule + 1) body 0 (λ z. omega arith)
+        ∙ getD-set-same middle (2 * rule + 1) name 0 (omega arith)
+
+    body-here : bodyAt tb₁ rule ≡ body
+    body-here =
+        let m = w .same-length in
+        let l = st .holds .room in
+        getD-set-other (set (set middle (2 * rule + 1) name) (2 * rule + 2) body) 0 (2 * rule + 2) (rule + 1) 0 (λ z. omega arith)
+        ∙ getD-set-same (set middle (2 * rule + 1) name) (2 * rule + 2) body 0 (simp length-set (omega arith))
+
+    count-here : countAt tb₁ ≡ rule + 1
+    count-here =
+        let m = w .same-length in
+        let l = st .holds .room in
+        getD-set-same (set (set middle (2 * rule + 1) name) (2 * rule + 2) body) 0 (rule + 1) 0 (simp length-set (omega arith))
+
+    first-small : first < 65536
+    first-small = omega (arith, built-order (st .built), st .built .short)
+
+    first-here : firstOf body ≡ first
+    first-here = let a = first-small in let b = st .built .short in omega arith
+
+    end-here : endOf body ≡ end
+    end-here = let a = first-small in let b = st .built .short in omega arith
+
+    start-here : startOf body ≡ spotAt rows stamp r.start
+    start-here = let a = first-small in let b = st .built .short in omega arith
+
+    keeps : Keeps middle tb₁ first end
+    keeps =
+        let z = st .built .start in
+        record {
+          length-same = simp length-set;
+          words = λ i f l. read i (omega arith) (λ e. omega arith) (λ e. omega arith);
+        }
+
     more : length (rules ++ (r ∷ [])) ≡ length rules + 1
     more = length-append rules (r ∷ [])
 
     abbrev Closed : ℕ → Type 0
-    Closed k = Table (set hs (length rules) (headerWord r.tag r.kind r.start r.error)) ss es k (ruleAt (rules ++ (r ∷ [])) k)
+    Closed k = Table tb₁ k (ruleAt (rules ++ (r ∷ [])) k)
+
+    name-old : (k : ℕ) → k < length rules → nameAt tb₁ k ≡ nameAt tb k
+    name-old k l = let z = st .built .start in old (2 * k + 1) (omega arith) (λ e. omega arith) (λ e. omega arith) (omega arith)
+
+    body-old : (k : ℕ) → k < length rules → bodyAt tb₁ k ≡ bodyAt tb k
+    body-old k l = let z = st .built .start in old (2 * k + 2) (omega arith) (λ e. omega arith) (λ e. omega arith) (omega arith)
 
     table-old : (k : ℕ) → k < length rules → Closed k
     table-old k l =
-        let t = st .tables .each k l in
         let e : ruleAt (rules ++ (r ∷ [])) k ≡ ruleAt rules k = List·getD-append rules (r ∷ []) blank k l in
-        rw e
-        (record {
-          room = simp length-set (t .room);
-          word = getD-set-other hs (length rules) k (headerWord r.tag r.kind r.start r.error) 0 (λ z. omega arith) ∙ t .word;
-          kind = t .kind;
-          cells = t .cells;
-          sound = t .sound;
-        })
+        rw e (still same-size (λ i a b. old i (omega arith) (λ q. omega arith) (λ q. omega arith) b) k l (name-old k l) (body-old k l))
 
     table-new : Closed (length rules)
     table-new =
         let e : ruleAt (rules ++ (r ∷ [])) (length rules) ≡ r = getD-at rules r [] blank (length rules) refl in
-        let z = st .sized .headers in
-        let k = v .kind in
         rw e
         (record {
-          room = simp length-set (omega arith);
-          word = getD-set-same hs (length rules) (headerWord r.tag r.kind r.start r.error) 0 (omega arith);
-          kind = omega arith;
-          cells = rw (same-finals, same-transitions) (st .current open-room);
+          number = open-room;
+          room = rw same-size (st .holds .room);
+          name = name-here;
+          kind = omega (arith, v .kind);
+          start = rw (body-here, first-here, end-here, start-here, same-finals, same-transitions)
+              (spot-agrees (keeps-agrees keeps) (built-spot (st .built) w r.start (v .sound .start-below)));
+          body = rw (body-here, first-here, end-here, same-finals, same-transitions)
+              (body-keeps keeps (built-body (st .built) w (rw same-transitions at (v .sound .ranged))));
           sound = v .sound;
         })
 
-    pub stored-closed : Stored edges (set hs (length rules) (headerWord r.tag r.kind r.start r.error)) ss es (rules ++ (r ∷ [])) [] []
+    pub stored-closed : Stored end end
+        (set (set (set middle (2 * length rules + 1) (nameWord r.tag r.kind r.error))
+        (2 * length rules + 2) (bodyWord (spotAt rows (length rules + 1) r.start) first end)) 0 (length rules + 1))
+        rows (rules ++ (r ∷ [])) [] []
     stored-closed =
         record {
-          sized = record { headers = simp length-set (st .sized .headers); cells = st .sized .cells; edges = st .sized .edges };
-          tables = record { each = λ k l. below-more Closed (length rules) table-old table-new k (omega (arith, more)) };
-          room = st .room;
-          tops = st .tops;
-          current = λ l.
-              let z = st .sized .cells in
-              let y = st .sized .edges in
-              built-blank ss es (length (rules ++ (r ∷ [])) * stateCount) edges (omega arith) (omega (arith, st .room))
-              (λ s h. st .blank (length (rules ++ (r ∷ [])) * stateCount + s) (omega (arith, more)) (omega arith)) .cells;
-          blank = λ i l h. st .blank i (omega (arith, more)) h;
+          holds = record {
+            room = rw same-size (st .holds .room);
+            few = omega (arith, more);
+            count = count-here ∙ sym more;
+            each = λ k l. below-more Closed (length rules) table-old table-new k (omega (arith, more));
+          };
+          apart = λ k l. below-more (λ k. (edgeStart ≤ firstOf (bodyAt tb₁ k)) × (endOf (bodyAt tb₁ k) ≤ end)) (length rules)
+              (λ k l. rw (body-old k l) (st .apart k l .0, omega (arith, st .apart k l .1, built-order (st .built))))
+              (rw (body-here, first-here, end-here) (st .built .start, omega arith)) k (omega (arith, more));
+          stamps = λ s l. omega (arith, st .stamps s l, more);
+          built = built-blank tb₁ rows (length (rules ++ (r ∷ [])) + 1) end (omega (arith, st .built .start, built-order (st .built)))
+              (rw same-size (st .built .room)) (st .built .short) (st .built .cells) (λ s l e. omega (arith, st .stamps s l, more));
         }
 
 -- nothing read yet
-pub stored-fresh : {hs ss es : List ℕ} → Fresh hs ss es → Stored 0 hs ss es [] [] []
-stored-fresh {hs} {ss} {es} f =
+pub stored-fresh : {tb rows : List ℕ} → Fresh tb rows → Stored edgeStart edgeStart tb rows [] [] []
+stored-fresh {tb} {rows} f =
     record {
-      sized = f .sized;
-      tables = record { each = λ k l. absurd (omega arith) };
-      room = omega arith;
-      tops = λ i l. rw (f .zeros i l) (omega arith);
-      current = λ l.
-          let z = f .sized .cells in
-          built-blank ss es 0 0 (omega arith) (omega arith) (λ s h. f .zeros (0 + s) (omega arith)) .cells;
-      blank = λ i l h. f .zeros i h;
-    }
-
--- arrays of zeros are tables to fill
-pub fresh-zeros : Fresh (replicate maxRules 0) (replicate cellCount 0) (replicate edgeCount 0)
-fresh-zeros =
-    record {
-      sized = record {
-        headers = length-replicate {A = ℕ} maxRules 0;
-        cells = length-replicate {A = ℕ} cellCount 0;
-        edges = length-replicate {A = ℕ} edgeCount 0;
-      };
-      zeros = λ i l. getD-replicate {A = ℕ} cellCount i 0 0 l;
+      holds = record { room = f .head; few = omega arith; count = f .empty; each = λ k l. absurd (omega arith) };
+      apart = λ k l. absurd (omega arith);
+      stamps = λ s l. rw (f .zeros s l) (omega arith);
+      built = built-blank tb rows 1 edgeStart (omega arith) (f .head) (omega arith) (f .cells) (λ s l e. omega (arith, f .zeros s l));
     }

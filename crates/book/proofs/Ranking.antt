@@ -6,51 +6,10 @@ use Prim.Native.Nat.{ℕ, zero, suc, _+_, _<_, _≤_}
 use native.Mathlib.Omega.{arith}
 use lib.Dec.{ltb, eqb}
 use lib.ListN.{length, getD}
-use borrow.Author.Count.{below-more}
 use borrow.Author.Tests.{ltb-true, ltb-false, eq-eqb, ne-eqb}
 use Rattle.automaton.specs.Rule.{Rule}
-use Rattle.automaton.specs.Contracts.{ruleAt, tagOf, Tables}
-use Rattle.automaton.proofs.Walks.{header-tag}
+use Rattle.automaton.specs.Contracts.{ruleAt, Ranks}
 use Rattle.book.specs.Draft.{tagged}
-use Rattle.book.specs.Contracts.{Ranks}
-
--- ---- the search for a tag
-
--- no one of the first k rules has the tag
-pub record Ranking (hs : List ℕ) (rules tag k : ℕ) : Type 0 where
-  pub within : k ≤ rules
-  pub passed : (ss es : List ℕ) (rs : List Rule) → Tables hs ss es rs → rules ≡ length rs
-      → (j : ℕ) → j < k → eqb ((ruleAt rs j) .tag) tag ≡ false
-
-pub ranking-start : (hs : List ℕ) (rules tag : ℕ) → Ranking hs rules tag 0
-ranking-start hs rules tag = record { within = omega arith; passed = λ ss es rs t q j l. absurd (omega arith) }
-
-module _ {hs : List ℕ} {rules tag k : ℕ} (w : Ranking hs rules tag k) where
-  pub ranking-next : k < rules → (tagOf (getD hs k 0) ≡ tag → ⊥) → Ranking hs rules tag (k + 1)
-  ranking-next more ne =
-      record {
-        within = omega arith;
-        passed = λ ss es rs t q.
-            below-more (λ j. eqb ((ruleAt rs j) .tag) tag ≡ false) k (w .passed ss es rs t q)
-            (ne-eqb ((ruleAt rs k) .tag) tag (λ e. ne (header-tag (t .each k (omega arith)) ∙ e)));
-      }
-
-  pub ranking-found : k < rules → tagOf (getD hs k 0) ≡ tag
-      → (ss es : List ℕ) (rs : List Rule) → Tables hs ss es rs → rules ≡ length rs → Ranks rs tag k
-  ranking-found more e ss es rs t q =
-      record {
-        within = omega arith;
-        earlier = w .passed ss es rs t q;
-        here = λ l. sym (header-tag (t .each k l)) ∙ e;
-      }
-
-  pub ranking-end : rules ≤ k → (ss es : List ℕ) (rs : List Rule) → Tables hs ss es rs → rules ≡ length rs → Ranks rs tag k
-  ranking-end l ss es rs t q =
-      record {
-        within = omega (arith, w .within);
-        earlier = w .passed ss es rs t q;
-        here = λ m. absurd (omega arith);
-      }
 
 -- ---- by the number of the tag's rule
 

@@ -3,24 +3,25 @@ use mathlib.Core.Path.{_≡_, refl, sym, _∙_, ap}
 use mathlib.Core.Bool.{Bool, true, false, not, _||_}
 use mathlib.Core.List.{List, [], _∷_}
 use mathlib.Core.Option.{Option, none, some}
-use Prim.Native.Nat.{ℕ, suc, _+_, _*_, _/_, _%_, _<_, _≤_}
-use native.Mathlib.Numerals.{add-one}
+use Prim.Native.Nat.{ℕ, suc, _+_, _-_, _%_, _<_, _≤_}
+use native.Mathlib.Nat.{add-zero}
 use native.Mathlib.Omega.{arith}
 use lib.Dec.{leb, eqb}
-use lib.ListN.{length, getD, set, length-append}
+use lib.ListN.{length, set, length-append}
 use borrow.Author.Tests.{eq-eqb, ne-eqb, le-leb, lt-leb, lt-ltb, le-ltb}
 use Rattle.automaton.specs.Choice.{if, any, among}
 use Rattle.automaton.specs.Rule.{Transition, Rule, meets, overlaps, stateCount}
-use Rattle.automaton.proofs.Built.{head-none, head-some, meets-shares}
-use Rattle.automaton.specs.Contracts.{headerWord, edgeWord, headAt, linked, marked, leaving, shares, Chain, Chained, Cells}
+use Rattle.automaton.proofs.Built.{head-none, head-some, meets-shares, built-order, listed-length, listed-below}
+use Rattle.automaton.specs.Contracts.{edgeWord, bareSpot, rowWord, cellAt, headIn, finalIn, leaving, shares, Chain, Built, Held}
 use Rattle.automaton.proofs.Tests.{or-true}
+use Rattle.command.specs.declared.Command.{Command}
 use Rattle.command.specs.declared.Command.the-variants.{Rule as RULE, Final, Close, End}
 use Rattle.book.specs.declared.Book.{Book}
 use Rattle.book.specs.declared.Progress.{Progress}
 use Rattle.book.specs.declared.Progress.the-variants.{On, Done, Refused}
 use Rattle.book.specs.Limits.{maxRules, maxTransitions}
 use Rattle.book.specs.Draft.{Draft, opened, isSet, isUnset, stateOf, ruleOf, goes, check, tagged, isEmpty, move, apply}
-use Rattle.book.specs.Contracts.{Fine, bookOf, idle, edgeCount, Stored, Represents, Represented, Follows}
+use Rattle.book.specs.Contracts.{Fine, bookOf, idle, edgeLimit, Stored, Represents, Represented, Inside, Closes, Follows, standsInside}
 use Rattle.book.proofs.Fine.{Good, apply-good, move-good, state-below, closed-rule}
 use Rattle.book.proofs.Filling.{stored-final, stored-edge, stored-closed}
 
@@ -28,13 +29,13 @@ abbrev pub refusal : ℕ → ℕ → Progress
 refusal number place = Refused (record { number = number; place = place })
 
 -- reading goes on with a draft that is fine and stored
-on : {b : Book} {hs ss es : List ℕ} (d : Draft) {m n : ℕ} → Fine d → Stored m hs ss es d.rules d.finals d.transitions
-    → b ≡ bookOf d m → m ≤ n → Follows (goes d) (On b) hs ss es n
+on : {b : Book} {tb rows : List ℕ} (d : Draft) {f m n : ℕ} → Fine d → Stored f m tb rows d.rules d.finals d.transitions
+    → b ≡ bookOf d f m → m ≤ n → Follows (goes d) (On b) tb rows n
 on d f st e l = rw e (record { fine = f; stored = st; same = refl }, l)
 
 -- ---- what a `Book` tells of its draft
 
-module _ {b : Book} {hs ss es : List ℕ} {d : Draft} (h : Represents b hs ss es d) where
+module _ {b : Book} {tb rows : List ℕ} {d : Draft} (h : Represents b tb rows d) where
   pub rules-are : b .rules ≡ length d.rules
   rules-are = ap (λ (x : Book). x .rules) (h .same)
 
@@ -53,8 +54,8 @@ module _ {b : Book} {hs ss es : List ℕ} {d : Draft} (h : Represents b hs ss es
   error-is : stateOf d.error ≡ b .error
   error-is = ap (λ (x : Book). x .error) (sym (h .same))
 
-  count-is : b .count ≡ length d.transitions
-  count-is = ap (λ (x : Book). x .count) (h .same)
+  count-is : b .edges ≡ b .first + length d.transitions
+  count-is = listed-length tb (b .first) (b .edges) d.transitions (h .stored .built .listed)
 
   overlap-is : b .overlap ≡ overlaps d.transitions
   overlap-is = ap (λ (x : Book). x .overlap) (h .same)
@@ -67,13 +68,13 @@ module _ {b : Book} {hs ss es : List ℕ} {d : Draft} (h : Represents b hs ss es
 
 -- ---- START and ERROR: a state that is given once. The code's t tells, as s does, whether it was given before.
 
-module _ (hs ss es : List ℕ) (at n : ℕ) (d : Draft) {t s : Bool} (seen : t ≡ s) where
-  pub given-again : t ≡ true → Follows (check s 8 at (goes d)) (refusal 8 at) hs ss es n
+module _ (tb rows : List ℕ) (at n : ℕ) (d : Draft) {t s : Bool} (seen : t ≡ s) where
+  pub given-again : t ≡ true → Follows (check s 8 at (goes d)) (refusal 8 at) tb rows n
   unfolding check
   given-again e = rw (sym seen ∙ e)
 
-  pub given : {b : Book} {m : ℕ} → t ≡ false → Good (check s 8 at (goes d)) → Stored m hs ss es d.rules d.finals d.transitions
-      → b ≡ bookOf d m → m ≤ n → Follows (check s 8 at (goes d)) (On b) hs ss es n
+  pub given : {b : Book} {f m : ℕ} → t ≡ false → Good (check s 8 at (goes d)) → Stored f m tb rows d.rules d.finals d.transitions
+      → b ≡ bookOf d f m → m ≤ n → Follows (check s 8 at (goes d)) (On b) tb rows n
   unfolding check
   given e g st q l = rw (sym seen ∙ e) (on d (rw (sym seen ∙ e) at g) st q l)
 
@@ -83,29 +84,29 @@ empty-or-not : (rules : List Rule) → isEmpty rules ≡ eqb (length rules) 0
 empty-or-not [] = refl
 empty-or-not (r ∷ rs) = let p : 0 < suc (length rs) = omega arith in sym (ne-eqb (suc (length rs)) 0 (λ e. omega arith))
 
-module _ {b : Book} {hs ss es : List ℕ} {d : Draft} (h : Represents b hs ss es d) (at len n : ℕ) where
+module _ {b : Book} {tb rows : List ℕ} {d : Draft} (h : Represents b tb rows d) (at len n : ℕ) where
   none-closed : b .rules ≡ 0 → isEmpty d.rules ≡ true
   none-closed e = empty-or-not d.rules ∙ eq-eqb _ _ (sym (rules-are h) ∙ e)
 
   some-closed : (b .rules ≡ 0 → ⊥) → isEmpty d.rules ≡ false
   some-closed e = empty-or-not d.rules ∙ ne-eqb _ _ (λ z. e (rules-are h ∙ z))
 
-  pub end-empty : b .rules ≡ 0 → Follows (apply d End at len) (refusal 13 at) hs ss es n
+  pub end-empty : b .rules ≡ 0 → Follows (apply d End at len) (refusal 13 at) tb rows n
   unfolding apply check
   end-empty e = rw (none-closed e)
 
-  pub end-early : (b .rules ≡ 0 → ⊥) → at + 1 < len → Follows (apply d End at len) (refusal 4 (at + 1)) hs ss es n
+  pub end-early : (b .rules ≡ 0 → ⊥) → at + 1 < len → Follows (apply d End at len) (refusal 4 (at + 1)) tb rows n
   unfolding apply check
   end-early e l = rw (some-closed e, lt-ltb _ _ l)
 
-  pub end-last : (b .rules ≡ 0 → ⊥) → len ≤ at + 1 → Follows (apply d End at len) (Done (b .rules)) hs ss es n
+  pub end-last : (b .rules ≡ 0 → ⊥) → len ≤ at + 1 → Follows (apply d End at len) (Done (b .rules)) tb rows n
   unfolding apply check
-  end-last e l = rw (some-closed e, le-ltb _ _ l) (rules-are h, h .stored .tables)
+  end-last e l = rw (some-closed e, le-ltb _ _ l) (rules-are h, h .stored .holds)
 
 -- ---- RULE
 
-module _ {b : Book} {hs ss es : List ℕ} {d : Draft} (h : Represents b hs ss es d) (tag kind at len n : ℕ) where
-  pub rule-too-many : maxRules ≤ b .rules → Follows (apply d (RULE tag kind) at len) (refusal 5 at) hs ss es n
+module _ {b : Book} {tb rows : List ℕ} {d : Draft} (h : Represents b tb rows d) (tag kind at len n : ℕ) where
+  pub rule-too-many : maxRules ≤ b .rules → Follows (apply d (RULE tag kind) at len) (refusal 5 at) tb rows n
   unfolding apply check
   rule-too-many l = rw (← rules-are h, le-leb _ _ l)
 
@@ -113,77 +114,70 @@ module _ {b : Book} {hs ss es : List ℕ} {d : Draft} (h : Represents b hs ss es
     few-closed : leb maxRules (length d.rules) ≡ false
     few-closed = lt-leb maxRules (length d.rules) (omega (arith, rules-are h))
 
-    pub rule-tag-zero : tag ≡ 0 → Follows (apply d (RULE tag kind) at len) (refusal 6 at) hs ss es n
+    pub rule-tag-zero : tag ≡ 0 → Follows (apply d (RULE tag kind) at len) (refusal 6 at) tb rows n
     unfolding apply check
     rule-tag-zero e = rw (few-closed, e)
 
     module _ (some : tag ≡ 0 → ⊥) where
-      pub rule-kind : 1 < kind → Follows (apply d (RULE tag kind) at len) (refusal 6 at) hs ss es n
+      pub rule-kind : 1 < kind → Follows (apply d (RULE tag kind) at len) (refusal 6 at) tb rows n
       unfolding apply check
       rule-kind l = rw (few-closed, ne-eqb _ _ some, lt-ltb _ _ l)
 
       module _ (known : kind ≤ 1) {taken : Bool} (seen : taken ≡ tagged tag d.rules) where
-        pub rule-taken : taken ≡ true → Follows (apply d (RULE tag kind) at len) (refusal 7 at) hs ss es n
+        pub rule-taken : taken ≡ true → Follows (apply d (RULE tag kind) at len) (refusal 7 at) tb rows n
         unfolding apply check
         rule-taken e = rw (few-closed, ne-eqb _ _ some, le-ltb _ _ known, sym seen ∙ e)
 
         pub rule-opened : {b₁ : Book} → taken ≡ false → d.inside ≡ false → tag < 65536 → b .edges ≤ n
-            → b₁ ≡ bookOf (opened d tag kind) (b .edges) → Follows (apply d (RULE tag kind) at len) (On b₁) hs ss es n
+            → b₁ ≡ bookOf (opened d tag kind) (b .edges) (b .edges) → Follows (apply d (RULE tag kind) at len) (On b₁) tb rows n
         unfolding apply check
         rule-opened e i l m q =
             let g = apply-good d (RULE tag kind) at len (h .fine) l (sym i) in
             let f = rw (few-closed, ne-eqb _ _ some, le-ltb _ _ known, sym seen ∙ e) at g in
-            let z = rw (h .fine .idle-finals i, h .fine .idle-transitions i) at (h .stored) in
+            let c : b .first ≡ b .edges = sym (rw (h .fine .idle-transitions i) at (count-is h) ∙ add-zero (b .first)) in
+            let z = rw (h .fine .idle-finals i, h .fine .idle-transitions i, c) at (h .stored) in
             rw (few-closed, ne-eqb _ _ some, le-ltb _ _ known, sym seen ∙ e) (on _ f z q m)
 
 -- ---- FINAL
 
--- inside a rule there is room for its cells
-pub open-room : {b : Book} {hs ss es : List ℕ} {d : Draft} → Represents b hs ss es d → d.inside ≡ true → b .rules < maxRules
+-- inside a rule there is room for it
+pub open-room : {b : Book} {tb rows : List ℕ} {d : Draft} → Represents b tb rows d → d.inside ≡ true → b .rules < maxRules
 open-room h i = rw (rules-are h) (h .fine .current i .room)
 
-module _ {b : Book} {hs ss es : List ℕ} {d : Draft} (h : Represents b hs ss es d) (i : d.inside ≡ true) where
-  room : length d.rules < maxRules
-  room = h .fine .current i .room
-
-  pub final-added : (s at len n : ℕ) {ss₁ : List ℕ} → s < 256 → b .edges ≤ n
-      → ss₁ ≡ set ss (b .rules * stateCount + s) (marked (getD ss (b .rules * stateCount + s) 0))
-      → Follows (apply d (Final s) at len) (On b) hs ss₁ es n
+module _ {b : Book} {tb rows : List ℕ} {d : Draft} (h : Represents b tb rows d) (i : d.inside ≡ true) where
+  pub final-added : (s at len n : ℕ) {rows₁ : List ℕ} → s < 256 → b .edges ≤ n
+      → rows₁ ≡ set rows s (rowWord (b .rules + 1) (headIn rows (b .rules + 1) s) 1)
+      → Follows (apply d (Final s) at len) (On b) tb rows₁ n
   unfolding apply
   final-added s at len n l m e =
       let f = apply-good d (Final s) at len (h .fine) l (sym i) in
-      rw (e, h .same) (on _ f (stored-final (h .stored) room s l) refl m)
+      rw (e, h .same) (on _ f (stored-final (h .stored) s l) refl m)
 
   -- ---- STEP and SPAN
 
-  cells-now : Cells ss es (length d.rules * stateCount) d.finals d.transitions
-  cells-now = h .stored .current room
-
-  pub chain-now : (s : ℕ) → s < stateCount → Chained es (headAt ss (b .rules * stateCount + s))
-  chain-now s l = rw (rules-are h) (record { transitions = leaving s d.transitions; chain = cells-now .chains s l })
-
   module _ (at from low high to n : ℕ) where
-    pub move-too-many : maxTransitions ≤ b .count → Follows (move d at from low high to) (refusal 5 at) hs ss es n
+    pub move-too-many : maxTransitions ≤ b .edges - b .first → Follows (move d at from low high to) (refusal 5 at) tb rows n
     unfolding check move
-    move-too-many l = rw (← count-is h, le-leb _ _ l)
+    move-too-many l = rw (le-leb maxTransitions (length d.transitions) (omega (arith, count-is h)))
 
-    module _ (few : b .count < maxTransitions) where
+    module _ (few : b .edges - b .first < maxTransitions) where
       few-moves : leb maxTransitions (length d.transitions) ≡ false
       few-moves = lt-leb maxTransitions (length d.transitions) (omega (arith, count-is h))
 
-      pub move-disorder : high < low → Follows (move d at from low high to) (refusal 6 at) hs ss es n
+      pub move-disorder : high < low → Follows (move d at from low high to) (refusal 6 at) tb rows n
       unfolding check move
       move-disorder l = rw (few-moves, lt-ltb _ _ l)
 
-      pub move-added : {ss₁ es₁ : List ℕ} {shared both : Bool} → low ≤ high → from < 256 → high < 256 → to < 256
-          → b .edges < edgeCount → b .edges + 1 ≤ n
-          → ((ts : List Transition) → Chain es (headAt ss (b .rules * stateCount + from)) ts → shared ≡ any (shares low high) ts)
+      pub move-added : {tb₁ rows₁ : List ℕ} {shared both : Bool} → low ≤ high → from < 256 → high < 256 → to < 256
+          → b .edges < length tb → b .edges < edgeLimit → b .edges + 1 ≤ n
+          → ((first : ℕ) (ts : List Transition) → Chain tb first (headIn rows (b .rules + 1) from) ts → shared ≡ any (shares low high) ts)
           → both ≡ if shared true (b .overlap)
-          → ss₁ ≡ set ss (b .rules * stateCount + from) (linked (getD ss (b .rules * stateCount + from) 0) (b .edges))
-          → es₁ ≡ set es (b .edges) (edgeWord low high to (getD ss (b .rules * stateCount + from) 0 / 2))
+          → tb₁ ≡ set tb (b .edges) (edgeWord low high (headIn rows (b .rules + 1) from) (bareSpot to))
+          → rows₁ ≡ set rows from (rowWord (b .rules + 1) (b .edges) (cellAt rows (b .rules + 1) from % 2))
           → Follows (move d at from low high to)
           (On (record {
             rules = b .rules;
+            first = b .first;
             edges = b .edges + 1;
             inside = b .inside;
             tag = b .tag;
@@ -192,18 +186,18 @@ module _ {b : Book} {hs ss es : List ℕ} {d : Draft} (h : Represents b hs ss es
             start = b .start;
             erring = b .erring;
             error = b .error;
-            count = b .count + 1;
             overlap = both;
           }))
-          hs ss₁ es₁ n
+          tb₁ rows₁ n
       unfolding check move overlaps
-      move-added {shared = shared} order f hi t more m seen joined e₁ e₂ =
+      move-added {shared = shared} order f hi t more short m seen joined e₁ e₂ =
           let u : Transition = record { from = from; low = low; high = high; to = to } in
           let fine = rw (few-moves, le-ltb _ _ order) at (move-good d at from low high to (h .fine) i f hi t) in
+          let c = h .stored .built .chains from f in
           let z : shared ≡ any (meets u) d.transitions =
-          seen (leaving from d.transitions) (rw (rules-are h) (cells-now .chains from f)) ∙ meets-shares u d.transitions in
-          let st = stored-edge (h .stored) room u more f (omega arith) hi (omega arith) in
-          rw (few-moves, le-ltb _ _ order, e₁, e₂, joined, z, h .same) (on _ fine st (rw (add-one (length d.transitions))) m)
+          seen (b .first) (leaving from d.transitions) (rw (rules-are h) c) ∙ meets-shares u d.transitions in
+          let st = stored-edge (h .stored) u more (omega arith) f (omega arith) hi in
+          rw (few-moves, le-ltb _ _ order, e₁, e₂, joined, z, h .same) (on _ fine st refl m)
 
 -- ---- CLOSE
 
@@ -211,18 +205,18 @@ unset-or-not : (o : Option ℕ) {t : Bool} → t ≡ isSet o → isUnset o ≡ n
 unset-or-not none e = rw e
 unset-or-not (some s) e = rw e
 
-module _ {b : Book} {hs ss es : List ℕ} {d : Draft} (h : Represents b hs ss es d) (at len n : ℕ) where
+module _ {b : Book} {tb rows : List ℕ} {d : Draft} (h : Represents b tb rows d) (at len n : ℕ) where
   start-unset : isUnset d.start ≡ not (b .started)
   start-unset = unset-or-not d.start (started-is h)
 
   error-unset : isUnset d.error ≡ not (b .erring)
   error-unset = unset-or-not d.error (erring-is h)
 
-  pub close-no-start : b .started ≡ false → Follows (apply d Close at len) (refusal 8 at) hs ss es n
+  pub close-no-start : b .started ≡ false → Follows (apply d Close at len) (refusal 8 at) tb rows n
   unfolding apply check
   close-no-start e = rw (start-unset, e)
 
-  pub close-no-error : b .erring ≡ false → Follows (apply d Close at len) (refusal 8 at) hs ss es n
+  pub close-no-error : b .erring ≡ false → Follows (apply d Close at len) (refusal 8 at) tb rows n
   unfolding apply check
   close-no-error e = rw (error-unset, e, or-true)
 
@@ -230,7 +224,7 @@ module _ {b : Book} {hs ss es : List ℕ} {d : Draft} (h : Represents b hs ss es
     both-set : isUnset d.start || isUnset d.error ≡ false
     both-set = rw (start-unset, error-unset, started, erring)
 
-    pub close-overlap : b .overlap ≡ true → Follows (apply d Close at len) (refusal 9 at) hs ss es n
+    pub close-overlap : b .overlap ≡ true → Follows (apply d Close at len) (refusal 9 at) tb rows n
     unfolding apply check
     close-overlap e = rw (both-set, ← overlap-is h, e)
 
@@ -238,76 +232,76 @@ module _ {b : Book} {hs ss es : List ℕ} {d : Draft} (h : Represents b hs ss es
       no-overlap : overlaps d.transitions ≡ false
       no-overlap = sym (overlap-is h) ∙ apart
 
-      cells-there : Cells ss es (b .rules * stateCount) d.finals d.transitions
-      cells-there = rw (rules-are h) (h .stored .current (h .fine .current i .room))
+      built-there : Built tb rows (b .rules + 1) (b .first) (b .edges) d.finals d.transitions
+      built-there = rw (rules-are h) (h .stored .built)
 
-      final-mark : (s : ℕ) → s < stateCount → (t : Bool) → eqb (getD ss (b .rules * stateCount + s) 0 % 2) 1 ≡ t → among s d.finals ≡ t
-      final-mark s l t e = sym (cells-there .finals s l) ∙ e
+      final-mark : (s : ℕ) → s < stateCount → {t : Bool} → finalIn rows (b .rules + 1) s ≡ t → among s d.finals ≡ t
+      final-mark s l e = sym (built-there .finals s l) ∙ e
 
-      pub close-leaves : (headAt ss (b .rules * stateCount + b .error) ≡ 0 → ⊥) → Follows (apply d Close at len) (refusal 10 at) hs ss es n
+      pub close-leaves : (headIn rows (b .rules + 1) (b .error) ≡ 0 → ⊥) → Follows (apply d Close at len) (refusal 10 at) tb rows n
       unfolding apply check
-      close-leaves e = rw (both-set, no-overlap, error-is h, head-some cells-there (b .error) (error-small h) e)
+      close-leaves e = rw (both-set, no-overlap, error-is h, head-some built-there (b .error) (error-small h) e)
 
-      module _ (quiet : headAt ss (b .rules * stateCount + b .error) ≡ 0) where
+      module _ (quiet : headIn rows (b .rules + 1) (b .error) ≡ 0) where
         none-leaves : any (λ (t : Transition). eqb t.from (stateOf d.error)) d.transitions ≡ false
-        none-leaves = rw (error-is h) (head-none cells-there (b .error) (error-small h) quiet)
+        none-leaves = rw (error-is h) (head-none built-there (b .error) (error-small h) quiet)
 
-        pub close-error-final : getD ss (b .rules * stateCount + b .error) 0 % 2 ≡ 1
-            → Follows (apply d Close at len) (refusal 11 at) hs ss es n
+        pub close-error-final : finalIn rows (b .rules + 1) (b .error) ≡ true
+            → Follows (apply d Close at len) (refusal 11 at) tb rows n
         unfolding apply check
         close-error-final e =
-            let z : among (stateOf d.error) d.finals ≡ true = rw (error-is h) (final-mark (b .error) (error-small h) true (eq-eqb _ _ e)) in
+            let z : among (stateOf d.error) d.finals ≡ true = rw (error-is h) (final-mark (b .error) (error-small h) e) in
             rw (both-set, no-overlap, none-leaves, z)
 
-        module _ (fails : getD ss (b .rules * stateCount + b .error) 0 % 2 ≡ 1 → ⊥) where
+        module _ (fails : finalIn rows (b .rules + 1) (b .error) ≡ false) where
           error-not-final : among (stateOf d.error) d.finals ≡ false
-          error-not-final = rw (error-is h) (final-mark (b .error) (error-small h) false (ne-eqb _ _ fails))
+          error-not-final = rw (error-is h) (final-mark (b .error) (error-small h) fails)
 
-          pub close-start-final : getD ss (b .rules * stateCount + b .start) 0 % 2 ≡ 1
-              → Follows (apply d Close at len) (refusal 12 at) hs ss es n
+          pub close-start-final : finalIn rows (b .rules + 1) (b .start) ≡ true
+              → Follows (apply d Close at len) (refusal 12 at) tb rows n
           unfolding apply check
           close-start-final e =
               let z : among (stateOf d.start) d.finals ≡ true =
-              rw (start-is h) (final-mark (b .start) (start-small h) true (eq-eqb _ _ e)) in
+              rw (start-is h) (final-mark (b .start) (start-small h) e) in
               rw (both-set, no-overlap, none-leaves, error-not-final, z)
 
-          pub close-closed : {hs₁ : List ℕ} → (getD ss (b .rules * stateCount + b .start) 0 % 2 ≡ 1 → ⊥) → b .edges ≤ n
-              → hs₁ ≡ set hs (b .rules) (headerWord (b .tag) (b .kind) (b .start) (b .error))
-              → Follows (apply d Close at len) (On (idle (b .rules + 1) (b .edges))) hs₁ ss es n
+          pub close-closed : {tb₁ : List ℕ} → finalIn rows (b .rules + 1) (b .start) ≡ false → b .edges ≤ n → Closes b rows tb tb₁
+              → Follows (apply d Close at len) (On (idle (b .rules + 1) (b .edges))) tb₁ rows n
           unfolding apply check overlaps
           close-closed e m q =
               let z : among (stateOf d.start) d.finals ≡ false =
-              rw (start-is h) (final-mark (b .start) (start-small h) false (ne-eqb _ _ e)) in
+              rw (start-is h) (final-mark (b .start) (start-small h) e) in
               let g = apply-good d Close at len (h .fine) tt (sym i) in
               let f = rw (both-set, no-overlap, none-leaves, error-not-final, z) at g in
               let o = h .fine .current i in
               let v = closed-rule d (h .fine) o no-overlap none-leaves error-not-final z in
-              let st = stored-closed (h .stored) (ruleOf d) v refl refl (o .room) in
+              let w = rw (rules-are h) at (q .settles) in
+              let st = stored-closed (h .stored) (ruleOf d) v refl refl (o .room) w in
               rw (both-set, no-overlap, none-leaves, error-not-final, z)
-              (on _ f (rw (q, h .same) st) (rw (rules-are h, length-append d.rules (ruleOf d ∷ []))) m)
+              (on _ {f = b .edges} {m = b .edges} f (rw (q .stored, h .same) st) (rw (rules-are h, length-append d.rules (ruleOf d ∷ []))) m)
 
 -- ---- what the functions ask
 
-pub outside-room : {b : Book} {hs ss es : List ℕ} → Represented b hs ss es → b .rules ≤ length hs
-outside-room k = let h = k .holds in omega (arith, rules-are h, h .fine .closed .few, h .stored .sized .headers)
+pub outside-held : {b : Book} {tb rows : List ℕ} → Represented b tb rows → Held tb
+outside-held k = record { rules = k .draft .rules; holds = k .holds .stored .holds }
 
--- those for the commands inside a rule
-pub record Inside (b : Book) (hs ss es : List ℕ) : Type 0 where
-  pub headers : b .rules < length hs
-  pub cells : b .rules * stateCount + stateCount ≤ length ss
-  pub few : b .rules < maxRules
-  pub edges : length es ≡ edgeCount
-  pub chains : (s : ℕ) → s < stateCount → Chained es (headAt ss (b .rules * stateCount + s))
-
-pub inside-room : {b : Book} {hs ss es : List ℕ} → Represented b hs ss es → b .inside ≡ true → Inside b hs ss es
-inside-room k e =
+-- by a command that stands inside a rule
+pub inside-room : {b : Book} {tb rows : List ℕ} {c c₁ : Command} → Represented b tb rows → b .inside ≡ standsInside c → c ≡ c₁
+    → standsInside c₁ ≡ true → Inside b tb rows
+inside-room {b} {tb} {rows} k e f z =
     let h = k .holds in
-    let i = sym (inside-is h) ∙ e in
-    let r = open-room h i in
+    let i = sym (inside-is h) ∙ e ∙ ap standsInside f ∙ z in
+    let st : Built tb rows (b .rules + 1) (b .first) (b .edges) (k .draft .finals) (k .draft .transitions) =
+    rw (rules-are h) (h .stored .built) in
     record {
-      headers = omega (arith, h .stored .sized .headers);
-      cells = omega (arith, h .stored .sized .cells);
-      few = r;
-      edges = h .stored .sized .edges;
-      chains = chain-now h i;
+      few = open-room h i;
+      head = h .stored .holds .room;
+      cells = st .cells;
+      start = st .start;
+      order = built-order st;
+      room = st .room;
+      short = st .short;
+      chains = λ s l. record { first = b .first; transitions = leaving s (k .draft .transitions); chain = st .chains s l };
+      tops = st .tops;
+      below = listed-below tb (b .first) (b .edges) (k .draft .transitions) (h .fine .ranged) (st .listed);
     }

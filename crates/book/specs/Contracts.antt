@@ -3,12 +3,12 @@ use mathlib.Core.Path.{_≡_}
 use mathlib.Core.Bool.{Bool, true, false}
 use mathlib.Core.List.{List, []}
 use mathlib.Core.Option.{Option, none, some}
-use Prim.Native.Nat.{ℕ, _+_, _*_, _<_, _≤_}
-use lib.Dec.{eqb}
-use lib.ListN.{length, getD}
+use Prim.Native.Nat.{ℕ, _+_, _*_, _/_, _<_, _≤_}
+use lib.ListN.{length, getD, set}
 use Rattle.automaton.specs.Choice.{All}
 use Rattle.automaton.specs.Rule.{Transition, Rule, overlaps, Ranged, stateCount}
-use Rattle.automaton.specs.Contracts.{headAt, Cells, ruleAt, Tables}
+use Rattle.automaton.specs.Contracts.{edgeStart, countAt, bodyAt, firstOf, endOf, edgeAt, toOf, nameWord, bodyWord}
+use Rattle.automaton.specs.Contracts.{headIn, spotAt, Chained, Holds, Built, Settles}
 use Rattle.command.specs.declared.Command.{Command}
 use Rattle.command.specs.declared.Command.the-variants.{Rule as RULE, Start, Error, Final, Step, Span, Close, End}
 use Rattle.book.specs.declared.Book.{Book}
@@ -44,42 +44,34 @@ pub record Fine (d : Draft) : Type 0 where
   pub idle-finals : d.inside ≡ false → d.finals ≡ []
   pub idle-transitions : d.inside ≡ false → d.transitions ≡ []
 
--- ---- How the tables hold a draft.
+-- ---- How the table and the cells of the open rule's states hold a draft.
 
--- transitions that a book has room for: each takes four bytes or more
-abbrev pub edgeCount : ℕ
-edgeCount = 8192
+-- transitions stand before this place: a book has room for a quarter as many as it has bytes
+abbrev pub edgeLimit : ℕ
+edgeLimit = 8258
 
-abbrev pub cellCount : ℕ
-cellCount = maxRules * stateCount
+-- as they are lent: no rule in the table, and all cells zero
+pub record Fresh (tb rows : List ℕ) : Type 0 where
+  pub head : edgeStart ≤ length tb
+  pub empty : countAt tb ≡ 0
+  pub cells : length rows ≡ stateCount
+  pub zeros : (s : ℕ) → s < stateCount → getD rows s 0 ≡ 0
 
--- the tables are as long as they should be
-pub record Sized (hs ss es : List ℕ) : Type 0 where
-  pub headers : length hs ≡ maxRules
-  pub cells : length ss ≡ cellCount
-  pub edges : length es ≡ edgeCount
-
--- tables as they are lent: of the right length, and the cells all zero
-pub record Fresh (hs ss es : List ℕ) : Type 0 where
-  pub sized : Sized hs ss es
-  pub zeros : (i : ℕ) → i < cellCount → getD ss i 0 ≡ 0
-
--- the tables hold these closed rules and what the open rule has so far; `edges` edges are in use
-pub record Stored (edges : ℕ) (hs ss es : List ℕ) (rules : List Rule) (fs : List ℕ) (ts : List Transition) : Type 0 where
-  pub sized : Sized hs ss es
-  pub tables : Tables hs ss es rules
-  pub room : edges ≤ edgeCount
-  pub tops : (i : ℕ) → i < cellCount → headAt ss i ≤ edges
-  pub current : length rules < maxRules → Cells ss es (length rules * stateCount) fs ts
-  pub blank : (i : ℕ) → (length rules + 1) * stateCount ≤ i → i < cellCount → getD ss i 0 ≡ 0
+-- they hold these closed rules and what the open rule has so far, whose transitions stand from first to before end
+pub record Stored (first end : ℕ) (tb rows : List ℕ) (rules : List Rule) (fs : List ℕ) (ts : List Transition) : Type 0 where
+  pub holds : Holds tb rules
+  pub apart : (k : ℕ) → k < length rules → (edgeStart ≤ firstOf (bodyAt tb k)) × (endOf (bodyAt tb k) ≤ first)
+  pub stamps : (s : ℕ) → s < stateCount → getD rows s 0 / 131072 ≤ length rules + 1
+  pub built : Built tb rows (length rules + 1) first end fs ts
 
 -- ---- How the code's `Book` holds a draft.
 
--- the `Book` of a draft while `edges` edges are in use
-abbrev pub bookOf : Draft → ℕ → Book
-bookOf d edges =
+-- the `Book` of a draft
+abbrev pub bookOf : Draft → ℕ → ℕ → Book
+bookOf d first edges =
     record {
       rules = length d.rules;
+      first = first;
       edges = edges;
       inside = d.inside;
       tag = d.tag;
@@ -88,7 +80,6 @@ bookOf d edges =
       start = stateOf d.start;
       erring = isSet d.error;
       error = stateOf d.error;
-      count = length d.transitions;
       overlap = overlaps d.transitions;
     }
 
@@ -97,6 +88,7 @@ abbrev pub idle : ℕ → ℕ → Book
 idle rules edges =
     record {
       rules = rules;
+      first = edges;
       edges = edges;
       inside = false;
       tag = 0;
@@ -105,20 +97,41 @@ idle rules edges =
       start = 0;
       erring = false;
       error = 0;
-      count = 0;
       overlap = false;
     }
 
--- b and the tables hold the draft d
-pub record Represents (b : Book) (hs ss es : List ℕ) (d : Draft) : Type 0 where
+-- b, the table and the cells hold the draft d
+pub record Represents (b : Book) (tb rows : List ℕ) (d : Draft) : Type 0 where
   pub fine : Fine d
-  pub stored : Stored (b .edges) hs ss es d.rules d.finals d.transitions
-  pub same : b ≡ bookOf d (b .edges)
+  pub stored : Stored (b .first) (b .edges) tb rows d.rules d.finals d.transitions
+  pub same : b ≡ bookOf d (b .first) (b .edges)
 
 -- they hold some draft
-pub record Represented (b : Book) (hs ss es : List ℕ) : Type 0 where
+pub record Represented (b : Book) (tb rows : List ℕ) : Type 0 where
   pub draft : Draft
-  pub holds : Represents b hs ss es draft
+  pub holds : Represents b tb rows draft
+
+-- what a command inside a rule asks of them
+pub record Inside (b : Book) (tb rows : List ℕ) : Type 0 where
+  pub few : b .rules < maxRules
+  pub head : edgeStart ≤ length tb
+  pub cells : length rows ≡ stateCount
+  pub start : edgeStart ≤ b .first
+  pub order : b .first ≤ b .edges
+  pub room : b .edges ≤ length tb
+  pub short : b .edges < 65536
+  pub chains : (s : ℕ) → s < stateCount → Chained tb (headIn rows (b .rules + 1) s)
+  pub tops : (s : ℕ) → s < stateCount → headIn rows (b .rules + 1) s < b .edges
+  pub below : (i : ℕ) → b .first ≤ i → i < b .edges → toOf (edgeAt tb i) < stateCount
+
+-- the table with the open rule as its next one: its transitions settled, its name and body stored, and the rules counted
+pub record Closes (b : Book) (rows tb tb₁ : List ℕ) : Type 0 where
+  pub middle : List ℕ
+  pub settles : Settles rows (b .rules + 1) (b .first) (b .edges) tb middle
+  pub stored : tb₁
+      ≡ set (set (set middle (2 * b .rules + 1) (nameWord (b .tag) (b .kind) (b .error)))
+      (2 * b .rules + 2) (bodyWord (spotAt rows (b .rules + 1) (b .start)) (b .first) (b .edges)))
+      0 (b .rules + 1)
 
 -- ---- What the code makes of one command.
 
@@ -144,28 +157,20 @@ adds (Span from low high to) = 1
 adds Close = 0
 adds End = 0
 
--- what the code made of a command is what the verdict says, and at most n edges are in use
-abbrev pub Follows : Verdict → Progress → List ℕ → List ℕ → List ℕ → ℕ → Type 0
-Follows (goes d) (On b) hs ss es n = Represents b hs ss es d × (b .edges ≤ n)
-Follows (goes d) (Done k) hs ss es n = ⊥
-Follows (goes d) (Refused f) hs ss es n = ⊥
-Follows (accepts rules) (On b) hs ss es n = ⊥
-Follows (accepts rules) (Done k) hs ss es n = (k ≡ length rules) × Tables hs ss es rules
-Follows (accepts rules) (Refused f) hs ss es n = ⊥
-Follows (refuses number place) (On b) hs ss es n = ⊥
-Follows (refuses number place) (Done k) hs ss es n = ⊥
-Follows (refuses number place) (Refused f) hs ss es n = f ≡ record { number = number; place = place }
+-- what the code made of a command is what the verdict says, and transitions stand before n
+abbrev pub Follows : Verdict → Progress → List ℕ → List ℕ → ℕ → Type 0
+Follows (goes d) (On b) tb rows n = Represents b tb rows d × (b .edges ≤ n)
+Follows (goes d) (Done k) tb rows n = ⊥
+Follows (goes d) (Refused f) tb rows n = ⊥
+Follows (accepts rules) (On b) tb rows n = ⊥
+Follows (accepts rules) (Done k) tb rows n = (k ≡ length rules) × Holds tb rules
+Follows (accepts rules) (Refused f) tb rows n = ⊥
+Follows (refuses number place) (On b) tb rows n = ⊥
+Follows (refuses number place) (Done k) tb rows n = ⊥
+Follows (refuses number place) (Refused f) tb rows n = f ≡ record { number = number; place = place }
 
--- Of every draft that b and the tables hold, the code made of the command what `apply` says, and added no more transitions than
--- the command has. The command stands where it may.
-abbrev pub Takes : Book → Command → ℕ → ℕ → Progress → List ℕ → List ℕ → List ℕ → List ℕ → List ℕ → List ℕ → Type 0
-Takes b c at len r hs ss es hs₁ ss₁ es₁ =
-    (d : Draft) → Represents b hs ss es d → d.inside ≡ standsInside c → Follows (apply d c at len) r hs₁ ss₁ es₁ (b .edges + adds c)
-
--- ---- The rule of a tag.
-
--- k is the number of the first rule of this tag, or that of all rules where none has it
-pub record Ranks (rules : List Rule) (tag k : ℕ) : Type 0 where
-  pub within : k ≤ length rules
-  pub earlier : (j : ℕ) → j < k → eqb ((ruleAt rules j) .tag) tag ≡ false
-  pub here : k < length rules → (ruleAt rules k) .tag ≡ tag
+-- Of every draft that b, the table and the cells hold, the code made of the command what `apply` says, and added no more transitions
+-- than the command has. The command stands where it may.
+abbrev pub Takes : Book → Command → ℕ → ℕ → Progress → List ℕ → List ℕ → List ℕ → List ℕ → Type 0
+Takes b c at len r tb rows tb₁ rows₁ =
+    (d : Draft) → Represents b tb rows d → d.inside ≡ standsInside c → Follows (apply d c at len) r tb₁ rows₁ (b .edges + adds c)

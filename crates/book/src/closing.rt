@@ -2,21 +2,15 @@
 use crate::Book;
 use crate::Progress;
 use answer::Refusal;
-use automaton::STATES;
+use automaton::building;
 use command::Command;
-ghost use mathlib.Core.List.{List};
-ghost use Prim.Native.Nat.{ℕ, _+_, _*_, _≤_, _<_};
-ghost use lib.ListN.{length};
-ghost use Rattle.automaton.specs.Rule.{stateCount};
-ghost use Rattle.book.specs.Limits.{maxRules};
-ghost use Rattle.book.specs.Contracts.{Takes};
+ghost use Prim.Native.Nat.{ℕ};
+ghost use Rattle.book.specs.Contracts.{Inside, Closes, Takes};
 
-pub fn close(book: Book, headers: &mut [u64], states: &[u16], at: usize) -> Progress
-    requires { ⌜ (book .rules < length (now headers)) × (book .rules * stateCount + stateCount ≤ length (now states))
-        × (book .rules < maxRules) ⌝ }
-    ensures { λ r. ⌜ ((es : List ℕ) (len : ℕ)
-        → Takes book Command.Close at len r (now (headers .entry)) (now (states .entry)) es
-        (now (headers .exit)) (now (states .entry)) es) ⌝ }
+pub fn close(book: Book, table: &mut [u64], rows: &[u32], at: usize) -> Progress
+    requires { ⌜ Inside book (now table) (now rows) ⌝ }
+    ensures { λ r. ⌜ ((len : ℕ) → Takes book Command.Close at len r (now (table .entry)) (now (rows .entry))
+        (now (table .exit)) (now (rows .entry))) ⌝ }
 {
     if !book.started {
         return Progress::refused(Refusal::TWICE_OR_MISSING, at);
@@ -27,19 +21,32 @@ pub fn close(book: Book, headers: &mut [u64], states: &[u16], at: usize) -> Prog
     if book.overlap {
         return Progress::refused(Refusal::OVERLAP, at);
     }
-    let rules = book.rules;
-    let base = rules * STATES;
-    let error = states[base + (book.error as usize)];
-    if error / 2 != 0 {
+    let stamp = book.stamp();
+    if building::head(rows, stamp, book.error as usize) != 0 {
         return Progress::refused(Refusal::LEAVES_ERROR, at);
     }
-    if error % 2 == 1 {
+    if building::is_final(rows, stamp, book.error as usize) {
         return Progress::refused(Refusal::ERROR_FINAL, at);
     }
-    let start = states[base + (book.start as usize)];
-    if start % 2 == 1 {
+    if building::is_final(rows, stamp, book.start as usize) {
         return Progress::refused(Refusal::START_FINAL, at);
     }
-    headers[rules] = automaton::header(book.tag, book.kind, book.start as u16, book.error as u16);
-    Progress::On(Book::between(rules + 1, book.edges))
+    store_rule(book, table, rows);
+    Progress::On(Book::between(book.rules + 1, book.edges))
+}
+
+// Puts the open rule into the table as the next one: the spots to which its transitions lead, and its name and body.
+fn store_rule(book: Book, table: &mut [u64], rows: &[u32])
+    requires { ⌜ Inside book (now table) (now rows) ⌝ }
+    ensures { λ r. ⌜ Closes book (now (rows .entry)) (now (table .entry)) (now (table .exit)) ⌝ }
+{
+    let rule = book.rules;
+    let first = book.first;
+    let end = book.edges;
+    let stamp = book.stamp();
+    let start = building::spot_of(rows, stamp, book.start as usize);
+    building::settle(table, rows, stamp, first, end);
+    building::put_name(table, rule, book.tag, book.kind, book.error);
+    building::put_body(table, rule, start, first, end);
+    building::put_count(table, rule + 1);
 }

@@ -1,5 +1,5 @@
-// What has been read of a book, and what each command makes of it and of the tables.
-// Here are the limits, START, ERROR, FINAL, END and the search for a tag; `opening` has RULE, `moving` STEP and SPAN, `closing` CLOSE,
+// What has been read of a book, and what each command makes of it and of the table.
+// Here are the limits, START, ERROR, FINAL and END; `opening` has RULE, `moving` STEP and SPAN, `closing` CLOSE,
 // `applying` any command.
 pub mod applying;
 pub mod closing;
@@ -7,20 +7,21 @@ pub mod moving;
 pub mod opening;
 
 use answer::Refusal;
-use automaton::STATES;
 use command::Command;
 ghost use mathlib.Core.Path.{_≡_};
 ghost use mathlib.Core.List.{List};
-ghost use Prim.Native.Nat.{ℕ, _+_, _*_, _≤_, _<_};
+ghost use Prim.Native.Nat.{ℕ, _+_, _<_};
 ghost use lib.ListN.{length};
-ghost use Rattle.automaton.specs.Rule.{Rule, stateCount};
-ghost use Rattle.automaton.specs.Contracts.{Tables};
-ghost use Rattle.book.specs.Contracts.{idle, Takes, Ranks};
+ghost use Rattle.automaton.specs.Rule.{stateCount};
+ghost use Rattle.automaton.specs.Contracts.{edgeStart};
+ghost use Rattle.book.specs.Limits.{maxRules};
+ghost use Rattle.book.specs.Contracts.{idle, Takes};
 
-// A book that is being read: how many rules are closed, how many transitions they and the open rule have, and the rest of
-// the open rule, whose final states and transitions are in the tables already.
+// A book that is being read: how many rules are closed, where the transitions of the open rule begin in the table and the next one
+// goes, and the rest of the open rule. Its transitions are in the table already, its final states in the cells of its states.
 pub struct Book {
     pub rules: usize,
+    pub first: usize,
     pub edges: usize,
     pub inside: bool,
     pub tag: u16,
@@ -29,8 +30,7 @@ pub struct Book {
     pub start: u8,
     pub erring: bool,
     pub error: u8,
-    // transitions of the open rule, and whether two of them leave one state at one byte
-    pub count: usize,
+    // whether two of its transitions leave one state at one byte
     pub overlap: bool,
 }
 
@@ -62,16 +62,18 @@ impl Book {
 
     pub const TOKENS: usize = 65536;
 
-    // What a book that is accepted may need of the tables.
-    pub const CELLS: usize = 8192;
+    // A small book, and the words of a table that it and any book may need.
+    pub const SMALL: usize = 2048;
 
-    pub const EDGES: usize = 8192;
+    pub const SMALL_TABLE: usize = 578;
+
+    pub const TABLE: usize = 8258;
 
     // Nothing read yet.
     pub fn new() -> Book
-        ensures { λ r. ⌜ r ≡ idle 0 0 ⌝ }
+        ensures { λ r. ⌜ r ≡ idle 0 edgeStart ⌝ }
     {
-        Book::between(0, 0)
+        Book::between(0, automaton::EDGE_START)
     }
 
     // Between two rules, or before the first.
@@ -80,6 +82,7 @@ impl Book {
     {
         Book {
             rules,
+            first: edges,
             edges,
             inside: false,
             tag: 0,
@@ -88,14 +91,13 @@ impl Book {
             start: 0,
             erring: false,
             error: 0,
-            count: 0,
             overlap: false,
         }
     }
 
     // START.
     pub fn set_start(mut self, s: u8, at: usize) -> Progress
-        ensures { λ r. ⌜ ((hs ss es : List ℕ) (len : ℕ) → Takes self (Command.Start s) at len r hs ss es hs ss es) ⌝ }
+        ensures { λ r. ⌜ ((tb rows : List ℕ) (len : ℕ) → Takes self (Command.Start s) at len r tb rows tb rows) ⌝ }
     {
         if self.started {
             return Progress::refused(Refusal::TWICE_OR_MISSING, at);
@@ -107,7 +109,7 @@ impl Book {
 
     // ERROR.
     pub fn set_error(mut self, s: u8, at: usize) -> Progress
-        ensures { λ r. ⌜ ((hs ss es : List ℕ) (len : ℕ) → Takes self (Command.Error s) at len r hs ss es hs ss es) ⌝ }
+        ensures { λ r. ⌜ ((tb rows : List ℕ) (len : ℕ) → Takes self (Command.Error s) at len r tb rows tb rows) ⌝ }
     {
         if self.erring {
             return Progress::refused(Refusal::TWICE_OR_MISSING, at);
@@ -117,21 +119,28 @@ impl Book {
         Progress::On(self)
     }
 
-    // FINAL.
-    pub fn add_final(self, states: &mut [u16], s: u8) -> Progress
-        requires { ⌜ self .rules * stateCount + stateCount ≤ length (now states) ⌝ }
-        ensures { λ r. ⌜ ((hs es : List ℕ) (at len : ℕ)
-            → Takes self (Command.Final s) at len r hs (now (states .entry)) es hs (now (states .exit)) es) ⌝ }
+    // What the cells of the open rule's states are stamped with.
+    pub fn stamp(self) -> u32
+        requires { ⌜ self .rules < maxRules ⌝ }
+        ensures { λ r. ⌜ r ≡ self .rules + 1 ⌝ }
     {
-        let rules = self.rules;
-        automaton::building::mark_final(states, rules * STATES + (s as usize));
+        (self.rules + 1) as u32
+    }
+
+    // FINAL.
+    pub fn add_final(self, rows: &mut [u32], s: u8) -> Progress
+        requires { ⌜ (self .rules < maxRules) × (length (now rows) ≡ stateCount) ⌝ }
+        ensures { λ r. ⌜ ((tb : List ℕ) (at len : ℕ)
+            → Takes self (Command.Final s) at len r tb (now (rows .entry)) tb (now (rows .exit))) ⌝ }
+    {
+        automaton::building::mark_final(rows, self.stamp(), s as usize);
         Progress::On(self)
     }
 
     // END; `len` is the book's length.
     pub fn end(self, at: usize, len: usize) -> Progress
         requires { ⌜ at < len ⌝ }
-        ensures { λ r. ⌜ ((hs ss es : List ℕ) → Takes self Command.End at len r hs ss es hs ss es) ⌝ }
+        ensures { λ r. ⌜ ((tb rows : List ℕ) → Takes self Command.End at len r tb rows tb rows) ⌝ }
     {
         if self.rules == 0 {
             return Progress::refused(Refusal::NO_RULE, at);
@@ -141,20 +150,4 @@ impl Book {
         }
         Progress::Done(self.rules)
     }
-}
-
-// The number of the first rule of this tag; `rules` where none has it.
-pub fn find_tag(headers: &[u64], rules: usize, tag: u64) -> usize
-    requires { ⌜ rules ≤ length (now headers) ⌝ }
-    ensures { λ r. ⌜ ((ss es : List ℕ) (rs : List Rule) → Tables (now (headers .entry)) ss es rs → rules ≡ length rs → Ranks rs tag r) ⌝ }
-{
-    let mut k = 0;
-    while k < rules {
-        let h = headers[k];
-        if automaton::tag_of(h) == tag {
-            return k;
-        }
-        k += 1;
-    }
-    k
 }

@@ -2,52 +2,52 @@
 use crate::Book;
 use crate::Progress;
 use answer::Refusal;
-use automaton::STATES;
+use automaton::building;
 ghost use mathlib.Core.Path.{_≡_};
 ghost use mathlib.Core.Bool.{true};
-ghost use mathlib.Core.List.{List};
-ghost use Prim.Native.Nat.{ℕ, _+_, _*_, _≤_, _<_};
+ghost use Prim.Native.Nat.{_+_, _<_};
 ghost use lib.ListN.{length};
 ghost use Rattle.automaton.specs.Choice.{if};
-ghost use Rattle.automaton.specs.Rule.{stateCount};
-ghost use Rattle.automaton.specs.Contracts.{headAt, Chained};
 ghost use Rattle.book.specs.Draft.{Draft, move};
-ghost use Rattle.book.specs.Contracts.{edgeCount, Represents, Follows};
+ghost use Rattle.book.specs.Contracts.{edgeLimit, Inside, Represents, Follows};
+
+// The paper's move: from one state, at each byte from `low` to `high`, to another.
+pub struct Move {
+    pub from: u8,
+    pub low: u8,
+    pub high: u8,
+    pub to: u8,
+}
 
 pub fn add_transition(
     mut book: Book,
-    states: &mut [u16],
-    edges: &mut [u64],
-    from: u8,
-    low: u8,
-    high: u8,
-    to: u8,
+    table: &mut [u64],
+    rows: &mut [u32],
+    step: Move,
     at: usize,
 ) -> Progress
-    requires { ⌜ (book .rules * stateCount + stateCount ≤ length (now states)) × (book .edges < length (now edges))
-        × (length (now edges) ≡ edgeCount) ⌝ }
-    requires { ⌜ Chained (now edges) (headAt (now states) (book .rules * stateCount + from)) ⌝ }
-    ensures { λ r. ⌜ ((hs : List ℕ) (d : Draft) → Represents book hs (now (states .entry)) (now (edges .entry)) d → d .inside ≡ true
-        → Follows (move d at from low high to) r hs (now (states .exit)) (now (edges .exit)) (book .edges + 1)) ⌝ }
+    requires { ⌜ Inside book (now table) (now rows) ⌝ }
+    requires { ⌜ (book .edges < length (now table)) × (book .edges < edgeLimit) ⌝ }
+    ensures { λ r. ⌜ ((d : Draft) → Represents book (now (table .entry)) (now (rows .entry)) d → d .inside ≡ true
+        → Follows (move d at (step .from) (step .low) (step .high) (step .to)) r (now (table .exit)) (now (rows .exit)) (book .edges + 1)) ⌝ }
 {
-    let count = book.count;
-    if Book::TRANSITIONS <= count {
+    let end = book.edges;
+    if Book::TRANSITIONS <= end - book.first {
         return Progress::refused(Refusal::TOO_MANY, at);
     }
-    if high < low {
+    if step.high < step.low {
         return Progress::refused(Refusal::OUT_OF_RANGE, at);
     }
-    let rules = book.rules;
-    let number = book.edges;
-    let cell = rules * STATES + (from as usize);
-    let head = (states[cell] / 2) as usize;
+    let stamp = book.stamp();
+    let from = step.from as usize;
+    let head = building::head(rows, stamp, from);
     book.overlap = either(
-        automaton::building::shares_byte(edges, head, low, high),
+        building::shares_byte(table, head, step.low, step.high),
         book.overlap,
     );
-    automaton::building::add_edge(states, edges, cell, number, low, high, to as u16);
-    book.count = count + 1;
-    book.edges = number + 1;
+    building::put_edge(table, end, step.low, step.high, head, step.to);
+    building::link_state(rows, stamp, from, end);
+    book.edges = end + 1;
     Progress::On(book)
 }
 

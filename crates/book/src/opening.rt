@@ -5,17 +5,16 @@ use answer::Refusal;
 use command::Command;
 ghost use mathlib.Core.Path.{_≡_};
 ghost use mathlib.Core.List.{List};
-ghost use Prim.Native.Nat.{ℕ, _≤_};
-ghost use lib.ListN.{length};
+ghost use Prim.Native.Nat.{ℕ};
 ghost use Rattle.automaton.specs.Rule.{Rule};
-ghost use Rattle.automaton.specs.Contracts.{Tables};
+ghost use Rattle.automaton.specs.Contracts.{Holds, Held};
 ghost use Rattle.book.specs.Draft.{tagged};
 ghost use Rattle.book.specs.Contracts.{Takes};
 
-pub fn open_rule(book: Book, headers: &[u64], tag: u16, kind: u8, at: usize) -> Progress
-    requires { ⌜ book .rules ≤ length (now headers) ⌝ }
-    ensures { λ r. ⌜ ((ss es : List ℕ) (len : ℕ)
-        → Takes book (Command.Rule tag kind) at len r (now (headers .entry)) ss es (now (headers .entry)) ss es) ⌝ }
+pub fn open_rule(book: Book, table: &[u64], tag: u16, kind: u8, at: usize) -> Progress
+    requires { ⌜ Held (now table) ⌝ }
+    ensures { λ r. ⌜ ((rows : List ℕ) (len : ℕ)
+        → Takes book (Command.Rule tag kind) at len r (now (table .entry)) rows (now (table .entry)) rows) ⌝ }
 {
     let rules = book.rules;
     if Book::RULES <= rules {
@@ -27,7 +26,7 @@ pub fn open_rule(book: Book, headers: &[u64], tag: u16, kind: u8, at: usize) -> 
     if 1 < kind {
         return Progress::refused(Refusal::OUT_OF_RANGE, at);
     }
-    if is_taken(headers, rules, tag) {
+    if is_taken(table, tag) {
         return Progress::refused(Refusal::TAG_TAKEN, at);
     }
     let mut next = Book::between(rules, book.edges);
@@ -37,11 +36,10 @@ pub fn open_rule(book: Book, headers: &[u64], tag: u16, kind: u8, at: usize) -> 
     Progress::On(next)
 }
 
-// Whether one of the first `rules` rules has this tag.
-fn is_taken(headers: &[u64], rules: usize, tag: u16) -> bool
-    requires { ⌜ rules ≤ length (now headers) ⌝ }
-    ensures { λ r. ⌜ ((ss es : List ℕ) (rs : List Rule) → Tables (now (headers .entry)) ss es rs → rules ≡ length rs
-        → r ≡ tagged tag rs) ⌝ }
+// Whether a rule of the table has this tag.
+fn is_taken(table: &[u64], tag: u16) -> bool
+    requires { ⌜ Held (now table) ⌝ }
+    ensures { λ r. ⌜ ((rs : List Rule) → Holds (now (table .entry)) rs → r ≡ tagged tag rs) ⌝ }
 {
-    crate::find_tag(headers, rules, tag as u64) < rules
+    automaton::find_tag(table, tag as u64) < automaton::count_of(table)
 }

@@ -1,13 +1,13 @@
 -- The loop of `load`: the rest of the book decides as the whole does. Assumes nothing.
 use mathlib.Core.Path.{_≡_, refl, sym, _∙_, ap, subst}
 use mathlib.Core.List.{List, []}
-use Prim.Native.Nat.{ℕ, zero, suc, _+_, _*_, _<_, _≤_}
+use Prim.Native.Nat.{ℕ, zero, suc, _+_, _*_, _/_, _<_, _≤_}
 use native.Mathlib.Omega.{arith}
-use lib.ListN.{length}
+use lib.ListN.{replicate, length-replicate, getD-replicate, length}
 use borrow.Author.Tests.{lt-ltb, le-ltb}
 use Rattle.answer.specs.declared.BookAnswer.{BookAnswer}
-use Rattle.automaton.specs.Rule.{Rule, overlaps}
-use Rattle.automaton.specs.Contracts.{Tables}
+use Rattle.automaton.specs.Rule.{Rule, overlaps, stateCount}
+use Rattle.automaton.specs.Contracts.{edgeStart, Holds}
 use Rattle.command.specs.declared.Command.{Command}
 use Rattle.command.specs.declared.Cursor.{Cursor}
 use Rattle.command.specs.declared.Decoded.{Decoded}
@@ -17,32 +17,32 @@ use Rattle.book.specs.declared.Progress.{Progress}
 use Rattle.book.specs.declared.Progress.the-variants.{On, Done, Refused}
 use Rattle.book.specs.Limits.{maxBytes}
 use Rattle.book.specs.Draft.{Draft, between, Verdict, goes, accepts, refuses, apply}
-use Rattle.book.specs.Contracts.{idle, edgeCount, Represents, Follows, Takes, adds, Fresh}
+use Rattle.book.specs.Contracts.{idle, edgeLimit, Represents, Follows, Takes, adds, Fresh}
 use Rattle.book.proofs.Fine.{fine-start}
 use Rattle.book.proofs.Filling.{stored-fresh}
 use Rattle.book.proofs.Steps.{inside-is}
 use Rattle.reader.specs.Reading.{accepted, refused, goOn, takeIn, readFrom, readBook, answer}
-use Rattle.reader.specs.Contracts.{Loaded}
+use Rattle.reader.specs.Contracts.{smallBook, smallTable, largeTable, Lent, Loaded}
 use Rattle.reader.proofs.Accepted.{Commanded, Found, command-found}
 use Rattle.command.specs.declared.Decoded.the-variants as decoded
 use Rattle.answer.specs.declared.BookAnswer.the-variants as answers
 
 -- ---- answers
 
-pub loaded-refused : {bytes hs ss es : List ℕ} {r : BookAnswer} {number place : ℕ} → readBook bytes ≡ refused number place
-    → r ≡ answers.Refused (record { number = number; place = place }) → Loaded bytes r hs ss es
+pub loaded-refused : {bytes tb : List ℕ} {r : BookAnswer} {number place : ℕ} → readBook bytes ≡ refused number place
+    → r ≡ answers.Refused (record { number = number; place = place }) → Loaded bytes r tb
 loaded-refused e q =
     record {
       answered = q ∙ ap answer (sym e);
-      tables = λ rules z. let y : _≡_ {A = ℕ} 0 1 = cc in absurd (omega arith);
+      holds = λ rules z. let y : _≡_ {A = ℕ} 0 1 = cc in absurd (omega arith);
     }
 
-loaded-accepted : {bytes hs ss es : List ℕ} {k : ℕ} {rules : List Rule} → readBook bytes ≡ accepted rules
-    → k ≡ length rules → Tables hs ss es rules → Loaded bytes (answers.Accepted k) hs ss es
-loaded-accepted {bytes} {hs} {ss} {es} {k} {rules} e q t =
+loaded-accepted : {bytes tb : List ℕ} {k : ℕ} {rules : List Rule} → readBook bytes ≡ accepted rules
+    → k ≡ length rules → Holds tb rules → Loaded bytes (answers.Accepted k) tb
+loaded-accepted {tb = tb} {rules = rules} e q t =
     record {
       answered = ap answers.Accepted q ∙ ap answer (sym e);
-      tables = λ others z. let y : rules ≡ others = cc in subst (Tables hs ss es) y t;
+      holds = λ others z. let y : rules ≡ others = cc in subst (Holds tb) y t;
     }
 
 pub read-too-long : (bytes : List ℕ) → maxBytes < length bytes → readBook bytes ≡ refused 1 0
@@ -51,20 +51,21 @@ read-too-long bytes l = rw (lt-ltb _ _ l)
 
 -- ---- the loop
 
--- the book's bytes up to `at` have made the draft that the state and the tables hold, and reading from there on decides
-pub record Going (bytes hs ss es : List ℕ) (at : ℕ) (b : Book) : Type 0 where
+-- the book's bytes up to `at` have made the draft that the state, the table and the cells hold, and reading from there on decides
+pub record Going (bytes tb rows : List ℕ) (at : ℕ) (b : Book) : Type 0 where
   pub draft : Draft
   pub steps : ℕ
-  pub holds : Represents b hs ss es draft
+  pub holds : Represents b tb rows draft
   pub enough : length bytes ≤ at + steps
   pub same : readBook bytes ≡ readFrom steps bytes at draft
-  pub few : 4 * b .edges ≤ at
+  pub few : 4 * b .edges ≤ 4 * edgeStart + at
   pub short : length bytes ≤ maxBytes
+  pub room : edgeStart + length bytes / 4 < length tb
 
-pub going-start : {bytes hs ss es : List ℕ} {b : Book} {at : ℕ} → Fresh hs ss es → length bytes ≤ maxBytes
-    → b ≡ idle 0 0 → at ≡ 0 → Going bytes hs ss es at b
+pub going-start : {bytes tb rows : List ℕ} {b : Book} {at : ℕ} → Lent (length bytes) tb → Fresh tb rows → length bytes ≤ maxBytes
+    → b ≡ idle 0 edgeStart → at ≡ 0 → Going bytes tb rows at b
 unfolding readBook overlaps
-going-start {bytes} f l e z =
+going-start {bytes} lent f l e z =
     rw (e, z)
     (record {
       draft = between [];
@@ -74,6 +75,7 @@ going-start {bytes} f l e z =
       same = rw (le-ltb _ _ l);
       few = omega arith;
       short = l;
+      room = lent .room l;
     })
 
 -- the book stops before END
@@ -82,7 +84,7 @@ unfolding readFrom
 read-stops zero bytes at d l = refl
 read-stops (suc n) bytes at d l = rw (le-ltb _ _ l)
 
-pub going-stops : {bytes hs ss es : List ℕ} {at : ℕ} {b : Book} → Going bytes hs ss es at b → length bytes ≤ at
+pub going-stops : {bytes tb rows : List ℕ} {at : ℕ} {b : Book} → Going bytes tb rows at b → length bytes ≤ at
     → readBook bytes ≡ refused 2 (length bytes)
 going-stops {bytes} g l = g .same ∙ read-stops (g .steps) bytes _ (g .draft) l
 
@@ -98,7 +100,7 @@ unfolding readFrom
 read-takes zero bytes at d c e l q s = absurd (omega arith)
 read-takes (suc n) bytes at d c e l q s = record { steps = n; enough = omega arith; same = s ∙ rw (lt-ltb _ _ l, q) }
 
-pub going-takes : {bytes hs ss es : List ℕ} {at : ℕ} {b : Book} (g : Going bytes hs ss es at b) → at < length bytes
+pub going-takes : {bytes tb rows : List ℕ} {at : ℕ} {b : Book} (g : Going bytes tb rows at b) → at < length bytes
     → (c : Decoded) → c ≡ commandAt bytes at (b .inside) → Taking bytes at (g .draft) c
 going-takes {bytes} {at = at} g more c e =
     read-takes (g .steps) bytes at (g .draft) c (g .enough) more (ap (commandAt bytes at) (sym (inside-is (g .holds))) ∙ sym e) (g .same)
@@ -106,42 +108,54 @@ going-takes {bytes} {at = at} g more c e =
 -- ---- a command
 
 -- the command c stands at `at`, and the cursor is then past it
-pub record Here (bytes hs ss es : List ℕ) (at : ℕ) (b : Book) (c : Command) (cursor : Cursor) : Type 0 where
-  pub going : Going bytes hs ss es at b
+pub record Here (bytes tb rows : List ℕ) (at : ℕ) (b : Book) (c : Command) (cursor : Cursor) : Type 0 where
+  pub going : Going bytes tb rows at b
   pub more : at < length bytes
   pub byte : (i : ℕ) → byteAt bytes i < 256
   pub found : decoded.Command c cursor ≡ commandAt bytes at (b .inside)
 
 -- what its outcome says of the book: reading goes on, or the book is answered
-abbrev pub Leaves : List ℕ → List ℕ → List ℕ → List ℕ → ℕ → Progress → Type 0
-Leaves bytes hs ss es at (On b) = Going bytes hs ss es at b
-Leaves bytes hs ss es at (Done k) = Loaded bytes (answers.Accepted k) hs ss es
-Leaves bytes hs ss es at (Refused f) = Loaded bytes (answers.Refused f) hs ss es
+abbrev pub Leaves : List ℕ → List ℕ → List ℕ → ℕ → Progress → Type 0
+Leaves bytes tb rows at (On b) = Going bytes tb rows at b
+Leaves bytes tb rows at (Done k) = Loaded bytes (answers.Accepted k) tb
+Leaves bytes tb rows at (Refused f) = Loaded bytes (answers.Refused f) tb
 
-module _ {bytes hs ss es : List ℕ} {at : ℕ} {b : Book} {c : Command} {cursor : Cursor} (k : Here bytes hs ss es at b c cursor) where
+module _ {bytes tb rows : List ℕ} {at : ℕ} {b : Book} {c : Command} {cursor : Cursor} (k : Here bytes tb rows at b c cursor) where
   pub commanded : Commanded bytes at (b .inside) c (cursor .at)
   commanded = subst (Found bytes at (b .inside)) (sym (k .found)) (command-found bytes at (b .inside) (k .byte))
 
-  pub edges-left : b .edges < edgeCount
+  pub edges-left : b .edges < edgeLimit
   edges-left = let h = k .going .few in let l = k .going .short in let m = k .more in omega arith
+
+  pub room-left : b .edges < length tb
+  room-left = let h = k .going .few in let l = k .going .room in let m = k .more in omega arith
 
   taking : Taking bytes at (k .going .draft) (decoded.Command c cursor)
   taking = going-takes (k .going) (k .more) (decoded.Command c cursor) (k .found)
 
-  pub taken-in : {r s : Progress} (hs₁ ss₁ es₁ : List ℕ) → Takes b c at (length bytes) r hs ss es hs₁ ss₁ es₁ → r ≡ s
-      → Leaves bytes hs₁ ss₁ es₁ (cursor .at) s
-  taken-in {s = s} hs₁ ss₁ es₁ taken e =
+  pub taken-in : {r s : Progress} (tb₁ rows₁ : List ℕ) → length tb₁ ≡ length tb → Takes b c at (length bytes) r tb rows tb₁ rows₁ → r ≡ s
+      → Leaves bytes tb₁ rows₁ (cursor .at) s
+  taken-in {s = s} tb₁ rows₁ kept taken e =
       go (apply (k .going .draft) c at (length bytes)) s (taking .same)
       (rw e at (taken (k .going .draft) (k .going .holds) (sym (inside-is (k .going .holds)) ∙ sym (commanded .stands))))
     where
       go : (v : Verdict) (p : Progress) → readBook bytes ≡ goOn v (readFrom (taking .steps) bytes (cursor .at))
-          → Follows v p hs₁ ss₁ es₁ (b .edges + adds c) → Leaves bytes hs₁ ss₁ es₁ (cursor .at) p
+          → Follows v p tb₁ rows₁ (b .edges + adds c) → Leaves bytes tb₁ rows₁ (cursor .at) p
       go (goes d) (On b₁) q (h, n) =
           let f = commanded .further in
           let w = commanded .wide in
           let t = taking .enough in
           let l = k .going .few in
-          record { draft = d; steps = taking .steps; holds = h; enough = omega arith; same = q; few = omega arith; short = k .going .short }
+          record {
+            draft = d;
+            steps = taking .steps;
+            holds = h;
+            enough = omega arith;
+            same = q;
+            few = omega arith;
+            short = k .going .short;
+            room = rw kept (k .going .room);
+          }
       go (goes d) (Done n) q h = absurd h
       go (goes d) (Refused f) q h = absurd h
       go (accepts rules) (On b₁) q h = absurd h
@@ -150,3 +164,25 @@ module _ {bytes hs ss es : List ℕ} {at : ℕ} {b : Book} {c : Command} {cursor
       go (refuses number place) (On b₁) q h = absurd h
       go (refuses number place) (Done n) q h = absurd h
       go (refuses number place) (Refused f) q h = loaded-refused q (ap answers.Refused h)
+
+-- ---- tables of zeros
+
+zeros-lent : (n m : ℕ) → edgeStart ≤ m → (n ≤ maxBytes → edgeStart + n / 4 < m) → Lent n (replicate m 0)
+zeros-lent n m l r =
+    let q = length-replicate {A = ℕ} m 0 in
+    record { head = rw q l; room = λ h. rw q (r h); empty = getD-replicate {A = ℕ} m 0 0 0 (omega arith) }
+
+pub lent-small : (n : ℕ) → n ≤ smallBook → Lent n (replicate smallTable 0)
+lent-small n l = zeros-lent n smallTable (omega arith) (λ h. omega arith)
+
+pub lent-large : (n : ℕ) → Lent n (replicate largeTable 0)
+lent-large n = zeros-lent n largeTable (omega arith) (λ h. omega arith)
+
+pub rows-fresh : {n : ℕ} {tb : List ℕ} → Lent n tb → Fresh tb (replicate stateCount 0)
+rows-fresh h =
+    record {
+      head = h .head;
+      empty = h .empty;
+      cells = length-replicate {A = ℕ} stateCount 0;
+      zeros = λ s l. getD-replicate {A = ℕ} stateCount s 0 0 l;
+    }

@@ -1,14 +1,32 @@
 -- What the layers of the code ask and answer between themselves. Nobody needs to believe it: the operations' contracts do not rest on it.
 use mathlib.Core.Path.{_≡_}
 use mathlib.Core.List.{List}
-use Prim.Native.Nat.{ℕ}
+use Prim.Native.Nat.{ℕ, _+_, _/_, _<_, _≤_}
+use lib.ListN.{length}
 use Rattle.answer.specs.declared.BookAnswer.{BookAnswer}
 use Rattle.automaton.specs.Rule.{Rule}
-use Rattle.automaton.specs.Contracts.{Tables}
+use Rattle.automaton.specs.Contracts.{edgeStart, countAt, Holds}
+use Rattle.book.specs.Limits.{maxBytes}
 use Rattle.reader.specs.Reading.{accepted, readBook, answer}
 
--- What reading a book leaves: the answer that is defined, and tables that hold the rules of an accepted book. Of the tables of a
+-- bytes of a small book, and the words of the tables for small books and for all
+abbrev pub smallBook : ℕ
+smallBook = 2048
+
+abbrev pub smallTable : ℕ
+smallTable = 578
+
+abbrev pub largeTable : ℕ
+largeTable = 8258
+
+-- a table as it is lent for a book of so many bytes: with room for what an accepted book needs, and no rule in it
+pub record Lent (n : ℕ) (tb : List ℕ) : Type 0 where
+  pub head : edgeStart ≤ length tb
+  pub room : n ≤ maxBytes → edgeStart + n / 4 < length tb
+  pub empty : countAt tb ≡ 0
+
+-- What reading a book leaves: the answer that is defined, and a table that holds the rules of an accepted book. Of the table of a
 -- refused book nothing is said.
-pub record Loaded (bytes : List ℕ) (r : BookAnswer) (hs ss es : List ℕ) : Type 0 where
+pub record Loaded (bytes : List ℕ) (r : BookAnswer) (tb : List ℕ) : Type 0 where
   pub answered : r ≡ answer (readBook bytes)
-  pub tables : (rules : List Rule) → readBook bytes ≡ accepted rules → Tables hs ss es rules
+  pub holds : (rules : List Rule) → readBook bytes ≡ accepted rules → Holds tb rules

@@ -1,21 +1,33 @@
-// The reader of rule books: `read` answers the number of rules or the refusal; `load_arrays` fills the tables too, for the crates
-// that use the rules.
+// The reader of rule books: `read` answers the number of rules or the refusal; `load` fills a table too, for the crates that use
+// the rules.
 use answer::BookAnswer;
 use answer::Refusal;
+use automaton::STATES;
 use book::Book;
 use book::Progress;
 use command::Cursor;
 use command::Decoded;
 ghost use mathlib.Core.Path.{_≡_};
+ghost use Prim.Native.Nat.{_≤_};
+ghost use lib.ListN.{length};
 ghost use Rattle.book.specs.Contracts.{Fresh};
 ghost use Rattle.reader.specs.Reading.{readBook, answer};
-ghost use Rattle.reader.specs.Contracts.{Loaded};
+ghost use Rattle.reader.specs.Contracts.{Lent, Loaded, smallBook};
 
-// Checks a book and fills the tables with its rules. The tables are lent with all cells zero; where the book is refused,
-// what they hold is of no account.
-fn load(book: &[u8], headers: &mut [u64], states: &mut [u16], edges: &mut [u64]) -> BookAnswer
-    requires { ⌜ Fresh (now headers) (now states) (now edges) ⌝ }
-    ensures { λ r. ⌜ Loaded (now (book .entry)) r (now (headers .exit)) (now (states .exit)) (now (edges .exit)) ⌝ }
+// Checks a book and fills the table with its rules; where the book is refused, what it holds is of no account.
+pub fn load(book: &[u8], table: &mut [u64]) -> BookAnswer
+    requires { ⌜ Lent (length (now book)) (now table) ⌝ }
+    ensures { λ r. ⌜ Loaded (now (book .entry)) r (now (table .exit)) ⌝ }
+{
+    let mut rows = [0u32; STATES];
+    load_rows(book, table, &mut rows)
+}
+
+// The same with the cells of the open rule's states, all zero.
+fn load_rows(book: &[u8], table: &mut [u64], rows: &mut [u32]) -> BookAnswer
+    requires { ⌜ Lent (length (now book)) (now table) ⌝ }
+    requires { ⌜ Fresh (now table) (now rows) ⌝ }
+    ensures { λ r. ⌜ Loaded (now (book .entry)) r (now (table .exit)) ⌝ }
 {
     let len = book.len();
     if Book::BYTES < len {
@@ -33,9 +45,8 @@ fn load(book: &[u8], headers: &mut [u64], states: &mut [u16], edges: &mut [u64])
                 command,
                 at,
                 len,
-                headers,
-                states,
-                edges,
+                table,
+                rows,
             ) {
                 Progress::On(on) => {
                     state = on;
@@ -49,25 +60,28 @@ fn load(book: &[u8], headers: &mut [u64], states: &mut [u16], edges: &mut [u64])
     BookAnswer::refused(Refusal::CUT_OFF, len)
 }
 
-// The same over whole arrays, as a caller has them.
-pub fn load_arrays(
-    book: &[u8],
-    headers: &mut [u64; Book::RULES],
-    states: &mut [u16; Book::CELLS],
-    edges: &mut [u64; Book::EDGES],
-) -> BookAnswer
-    requires { ⌜ Fresh (now headers) (now states) (now edges) ⌝ }
-    ensures { λ r. ⌜ Loaded (now (book .entry)) r (now (headers .exit)) (now (states .exit)) (now (edges .exit)) ⌝ }
-{
-    load(book, headers, states, edges)
-}
-
 // Reads a book: the number of its rules, or the refusal of document 01.
 pub fn read(book: &[u8]) -> BookAnswer
     ensures { λ r. ⌜ r ≡ answer (readBook (now (book .entry))) ⌝ }
 {
-    let mut headers = [0u64; Book::RULES];
-    let mut states = [0u16; Book::CELLS];
-    let mut edges = [0u64; Book::EDGES];
-    load_arrays(book, &mut headers, &mut states, &mut edges)
+    if book.len() <= Book::SMALL {
+        read_small(book)
+    } else {
+        read_large(book)
+    }
+}
+
+fn read_small(book: &[u8]) -> BookAnswer
+    requires { ⌜ length (now book) ≤ smallBook ⌝ }
+    ensures { λ r. ⌜ r ≡ answer (readBook (now (book .entry))) ⌝ }
+{
+    let mut table = [0u64; Book::SMALL_TABLE];
+    load(book, &mut table)
+}
+
+fn read_large(book: &[u8]) -> BookAnswer
+    ensures { λ r. ⌜ r ≡ answer (readBook (now (book .entry))) ⌝ }
+{
+    let mut table = [0u64; Book::TABLE];
+    load(book, &mut table)
 }

@@ -7,7 +7,7 @@ refused-requires : tie.Need-refused-requires
 refused-requires c κs = search needs
 
 returns : tie.Need-returns
-returns c = λ hs ss es d h i. rw (c .refused .ensures) (end-empty h _ _ _ (c .before .if1 .taken))
+returns c = λ tb rows d h i. rw (c .refused .ensures) (end-empty h _ _ _ (c .before .if1 .taken))
 
 add-if2 : tie.Need-add-if2
 add-if2 c = search needs
@@ -19,10 +19,10 @@ refused-requires-2 : tie.Need-refused-requires-2
 refused-requires-2 c κs = search needs
 
 returns-2 : tie.Need-returns-2
-returns-2 c = λ hs ss es d h i. rw (c .refused2 .ensures) (end-early h _ _ _ (c .before .before .if1 .left) (c .before .if2 .taken))
+returns-2 c = λ tb rows d h i. rw (c .refused2 .ensures) (end-early h _ _ _ (c .before .before .if1 .left) (c .before .if2 .taken))
 
 returns-3 : tie.Need-returns-3
-returns-3 c = λ hs ss es d h i. end-last h _ _ _ (c .before .if1 .left) (c .if2 .left)
+returns-3 c = λ tb rows d h i. end-last h _ _ _ (c .before .if1 .left) (c .if2 .left)
 
 pub end-spec : {M : Type 1} → statement M
 end-spec = tie.close (tie.spec refused-requires returns add-if2 add-refused refused-requires-2 returns-2 returns-3)

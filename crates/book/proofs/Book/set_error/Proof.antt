@@ -13,14 +13,14 @@ refused-requires c κs = search needs
 
 returns : tie.Need-returns
 unfolding apply
-returns c = λ hs ss es len d h i.
-    rw (c .refused .ensures) (given-again hs ss es _ _ _ (erring-is h) (c .before .if1 .taken))
+returns c = λ tb rows len d h i.
+    rw (c .refused .ensures) (given-again tb rows _ _ _ (erring-is h) (c .before .if1 .taken))
 
 returns-2 : tie.Need-returns-2
 unfolding apply
-returns-2 c = λ hs ss es len d h i.
+returns-2 c = λ tb rows len d h i.
     let g = apply-good d (Error _) _ len (h .fine) (c .before .fits .s .fits) (sym i) in
-    given hs ss es _ _ (withError d _) (erring-is h) (c .if1 .left) g (h .stored) (rw (h .same)) (omega arith)
+    given tb rows _ _ (withError d _) (erring-is h) (c .if1 .left) g (h .stored) (rw (h .same)) (omega arith)
 
 pub set-error-spec : {M : Type 1} → statement M
 set-error-spec = tie.close (tie.spec refused-requires returns returns-2)

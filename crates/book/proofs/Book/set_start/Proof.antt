@@ -13,14 +13,14 @@ refused-requires c κs = search needs
 
 returns : tie.Need-returns
 unfolding apply
-returns c = λ hs ss es len d h i.
-    rw (c .refused .ensures) (given-again hs ss es _ _ _ (started-is h) (c .before .if1 .taken))
+returns c = λ tb rows len d h i.
+    rw (c .refused .ensures) (given-again tb rows _ _ _ (started-is h) (c .before .if1 .taken))
 
 returns-2 : tie.Need-returns-2
 unfolding apply
-returns-2 c = λ hs ss es len d h i.
+returns-2 c = λ tb rows len d h i.
     let g = apply-good d (Start _) _ len (h .fine) (c .before .fits .s .fits) (sym i) in
-    given hs ss es _ _ (withStart d _) (started-is h) (c .if1 .left) g (h .stored) (rw (h .same)) (omega arith)
+    given tb rows _ _ (withStart d _) (started-is h) (c .if1 .left) g (h .stored) (rw (h .same)) (omega arith)
 
 pub set-start-spec : {M : Type 1} → statement M
 set-start-spec = tie.close (tie.spec refused-requires returns returns-2)

@@ -1,29 +1,15 @@
-use mathlib.Core.Path.{_≡_, refl, _∙_, ap}
-use mathlib.Core.Bool.{true}
-use native.Mathlib.Omega.{arith}
+use mathlib.Core.Path.{refl}
 use borrow.Author.Needs.{needs}
-use denote.Ref.{now}
-use Rattle.command.specs.declared.Command.{Command}
 use Rattle.book.specs.Draft.{apply}
-use Rattle.book.specs.Contracts.{standsInside}
-use Rattle.book.proofs.Steps.{Inside, outside-room, inside-room}
+use Rattle.book.proofs.Steps.{outside-held, inside-room}
 use Rattle.book.proofs.applying.apply.Statement.{statement}
 use Rattle.book.proofs.applying.apply.Tie as tie
-
--- at entry, from where the arms of the match begin
-abbrev entry : tie.After-slice-known3 → tie.Start
-entry c = c .before .before .before
-
--- what a command asks that stands inside a rule
-room : (c : tie.After-slice-known3) (k : Command) → entry c .args .command ≡ k → standsInside k ≡ true
-    → Inside (entry c .args .state) (now (entry c .args .headers)) (now (entry c .args .states)) (now (entry c .args .edges))
-room c k e i = inside-room (entry c .pre .0) (entry c .pre .1 .0 ∙ ap standsInside e ∙ i)
 
 enum-known-command : tie.Need-enum-known-command
 enum-known-command c = search needs
 
 open-rule-requires : tie.Need-open-rule-requires
-open-rule-requires c κs = outside-room (entry (c .before .before .before .before) .pre .0)
+open-rule-requires c κs = outside-held (c .before .before .before .before .before .before .pre .0)
 
 enum-known-command-2 : tie.Need-enum-known-command-2
 enum-known-command-2 c = search needs
@@ -41,39 +27,27 @@ enum-known-command-4 : tie.Need-enum-known-command-4
 enum-known-command-4 c = search needs
 
 add-final-requires : tie.Need-add-final-requires
-add-final-requires c κs = room (c .before .before .before .before) _ (c .before .before .command4 .given .1) refl .cells
+add-final-requires c κs = let r = inside-room (c .before .before .before .before .before .before .pre .0) (c .before .before .before .before .before .before .pre .1 .0) (c .before .before .command4 .given .1) refl in (r .few, r .cells)
 
 enum-known-command-5 : tie.Need-enum-known-command-5
 enum-known-command-5 c = search needs
 
 add-transition-requires : tie.Need-add-transition-requires
 add-transition-requires c κs =
-    let k = c .before .before .before in
-    let r = room (k .before .before) _ (k .command5 .given .1) refl in
-    let l = entry (k .before .before) .pre .1 .1 in (
-      (r .cells, omega (arith, r .edges), r .edges),
-      r .chains (k .command5 .given .0 .0) (omega (arith, c .before .before .known-told5 .given)),
-    )
+    (inside-room (c .before .before .before .before .before .before .before .pre .0) (c .before .before .before .before .before .before .before .pre .1 .0) (c .before .before .before .command5 .given .1) refl, (c .before .before .before .before .before .before .before .pre .1 .1, c .before .before .before .before .before .before .before .pre .1 .2))
 
 enum-known-command-6 : tie.Need-enum-known-command-6
 enum-known-command-6 c = search needs
 
 add-transition-requires-2 : tie.Need-add-transition-requires-2
 add-transition-requires-2 c κs =
-    let k = c .before .before .before in
-    let r = room (k .before .before) _ (k .command6 .given .1) refl in
-    let l = entry (k .before .before) .pre .1 .1 in (
-      (r .cells, omega (arith, r .edges), r .edges),
-      r .chains (k .command6 .given .0 .0) (omega (arith, c .before .before .known-told6 .given)),
-    )
+    (inside-room (c .before .before .before .before .before .before .before .pre .0) (c .before .before .before .before .before .before .before .pre .1 .0) (c .before .before .before .command6 .given .1) refl, (c .before .before .before .before .before .before .before .pre .1 .1, c .before .before .before .before .before .before .before .pre .1 .2))
 
 enum-told : tie.Need-enum-told
 enum-told c = search needs
 
 close-requires : tie.Need-close-requires
-close-requires c κs =
-    let r = room (c .before .before .before .before) _ (c .before .before .enum-told .given .1) refl in
-    (r .headers, r .cells, r .few)
+close-requires c κs = inside-room (c .before .before .before .before .before .before .pre .0) (c .before .before .before .before .before .before .pre .1 .0) (c .before .before .enum-told .given .1) refl
 
 enum-told-2 : tie.Need-enum-told-2
 enum-told-2 c = search needs
@@ -85,21 +59,19 @@ same-length : tie.Need-same-length
 same-length c = search needs
 
 returns : tie.Need-returns
-returns c = rw (c .before .before .before .command .given .1) (λ d h i. c .open-rule .ensures _ _ _ d h i)
+returns c = rw (c .before .before .before .command .given .1) (λ d h i. c .open-rule .ensures _ _ d h i)
 
 returns-2 : tie.Need-returns-2
-returns-2 c = rw (c .before .before .command2 .given .1) (λ d h i. c .set-start .ensures _ _ _ _ d h i)
+returns-2 c = rw (c .before .before .command2 .given .1) (λ d h i. c .set-start .ensures _ _ _ d h i)
 
 returns-3 : tie.Need-returns-3
-returns-3 c = rw (c .before .before .command3 .given .1) (λ d h i. c .set-error .ensures _ _ _ _ d h i)
+returns-3 c = rw (c .before .before .command3 .given .1) (λ d h i. c .set-error .ensures _ _ _ d h i)
 
 same-length-2 : tie.Need-same-length-2
 same-length-2 c = search needs
 
 returns-4 : tie.Need-returns-4
-returns-4 c =
-    let k = c .before .before in
-    rw (k .before .before .before .command4 .given .1) (λ d h i. k .add-final .ensures _ _ _ _ d h i)
+returns-4 c = rw (c .before .before .before .before .before .command4 .given .1) (λ d h i. c .before .before .add-final .ensures _ _ _ d h i)
 
 same-length-3 : tie.Need-same-length-3
 same-length-3 c = search needs
@@ -109,9 +81,7 @@ same-length-4 c = search needs
 
 returns-5 : tie.Need-returns-5
 unfolding apply
-returns-5 c =
-    let k = c .before .before .before .before in
-    rw (k .before .before .before .before .command5 .given .1) (λ d h i. k .add-transition .ensures _ d h i)
+returns-5 c = rw (c .before .before .before .before .before .before .before .before .command5 .given .1) (λ d h i. c .before .before .before .before .add-transition .ensures d h i)
 
 same-length-5 : tie.Need-same-length-5
 same-length-5 c = search needs
@@ -121,9 +91,7 @@ same-length-6 c = search needs
 
 returns-6 : tie.Need-returns-6
 unfolding apply
-returns-6 c =
-    let k = c .before .before .before .before in
-    rw (k .before .before .before .before .command6 .given .1) (λ d h i. k .add-transition2 .ensures _ d h i)
+returns-6 c = rw (c .before .before .before .before .before .before .before .before .command6 .given .1) (λ d h i. c .before .before .before .before .add-transition2 .ensures d h i)
 
 same-length-7 : tie.Need-same-length-7
 same-length-7 c = search needs
@@ -132,10 +100,10 @@ same-length-8 : tie.Need-same-length-8
 same-length-8 c = search needs
 
 returns-7 : tie.Need-returns-7
-returns-7 c = rw (c .before .before .before .before .before .enum-told .given .1) (λ d h i. c .before .before .close .ensures _ _ d h i)
+returns-7 c = rw (c .before .before .before .before .before .enum-told .given .1) (λ d h i. c .before .before .close .ensures _ d h i)
 
 returns-8 : tie.Need-returns-8
-returns-8 c = rw (c .before .enum-told2 .given .1) (λ d h i. c .end .ensures _ _ _ d h i)
+returns-8 c = rw (c .before .enum-told2 .given .1) (λ d h i. c .end .ensures _ _ d h i)
 
 pub apply-spec : {M : Type 1} → statement M
 apply-spec =
