@@ -6,20 +6,10 @@ use mathlib.Core.List.{List}
 use Prim.Native.Nat.{ℕ, _-_, _<_, _≤_}
 use lib.ListN.{length, take, drop}
 use Rattle.automaton.specs.Rule.{Rule, matches}
-use Rattle.automaton.specs.Contracts.{Tables, ruleAt}
+use Rattle.automaton.specs.Contracts.{ruleAt}
 use Rattle.longest_match.specs.Lexer.{Found, choose, lex}
 
--- ---- What the code answers, said of the rules that the tables hold.
-
--- the tables hold these n rules
-pub record Holds (hs ss es : List ℕ) (n : ℕ) (rules : List Rule) : Type 0 where
-  pub tables : Tables hs ss es rules
-  pub count : length rules ≡ n
-
--- the tables hold some n rules
-pub record Held (hs ss es : List ℕ) (n : ℕ) : Type 0 where
-  pub rules : List Rule
-  pub holds : Holds hs ss es n rules
+-- ---- What the code answers, said of the rules that a table holds.
 
 -- the bytes of a text from one place to another
 unfoldable pub part : List ℕ → ℕ → ℕ → List ℕ

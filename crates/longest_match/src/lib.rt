@@ -1,11 +1,12 @@
-// Lexing a text by the rules that the tables hold: at each place the longest match, by the earliest rule.
+// Lexing a text by the rules that a table holds: at each place the longest match, by the earliest rule.
 // A token costs one walk for each rule.
 ghost use mathlib.Core.Path.{_≡_};
 ghost use mathlib.Core.List.{List};
 ghost use Prim.Native.Nat.{ℕ, _≤_};
 ghost use lib.ListN.{length};
 ghost use Rattle.automaton.specs.Rule.{Rule};
-ghost use Rattle.longest_match.specs.Contracts.{Holds, Held, part, Chooses, Cuts};
+ghost use Rattle.automaton.specs.Contracts.{Holds, Held};
+ghost use Rattle.longest_match.specs.Contracts.{part, Chooses, Cuts};
 
 // What is chosen at the start of a text: the number of the rule and how many bytes it takes; both 0 for no rule.
 pub struct Choice {
@@ -14,36 +15,28 @@ pub struct Choice {
 }
 
 // The rule that matches the longest prefix of the bytes of `text` from `from` to `to`, the earliest of them on a tie.
-pub fn choose(
-    headers: &[u64],
-    states: &[u16],
-    edges: &[u64],
-    rules: usize,
-    text: &[u8],
-    from: usize,
-    to: usize,
-) -> Choice
-    requires { ⌜ Held (now headers) (now states) (now edges) rules ⌝ }
+pub fn choose(table: &[u64], text: &[u8], from: usize, to: usize) -> Choice
+    requires { ⌜ Held (now table) ⌝ }
     requires { ⌜ (from ≤ to) × (to ≤ length (now text)) ⌝ }
-    ensures { λ r. ⌜ ((rs : List Rule) (t : List ℕ) → Holds (now (headers .entry)) (now (states .entry)) (now (edges .entry)) rules rs
+    ensures { λ r. ⌜ ((rs : List Rule) (t : List ℕ) → Holds (now (table .entry)) rs
         → part (now (text .entry)) from to ≡ t → Chooses rs t (r .rule) (r .len)) ⌝ }
 {
-    choose_of(headers, states, edges, rules, &text[from..to])
+    choose_of(table, &text[from..to])
 }
 
 // The same of a whole text.
-fn choose_of(headers: &[u64], states: &[u16], edges: &[u64], rules: usize, text: &[u8]) -> Choice
-    requires { ⌜ Held (now headers) (now states) (now edges) rules ⌝ }
-    ensures { λ r. ⌜ ((rs : List Rule) → Holds (now (headers .entry)) (now (states .entry)) (now (edges .entry)) rules rs
-        → Chooses rs (now (text .entry)) (r .rule) (r .len)) ⌝ }
+fn choose_of(table: &[u64], text: &[u8]) -> Choice
+    requires { ⌜ Held (now table) ⌝ }
+    ensures { λ r. ⌜ ((rs : List Rule) → Holds (now (table .entry)) rs → Chooses rs (now (text .entry)) (r .rule) (r .len)) ⌝ }
 {
+    let rules = automaton::count_of(table);
     let mut rule = 0;
     let mut len = 0;
     let mut next = 0;
     while next < rules {
         let k = next;
         next += 1;
-        let n = automaton::walking::longest_prefix(headers, states, edges, k, text);
+        let n = automaton::walking::longest_prefix(table, k, text);
         if len < n {
             rule = k;
             len = n;
@@ -59,15 +52,14 @@ pub struct Cut {
 }
 
 // How `text` is cut, with nothing written.
-pub fn count(headers: &[u64], states: &[u16], edges: &[u64], rules: usize, text: &[u8]) -> Cut
-    requires { ⌜ Held (now headers) (now states) (now edges) rules ⌝ }
-    ensures { λ r. ⌜ ((rs : List Rule) → Holds (now (headers .entry)) (now (states .entry)) (now (edges .entry)) rules rs
-        → Cuts rs (now (text .entry)) (r .tokens) (r .rest)) ⌝ }
+pub fn count(table: &[u64], text: &[u8]) -> Cut
+    requires { ⌜ Held (now table) ⌝ }
+    ensures { λ r. ⌜ ((rs : List Rule) → Holds (now (table .entry)) rs → Cuts rs (now (text .entry)) (r .tokens) (r .rest)) ⌝ }
 {
     let mut tokens = 0;
     let mut at = 0;
     while at < text.len() {
-        let c = choose(headers, states, edges, rules, text, at, text.len());
+        let c = choose(table, text, at, text.len());
         if c.len == 0 {
             return Cut { tokens, rest: at };
         }

@@ -1,23 +1,29 @@
--- `choose_of`: every rule in turn; the invariant is `Best` of the rules walked so far, for any rules that the tables hold. Assumes nothing.
+-- `choose_of`: every rule in turn; the invariant is `Best` of the rules walked so far, for any rules that the table holds. Assumes nothing.
 use mathlib.Core.Path.{_≡_}
 use mathlib.Core.List.{List}
 use Prim.Native.Nat.{_-_, _≤_}
 use native.Mathlib.Omega.{arith}
 use lib.ListN.{length}
+use borrow.Author.Needs.{needs}
+use denote.Ref.{now}
 use Rattle.automaton.specs.Rule.{Rule}
-use Rattle.automaton.specs.Contracts.{ruleAt}
-use Rattle.longest_match.specs.Contracts.{Holds}
-use Rattle.longest_match.proofs.Held.{table-at}
+use Rattle.automaton.specs.Contracts.{Table, Holds, ruleAt}
 use Rattle.longest_match.proofs.Picking.{Best, best-start, best-take, best-keep, best-chooses}
 use Rattle.longest_match.proofs.choose_of.Statement.{statement}
 use Rattle.longest_match.proofs.choose_of.Tie as tie
 
 abbrev Inv-loop : tie.InvT-loop
-Inv-loop headers states edges rules text rule₀ len₀ next₀ rule len next = (next ≤ rules)
-    × ((rs : List Rule) → Holds headers states edges rules rs → Best rs text next rule len)
+Inv-loop table text rules rule₀ len₀ next₀ rule len next = (next ≤ rules) × ((rs : List Rule) → Holds table rs → Best rs text next rule len)
 
 abbrev μ-loop : tie.MeasureT-loop
-μ-loop headers states edges rules text rule₀ len₀ next₀ rule len next = rules - next
+μ-loop table text rules rule₀ len₀ next₀ rule len next = rules - next
+
+here : (c : tie.In-loop Inv-loop μ-loop) (rs : List Rule) (h : Holds (now (c .before .before .before .before .before .args .table)) rs)
+    → Table (now (c .before .before .before .before .before .args .table)) (c .before .loop .next) (ruleAt rs (c .before .loop .next))
+here c rs h = h .each (c .before .loop .next) (omega (arith, c .loop-test .taken, c .before .before .count-of .ensures rs h))
+
+count-of-requires : tie.Need-count-of-requires Inv-loop μ-loop
+count-of-requires c κs = search needs
 
 loop-holds : tie.Need-loop-holds Inv-loop μ-loop
 loop-holds c = (omega arith, λ rs h. best-start rs _)
@@ -26,34 +32,27 @@ add-next : tie.Need-add-next Inv-loop μ-loop
 add-next c = omega arith
 
 longest-prefix-requires : tie.Need-longest-prefix-requires Inv-loop μ-loop
-longest-prefix-requires c κs = let p = c .before .before .before .before .before .before .pre in record
-    { rule = ruleAt (p .rules) (c .before .loop .next); table = table-at (p .holds) (c .loop-test .taken) }
+longest-prefix-requires c κs = record { rule = ruleAt (c .before .before .before .before .before .pre .rules) (c .before .loop .next); table = here c (c .before .before .before .before .before .pre .rules) (c .before .before .before .before .before .pre .holds) }
 
 loop-less : tie.Need-loop-less Inv-loop μ-loop
 loop-less c = omega arith
 
 loop-again : tie.Need-loop-again Inv-loop μ-loop
 loop-again c =
-    let head = c .before .before .before in
-    (omega arith, λ rs h. best-take (head .loop .inv .1 rs h)
-        (c .before .longest-prefix .ensures (ruleAt rs (head .loop .next)) (table-at h (c .before .before .loop-test .taken)))
-        (c .if1 .taken))
+    (omega arith, λ rs h. best-take (c .before .before .before .loop .inv .1 rs h) (c .before .longest-prefix .ensures _ (here (c .before .before) rs h)) (c .if1 .taken))
 
 loop-less-2 : tie.Need-loop-less-2 Inv-loop μ-loop
 loop-less-2 c = omega arith
 
 loop-again-2 : tie.Need-loop-again-2 Inv-loop μ-loop
 loop-again-2 c =
-    let head = c .before .before .before in
-    (omega arith, λ rs h. best-keep (head .loop .inv .1 rs h)
-        (c .before .longest-prefix .ensures (ruleAt rs (head .loop .next)) (table-at h (c .before .before .loop-test .taken)))
-        (c .if1 .left))
+    (omega arith, λ rs h. best-keep (c .before .before .before .loop .inv .1 rs h) (c .before .longest-prefix .ensures _ (here (c .before .before) rs h)) (c .if1 .left))
 
 returns : tie.Need-returns Inv-loop μ-loop
 returns c = λ rs h.
-    let e : c .before .loop .next ≡ length rs = omega (arith, h .count) in
+    let e : c .before .loop .next ≡ length rs = omega (arith, c .loop-test .left, c .before .before .count-of .ensures rs h) in
     best-chooses (rw e at (c .before .loop .inv .1 rs h))
 
 pub choose-of-spec : {M : Type 1} → statement M
 choose-of-spec =
-    tie.close (tie.spec Inv-loop μ-loop loop-holds add-next longest-prefix-requires loop-less loop-again loop-less-2 loop-again-2 returns)
+    tie.close (tie.spec Inv-loop μ-loop count-of-requires loop-holds add-next longest-prefix-requires loop-less loop-again loop-less-2 loop-again-2 returns)

@@ -1,4 +1,4 @@
--- `count`: the invariant is `Cutting`, for any rules that the tables hold. Assumes nothing.
+-- `count`: the invariant is `Cutting`, for any rules that the table holds. Assumes nothing.
 use mathlib.Core.List.{List}
 use Prim.Native.Nat.{_+_, _-_, _≤_}
 use native.Mathlib.Nat.{le-refl}
@@ -6,33 +6,30 @@ use native.Mathlib.Omega.{arith}
 use lib.ListN.{length}
 use denote.Ref.{now}
 use Rattle.automaton.specs.Rule.{Rule}
-use Rattle.longest_match.specs.Contracts.{Holds}
+use Rattle.automaton.specs.Contracts.{Holds}
 use Rattle.longest_match.proofs.Parts.{part-end}
 use Rattle.longest_match.proofs.Cutting.{Cutting, cutting-start, cutting-within, cutting-next, cutting-stop, lex-stop, lex-end}
 use Rattle.longest_match.proofs.count.Statement.{statement}
 use Rattle.longest_match.proofs.count.Tie as tie
 
 abbrev Inv-loop : tie.InvT-loop
-Inv-loop headers states edges rules text tokens₀ at₀ tokens at = (rs : List Rule) → Holds headers states edges rules rs
-    → Cutting rs text at tokens
+Inv-loop table text tokens₀ at₀ tokens at = (rs : List Rule) → Holds table rs → Cutting rs text at tokens
 
 abbrev μ-loop : tie.MeasureT-loop
-μ-loop headers states edges rules text tokens₀ at₀ tokens at = length text - at
+μ-loop table text tokens₀ at₀ tokens at = length text - at
 
--- by one list of rules that the tables hold
-some : (c : tie.At-loop Inv-loop μ-loop) → Cutting (c .before .before .before .before .before .pre .rules)
-    (now (c .before .before .before .before .before .args .text)) (c .loop .at) (c .loop .tokens)
-some c = c .loop .inv (c .before .before .before .before .before .pre .rules) (c .before .before .before .before .before .pre .holds)
+-- by one list of rules that the table holds
+some : (c : tie.At-loop Inv-loop μ-loop) → Cutting (c .before .before .before .pre .rules)
+    (now (c .before .before .before .args .text)) (c .loop .at) (c .loop .tokens)
+some c = c .loop .inv (c .before .before .before .pre .rules) (c .before .before .before .pre .holds)
 
 more : (c : tie.After-struct-known2 Inv-loop μ-loop) → c .before .before .before .before .before .loop .at +
     c .before .before .before .choose .result .len ≤ length
-    (now (c .before .before .before .before .before .before .before .before .before .before .args .text))
-more c =
-    let start = c .before .before .before .before .before .before .before .before .before .before in
-    cutting-within (some (c .before .before .before .before .before))
-        (c .before .before .before .choose .ensures (start .pre .rules) _ (start .pre .holds) (part-end _ _)) (omega arith)
+    (now (c .before .before .before .before .before .before .before .before .args .text))
+more c = cutting-within (some (c .before .before .before .before .before))
+    (c .before .before .before .choose .ensures (c .before .before .before .before .before .before .before .before .pre .rules) _ (c .before .before .before .before .before .before .before .before .pre .holds) (part-end _ _)) (omega arith)
 
-ended : (c : tie.After-loop Inv-loop μ-loop) → length (now (c .before .before .before .before .before .before .args .text)) ≤
+ended : (c : tie.After-loop Inv-loop μ-loop) → length (now (c .before .before .before .before .args .text)) ≤
     c .before .loop .at
 ended c = omega arith
 
@@ -40,7 +37,7 @@ loop-holds : tie.Need-loop-holds Inv-loop μ-loop
 loop-holds c = λ rs h. cutting-start rs _
 
 choose-requires : tie.Need-choose-requires Inv-loop μ-loop
-choose-requires c κs = (c .before .before .before .before .before .before .pre, (some (c .before) .within, le-refl _))
+choose-requires c κs = (c .before .before .before .before .pre, (some (c .before) .within, le-refl _))
 
 returns : tie.Need-returns Inv-loop μ-loop
 returns c = λ rs h. cutting-stop (c .before .before .before .before .loop .inv rs h)
