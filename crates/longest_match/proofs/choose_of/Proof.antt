@@ -32,21 +32,25 @@ add-next : tie.Need-add-next Inv-loop μ-loop
 add-next c = omega arith
 
 longest-prefix-requires : tie.Need-longest-prefix-requires Inv-loop μ-loop
-longest-prefix-requires c κs = record { rule = ruleAt (c .before .before .before .before .before .pre .rules) (c .before .loop .next); table = here c (c .before .before .before .before .before .pre .rules) (c .before .before .before .before .before .pre .holds) }
+longest-prefix-requires c κs =
+    let start = c .before .before .before .before .before .pre in
+    record { rule = ruleAt (start .rules) (c .before .loop .next); table = here c (start .rules) (start .holds) }
 
 loop-less : tie.Need-loop-less Inv-loop μ-loop
 loop-less c = omega arith
 
 loop-again : tie.Need-loop-again Inv-loop μ-loop
 loop-again c =
-    (omega arith, λ rs h. best-take (c .before .before .before .loop .inv .1 rs h) (c .before .longest-prefix .ensures _ (here (c .before .before) rs h)) (c .if1 .taken))
+    (omega arith, λ rs h. best-take (c .before .before .before .loop .inv .1 rs h)
+        (c .before .longest-prefix .ensures _ (here (c .before .before) rs h)) (c .if1 .taken))
 
 loop-less-2 : tie.Need-loop-less-2 Inv-loop μ-loop
 loop-less-2 c = omega arith
 
 loop-again-2 : tie.Need-loop-again-2 Inv-loop μ-loop
 loop-again-2 c =
-    (omega arith, λ rs h. best-keep (c .before .before .before .loop .inv .1 rs h) (c .before .longest-prefix .ensures _ (here (c .before .before) rs h)) (c .if1 .left))
+    (omega arith, λ rs h. best-keep (c .before .before .before .loop .inv .1 rs h)
+        (c .before .longest-prefix .ensures _ (here (c .before .before) rs h)) (c .if1 .left))
 
 returns : tie.Need-returns Inv-loop μ-loop
 returns c = λ rs h.
@@ -55,4 +59,5 @@ returns c = λ rs h.
 
 pub choose-of-spec : {M : Type 1} → statement M
 choose-of-spec =
-    tie.close (tie.spec Inv-loop μ-loop count-of-requires loop-holds add-next longest-prefix-requires loop-less loop-again loop-less-2 loop-again-2 returns)
+    tie.close (tie.spec Inv-loop μ-loop count-of-requires loop-holds add-next longest-prefix-requires loop-less loop-again loop-less-2
+        loop-again-2 returns)

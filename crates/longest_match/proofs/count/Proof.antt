@@ -26,8 +26,10 @@ some c = c .loop .inv (c .before .before .before .pre .rules) (c .before .before
 more : (c : tie.After-struct-known2 Inv-loop μ-loop) → c .before .before .before .before .before .loop .at +
     c .before .before .before .choose .result .len ≤ length
     (now (c .before .before .before .before .before .before .before .before .args .text))
-more c = cutting-within (some (c .before .before .before .before .before))
-    (c .before .before .before .choose .ensures (c .before .before .before .before .before .before .before .before .pre .rules) _ (c .before .before .before .before .before .before .before .before .pre .holds) (part-end _ _)) (omega arith)
+more c =
+    let start = c .before .before .before .before .before .before .before .before .pre in
+    cutting-within (some (c .before .before .before .before .before))
+        (c .before .before .before .choose .ensures (start .rules) _ (start .holds) (part-end _ _)) (omega arith)
 
 ended : (c : tie.After-loop Inv-loop μ-loop) → length (now (c .before .before .before .before .args .text)) ≤
     c .before .loop .at
