@@ -6,9 +6,10 @@ use native.Mathlib.Omega.{arith}
 use lib.ListN.{length}
 use borrow.Author.Tests.{lt-ltb, le-ltb}
 use Rattle.automaton.specs.Rule.{Rule}
+use Rattle.automaton.specs.Contracts.{Holds, Held}
 use Rattle.book.specs.Limits.{maxText}
 use Rattle.longest_match.specs.Lexer.{lex}
-use Rattle.longest_match.specs.Contracts.{Holds, Held, Cuts}
+use Rattle.longest_match.specs.Contracts.{Cuts}
 use Rattle.longest_match.proofs.Lexing.{lex-few, lex-lengths, rest-drop}
 use Rattle.record.specs.Records.{recordCount}
 use Rattle.lexer.specs.Contracts.{RecordsRoom, Fills, LexAnswered, RestAt}
@@ -40,10 +41,9 @@ pub enough : (rules : List Rule) (text records : List ℕ) → length text ≤ r
     → length ((lex rules text) .tokens) ≤ recordCount records
 enough rules text records l = omega (arith, lex-few rules text)
 
-pub room-of : {hs ss es : List ℕ} {n : ℕ} {text records : List ℕ} → Held hs ss es n
-    → ((rules : List Rule) → Holds hs ss es n rules → length ((lex rules text) .tokens) ≤ recordCount records)
-    → RecordsRoom hs ss es n text records
-room-of {hs} {ss} {es} {n} {text} {records} held f = record { held = held; room = λ rules h. omega (arith, f rules h) }
+pub room-of : {tb text records : List ℕ} → Held tb
+    → ((rules : List Rule) → Holds tb rules → length ((lex rules text) .tokens) ≤ recordCount records) → RecordsRoom tb text records
+room-of {tb} {text} {records} held f = record { held = held; room = λ rules h. omega (arith, f rules h) }
 
 -- ---- the rest
 

@@ -5,17 +5,17 @@ use Prim.Native.Nat.{ℕ, _*_, _≤_}
 use lib.ListN.{length, drop}
 use Rattle.answer.specs.declared.LexAnswer.{LexAnswer}
 use Rattle.automaton.specs.Rule.{Rule}
+use Rattle.automaton.specs.Contracts.{Holds, Held}
 use Rattle.longest_match.specs.Lexer.{lex}
-use Rattle.longest_match.specs.Contracts.{Holds, Held}
 use Rattle.record.specs.Records.{recordsAt}
 use Rattle.lexer.specs.Outcome.{LexOutcome}
 
--- ---- Module filling, said of the rules that the tables hold.
+-- ---- Module filling, said of the rules that the table holds.
 
--- there is room for a record of each token, whichever rules the tables hold
-pub record RecordsRoom (hs ss es : List ℕ) (n : ℕ) (text records : List ℕ) : Type 0 where
-  pub held : Held hs ss es n
-  pub room : (rules : List Rule) → Holds hs ss es n rules → 10 * length ((lex rules text) .tokens) ≤ length records
+-- there is room for a record of each token, whichever rules the table holds
+pub record RecordsRoom (tb text records : List ℕ) : Type 0 where
+  pub held : Held tb
+  pub room : (rules : List Rule) → Holds tb rules → 10 * length ((lex rules text) .tokens) ≤ length records
 
 -- the records of the tokens, and every byte past them as it was
 pub record Fills (rules : List Rule) (text : List ℕ) (entry exit : List ℕ) : Type 0 where

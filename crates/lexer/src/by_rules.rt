@@ -1,25 +1,18 @@
-// Lexing by rules that lent tables hold.
+// Lexing by the rules that a lent table holds.
 use answer::LexAnswer;
 use answer::Refusal;
 use book::Book;
 ghost use mathlib.Core.List.{List};
 ghost use Rattle.automaton.specs.Rule.{Rule};
-ghost use Rattle.longest_match.specs.Contracts.{Holds, Held};
+ghost use Rattle.automaton.specs.Contracts.{Holds, Held};
 ghost use Rattle.lexer.specs.Outcome.{lexRules, restRules};
 ghost use Rattle.lexer.specs.Contracts.{LexAnswered, RestAt};
 
 // Every token has a byte, so that as many records as the text has bytes are surely enough, and the text is walked once; else
 // the tokens are counted before the first record is written.
-pub fn lex_rules(
-    headers: &[u64],
-    states: &[u16],
-    edges: &[u64],
-    rules: usize,
-    text: &[u8],
-    records: &mut [u8],
-) -> LexAnswer
-    requires { ⌜ Held (now headers) (now states) (now edges) rules ⌝ }
-    ensures { λ r. ⌜ ((rs : List Rule) → Holds (now (headers .entry)) (now (states .entry)) (now (edges .entry)) rules rs
+pub fn lex_rules(table: &[u64], text: &[u8], records: &mut [u8]) -> LexAnswer
+    requires { ⌜ Held (now table) ⌝ }
+    ensures { λ r. ⌜ ((rs : List Rule) → Holds (now (table .entry)) rs
         → LexAnswered (lexRules rs (now (text .entry)) (now (records .entry))) r (now (records .exit))) ⌝ }
 {
     if Book::TEXT < text.len() {
@@ -27,12 +20,12 @@ pub fn lex_rules(
     }
     let room = records.len() / 10;
     if room < text.len() {
-        let needed = longest_match::count(headers, states, edges, rules, text);
+        let needed = longest_match::count(table, text);
         if room < needed.tokens {
             return LexAnswer::refused(Refusal::TOO_FEW_RECORDS, needed.tokens);
         }
     }
-    let cut = crate::filling::fill(headers, states, edges, rules, text, records);
+    let cut = crate::filling::fill(table, text, records);
     LexAnswer::Lexed {
         tokens: cut.tokens,
         rest: cut.rest,
@@ -40,19 +33,13 @@ pub fn lex_rules(
 }
 
 // The place of the rest.
-pub fn rest_rules(
-    headers: &[u64],
-    states: &[u16],
-    edges: &[u64],
-    rules: usize,
-    text: &[u8],
-) -> usize
-    requires { ⌜ Held (now headers) (now states) (now edges) rules ⌝ }
-    ensures { λ r. ⌜ ((rs : List Rule) → Holds (now (headers .entry)) (now (states .entry)) (now (edges .entry)) rules rs
+pub fn rest_rules(table: &[u64], text: &[u8]) -> usize
+    requires { ⌜ Held (now table) ⌝ }
+    ensures { λ r. ⌜ ((rs : List Rule) → Holds (now (table .entry)) rs
         → RestAt (now (text .entry)) r (restRules rs (now (text .entry)))) ⌝ }
 {
     if text.len() <= Book::TEXT {
-        let cut = longest_match::count(headers, states, edges, rules, text);
+        let cut = longest_match::count(table, text);
         cut.rest
     } else {
         0

@@ -7,8 +7,8 @@ use lib.ListN.{length}
 use borrow.Author.Needs.{needs}
 use denote.Ref.{now}
 use Rattle.automaton.specs.Rule.{Rule}
+use Rattle.automaton.specs.Contracts.{Holds}
 use Rattle.longest_match.specs.Lexer.{lex}
-use Rattle.longest_match.specs.Contracts.{Holds}
 use Rattle.record.specs.Records.{recordCount}
 use Rattle.lexer.proofs.ByRules.{answered-long, answered-few, answered-lexed, enough, room-of}
 use Rattle.lexer.proofs.by_rules.lex_rules.Statement.{statement}
@@ -16,11 +16,10 @@ use Rattle.lexer.proofs.by_rules.lex_rules.Tie as tie
 
 -- the call, from where the records are enough
 abbrev call : tie.Joined2 → tie.Start
-call c = c .before .before .before .before .before .before .before
+call c = c .before .before .before .before .before
 
 -- the records are enough, counted or not
-fits : (c : tie.Joined2) (rs : List Rule)
-    → Holds (now (call c .args .headers)) (now (call c .args .states)) (now (call c .args .edges)) (call c .args .rules) rs
+fits : (c : tie.Joined2) (rs : List Rule) → Holds (now (call c .args .table)) rs
     → length ((lex rs (now (call c .args .text))) .tokens) ≤ recordCount (now (call c .args .records))
 fits c rs h =
     ⊎-elim (λ w. omega (arith, w .1 .ensures rs h .tokens-are, w .3 .left)) (λ w. enough rs _ (now (call c .args .records)) (w .left))

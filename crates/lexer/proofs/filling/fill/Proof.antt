@@ -1,16 +1,13 @@
--- `fill`: the invariant is `Filling`, for any rules that the tables hold. Assumes nothing.
-use mathlib.Core.Path.{_∙_}
+-- `fill`: the invariant is `Filling`, for any rules that the table holds. Assumes nothing.
 use mathlib.Core.List.{List}
 use Prim.Native.Nat.{_+_, _-_, _*_, _≤_}
 use native.Mathlib.Nat.{le-refl}
 use native.Mathlib.Omega.{arith}
 use lib.ListN.{length, drop}
-use borrow.Author.Needs.{needs}
 use denote.Ref.{now}
 use Rattle.automaton.specs.Rule.{Rule}
-use Rattle.automaton.specs.Contracts.{Table, ruleAt}
-use Rattle.automaton.proofs.Walks.{header-tag}
-use Rattle.longest_match.specs.Contracts.{Holds, Chooses}
+use Rattle.automaton.specs.Contracts.{Holds}
+use Rattle.longest_match.specs.Contracts.{Chooses}
 use Rattle.longest_match.proofs.Cutting.{cutting-within, cutting-stop, lex-stop, lex-end}
 use Rattle.longest_match.proofs.Parts.{part-end}
 use Rattle.lexer.proofs.Filled.{Filling, filling-start, filling-room, filling-next, filling-stop}
@@ -18,30 +15,28 @@ use Rattle.lexer.proofs.filling.fill.Statement.{statement}
 use Rattle.lexer.proofs.filling.fill.Tie as tie
 
 abbrev Inv-loop : tie.InvT-loop
-Inv-loop headers states edges rules text records₀ tokens₀ place₀ records tokens place =
-    (rs : List Rule) → Holds headers states edges rules rs → Filling rs text records₀ records place tokens
+Inv-loop table text records₀ tokens₀ place₀ records tokens place =
+    (rs : List Rule) → Holds table rs → Filling rs text records₀ records place tokens
 
 abbrev μ-loop : tie.MeasureT-loop
-μ-loop headers states edges rules text records₀ tokens₀ place₀ records tokens place = length text - place
+μ-loop table text records₀ tokens₀ place₀ records tokens place = length text - place
 
 -- the call, from the loop's head
 abbrev call : tie.At-loop Inv-loop μ-loop → tie.Start Inv-loop μ-loop
-call c = c .before .before .before .before .before .before
+call c = c .before .before .before .before
 
 -- the loop's head, from where `choose` has answered
 abbrev head : tie.After-struct-known Inv-loop μ-loop → tie.At-loop Inv-loop μ-loop
 head c = c .before .before .before
 
--- by one list of rules that the tables hold
+-- by one list of rules that the table holds
 some : (c : tie.At-loop Inv-loop μ-loop)
     → Filling (call c .pre .held .rules) (now (call c .args .text)) (now (call c .args .records)) (c .loop .records) (c .loop .place)
     (c .loop .tokens)
 some c = c .loop .inv (call c .pre .held .rules) (call c .pre .held .holds)
 
 module _ (c : tie.After-struct-known Inv-loop μ-loop) where
-  chosen : (rs : List Rule)
-      → Holds (now (call (head c) .args .headers)) (now (call (head c) .args .states)) (now (call (head c) .args .edges))
-      (call (head c) .args .rules) rs
+  chosen : (rs : List Rule) → Holds (now (call (head c) .args .table)) rs
       → Chooses rs (drop (head c .loop .place) (now (call (head c) .args .text))) (c .before .choose .result .rule)
       (c .before .choose .result .len)
   chosen rs h = c .before .choose .ensures rs _ h (part-end _ _)
@@ -51,12 +46,6 @@ module _ (c : tie.After-struct-known Inv-loop μ-loop) where
   one = chosen (call (head c) .pre .held .rules) (call (head c) .pre .held .holds)
 
 module _ (e : tie.Else1 Inv-loop μ-loop) where
-  known : Table (now (call (head (e .before)) .args .headers)) (now (call (head (e .before)) .args .states))
-      (now (call (head (e .before)) .args .edges))
-      (e .before .before .choose .result .rule)
-      (ruleAt (call (head (e .before)) .pre .held .rules) (e .before .before .choose .result .rule))
-  known = call (head (e .before)) .pre .held .holds .tables .each _ (one (e .before) .known (omega arith))
-
   more : head (e .before) .loop .place + e .before .before .choose .result .len ≤ length (now (call (head (e .before)) .args .text))
   more = cutting-within (some (head (e .before)) .cut) (one (e .before)) (omega arith)
 
@@ -84,21 +73,17 @@ returns c =
       λ rs h. filling-stop (inv rs h) (lex-stop rs _ (chosen (c .before) rs h .nothing (c .if1 .taken))),
     )
 
-mul-header : tie.Need-mul-header Inv-loop μ-loop
-mul-header c = omega (arith, known c .room, call (head (c .before)) .good .0 .1)
-
-shared-slice-read-header : tie.Need-shared-slice-read-header Inv-loop μ-loop
-shared-slice-read-header c = known (c .before) .room
-
 tag-of-requires : tie.Need-tag-of-requires Inv-loop μ-loop
-tag-of-requires c κs = search needs
+tag-of-requires c κs =
+    let held = call (head (c .before)) .pre .held in
+    record { rule = _; table = held .holds .each _ (one (c .before) .known (omega arith)) }
 
 put-record-requires : tie.Need-put-record-requires Inv-loop μ-loop
-put-record-requires c κs = omega (arith, room (c .before .before .before))
+put-record-requires c κs = omega (arith, room (c .before .before))
 
 -- where something is chosen, from the end of the turn
 abbrev turn : tie.After-slice-known2 Inv-loop μ-loop → tie.Else1 Inv-loop μ-loop
-turn c = c .before .before .before .before .before .before
+turn c = c .before .before .before .before .before
 
 add-tokens : tie.Need-add-tokens Inv-loop μ-loop
 add-tokens c = let w = some (head (turn c .before)) .cut in omega (arith, more (turn c), w .few, w .within)
@@ -111,10 +96,10 @@ loop-less c = omega (arith, more (turn c))
 
 loop-again : tie.Need-loop-again Inv-loop μ-loop
 loop-again c = λ rs h.
-    let before = head (turn c .before) in
-    let chooses = chosen (turn c .before) rs h in
-    filling-next (before .loop .inv rs h) (call before .pre .room rs h) chooses (omega arith)
-    (c .before .before .before .tag-of .ensures ∙ header-tag (h .tables .each _ (chooses .known (omega arith))))
+    let here = turn c .before in
+    let chooses = chosen here rs h in
+    filling-next (head here .loop .inv rs h) (call (head here) .pre .room rs h) chooses (omega arith)
+    (c .before .before .before .before .tag-of .ensures _ (h .each _ (chooses .known (omega arith))))
     (c .before .before .put-record .ensures)
 
 same-length-2 : tie.Need-same-length-2 Inv-loop μ-loop
@@ -128,5 +113,5 @@ returns-2 c = (
 
 pub fill-spec : {M : Type 1} → statement M
 fill-spec =
-    tie.close (tie.spec Inv-loop μ-loop loop-holds choose-requires same-length returns mul-header shared-slice-read-header tag-of-requires
-    put-record-requires add-tokens add-place loop-less loop-again same-length-2 returns-2)
+    tie.close (tie.spec Inv-loop μ-loop loop-holds choose-requires same-length returns tag-of-requires put-record-requires add-tokens
+    add-place loop-less loop-again same-length-2 returns-2)
