@@ -5,7 +5,8 @@ use mathlib.Core.List.{List}
 use Prim.Native.Nat.{ℕ, _-_}
 use native.Mathlib.Omega.{arith}
 use lib.Dec.{ltb}
-use lib.ListN.{length, drop}
+use lib.ListN.{length, take, drop, length-drop}
+use lib.Seq.{take-all}
 use Rattle.answer.specs.declared.Refusal.{Refusal}
 use Rattle.answer.specs.declared.BookAnswer.{BookAnswer}
 use Rattle.answer.specs.declared.LexAnswer.{LexAnswer}
@@ -18,8 +19,8 @@ use Rattle.reader.specs.Contracts.{Loaded}
 use Rattle.longest_match.specs.Lexer.{lex}
 use Rattle.longest_match.proofs.Lexing.{rest-drop}
 use Rattle.record.specs.Records.{recordCount}
-use Rattle.lexer.specs.Outcome.{lexRefused, lexAccepted, lexRules, lexReading, lexOutcome, restReading, restOf}
-use Rattle.lexer.specs.Contracts.{LexAnswered}
+use Rattle.lexer.specs.Outcome.{lexRefused, lexAccepted, lexRules, restRules, lexReading, lexOutcome, restReading, restOf}
+use Rattle.lexer.specs.Contracts.{LexAnswered, RestAt}
 use Rattle.answer.specs.declared.BookAnswer.the-variants as book
 use Rattle.answer.specs.declared.LexAnswer.the-variants as lexed
 
@@ -43,6 +44,11 @@ module _ {bytes tb : List ℕ} {b : BookAnswer} {n : ℕ} (l : Loaded bytes b tb
   unfolding lexOutcome
   answered-book text records exit r h = rw (loaded-rules .1 .0) (h (loaded-rules .0) (loaded-rules .1 .1))
 
+  pub rest-book : (text : List ℕ) (place : ℕ) → ((rules : List Rule) → Holds tb rules → RestAt text place (restRules rules text))
+      → RestAt text place (restOf bytes text)
+  unfolding restOf
+  rest-book text place h = rw (loaded-rules .1 .0) (h (loaded-rules .0) (loaded-rules .1 .1))
+
 module _ {bytes tb : List ℕ} {b : BookAnswer} {f : Refusal} (l : Loaded bytes b tb) (a : b ≡ book.Refused f) where
   -- a book whose reading answers a refusal is refused so
   pub loaded-refused : readBook bytes ≡ refused (f .number) (f .place)
@@ -60,6 +66,16 @@ module _ {bytes tb : List ℕ} {b : BookAnswer} {f : Refusal} (l : Loaded bytes 
   pub answered-refused : (text records : List ℕ) → LexAnswered (lexOutcome bytes text records) (lexed.Refused f) records
   unfolding lexOutcome
   answered-refused text records = rw loaded-refused (record { answer = refl; records = refl })
+
+  pub rest-refused : (text : List ℕ) → RestAt text 0 (restOf bytes text)
+  unfolding restOf
+  rest-refused text = rw loaded-refused (record { within = omega arith; tail = refl })
+
+-- ---- the rest
+
+-- the part of the text from there on is the rest
+pub rest-part : {text rest : List ℕ} {at : ℕ} → RestAt text at rest → take (length text - at) (drop at text) ≡ rest
+rest-part {text} {rest} {at} r = take-all (length text - at) (drop at text) (omega (arith, length-drop at text)) ∙ r .tail
 
 -- ---- both calls agree
 

@@ -1,4 +1,98 @@
 // Lexing by a book's bytes, open to every caller: it asks nothing and refuses what is unfit.
-// The table is a local of the call. `by_rules` cuts by the rules that a lent table holds, `filling` stores the records.
+// The table is a local of the call, small for a small book. `by_rules` cuts by the rules that a lent table holds, `filling` stores the records.
 pub mod by_rules;
 pub mod filling;
+
+use answer::BookAnswer;
+use answer::LexAnswer;
+use book::Book;
+ghost use mathlib.Core.Path.{_≡_};
+ghost use Prim.Native.Nat.{_≤_};
+ghost use lib.ListN.{length};
+ghost use Rattle.reader.specs.Contracts.{smallBook, Lent};
+ghost use Rattle.lexer.specs.Outcome.{lexOutcome, restOf};
+ghost use Rattle.lexer.specs.Contracts.{LexAnswered, RestAt};
+
+// Cuts `text` by the rules of a book: the number of tokens and the place of the rest, or the refusal of document 01.
+// A record of each token stands from the start of `records`; every other byte stays as it was.
+pub fn lex(book: &[u8], text: &[u8], records: &mut [u8]) -> LexAnswer
+    ensures { λ r. ⌜ r ≡ (lexOutcome (now (book .entry)) (now (text .entry)) (now (records .entry))) .answer ⌝ }
+    ensures { λ r. ⌜ now (records .exit) ≡ (lexOutcome (now (book .entry)) (now (text .entry)) (now (records .entry))) .records ⌝ }
+{
+    if book.len() <= Book::SMALL {
+        lex_small(book, text, records)
+    } else {
+        lex_large(book, text, records)
+    }
+}
+
+fn lex_small(book: &[u8], text: &[u8], records: &mut [u8]) -> LexAnswer
+    requires { ⌜ length (now book) ≤ smallBook ⌝ }
+    ensures { λ r. ⌜ LexAnswered (lexOutcome (now (book .entry)) (now (text .entry)) (now (records .entry))) r (now (records .exit)) ⌝ }
+{
+    let mut table = [0u64; Book::SMALL_TABLE];
+    lex_with(book, &mut table, text, records)
+}
+
+fn lex_large(book: &[u8], text: &[u8], records: &mut [u8]) -> LexAnswer
+    ensures { λ r. ⌜ LexAnswered (lexOutcome (now (book .entry)) (now (text .entry)) (now (records .entry))) r (now (records .exit)) ⌝ }
+{
+    let mut table = [0u64; Book::TABLE];
+    lex_with(book, &mut table, text, records)
+}
+
+// With a table for the book's rules.
+fn lex_with(book: &[u8], table: &mut [u64], text: &[u8], records: &mut [u8]) -> LexAnswer
+    requires { ⌜ Lent (length (now book)) (now table) ⌝ }
+    ensures { λ r. ⌜ LexAnswered (lexOutcome (now (book .entry)) (now (text .entry)) (now (records .entry))) r (now (records .exit)) ⌝ }
+{
+    match reader::load(book, table) {
+        BookAnswer::Accepted(_) => crate::by_rules::lex_rules(table, text, records),
+        BookAnswer::Refused(refusal) => LexAnswer::Refused(refusal),
+    }
+}
+
+// The rest of `text`, as a part of it: its bytes from the first place at which no rule of the book matches. Where `lex`
+// refuses the book or the text, the rest is the whole text.
+pub fn rest<'a>(book: &[u8], text: &'a [u8]) -> &'a [u8]
+    ensures { λ r. ⌜ now r ≡ restOf (now (book .entry)) (now (text .entry)) ⌝ }
+{
+    let at = rest_place(book, text);
+    &text[at..]
+}
+
+// The place of the rest.
+fn rest_place(book: &[u8], text: &[u8]) -> usize
+    ensures { λ r. ⌜ RestAt (now (text .entry)) r (restOf (now (book .entry)) (now (text .entry))) ⌝ }
+{
+    if book.len() <= Book::SMALL {
+        rest_small(book, text)
+    } else {
+        rest_large(book, text)
+    }
+}
+
+fn rest_small(book: &[u8], text: &[u8]) -> usize
+    requires { ⌜ length (now book) ≤ smallBook ⌝ }
+    ensures { λ r. ⌜ RestAt (now (text .entry)) r (restOf (now (book .entry)) (now (text .entry))) ⌝ }
+{
+    let mut table = [0u64; Book::SMALL_TABLE];
+    rest_with(book, &mut table, text)
+}
+
+fn rest_large(book: &[u8], text: &[u8]) -> usize
+    ensures { λ r. ⌜ RestAt (now (text .entry)) r (restOf (now (book .entry)) (now (text .entry))) ⌝ }
+{
+    let mut table = [0u64; Book::TABLE];
+    rest_with(book, &mut table, text)
+}
+
+fn rest_with(book: &[u8], table: &mut [u64], text: &[u8]) -> usize
+    requires { ⌜ Lent (length (now book)) (now table) ⌝ }
+    ensures { λ r. ⌜ RestAt (now (text .entry)) r (restOf (now (book .entry)) (now (text .entry))) ⌝ }
+{
+    match reader::load(book, table) {
+        BookAnswer::Accepted(_) => crate::by_rules::rest_rules(table, text),
+        BookAnswer::Refused(_) => 0,
+    }
+}
