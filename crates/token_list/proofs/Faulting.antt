@@ -13,13 +13,12 @@ use lib.Seq.{length-take-le, take-append-seam}
 use borrow.Author.Tests.{lt-ltb, le-ltb, ltb-true, ltb-false, eq-eqb}
 use Rattle.automaton.specs.Choice.{if}
 use Rattle.automaton.specs.Rule.{Rule, matches}
-use Rattle.automaton.specs.Contracts.{ruleAt}
+use Rattle.automaton.specs.Contracts.{ruleAt, Holds, Ranks}
 use Rattle.automaton.proofs.Tests.{clash}
 use Rattle.book.specs.Draft.{tagged}
-use Rattle.book.specs.Contracts.{Ranks}
 use Rattle.book.proofs.Ranking.{ranks-none, ranks-some}
 use Rattle.longest_match.specs.Lexer.{Found, firstMatch, choose, extends}
-use Rattle.longest_match.specs.Contracts.{front, Holds, Chooses}
+use Rattle.longest_match.specs.Contracts.{front, Chooses}
 use Rattle.longest_match.proofs.First.{nothing}
 use Rattle.longest_match.proofs.Held.{held-empty}
 use Rattle.longest_match.proofs.Choosing.{choose-at}
@@ -176,36 +175,32 @@ pub checked-outside : (rules : List Rule) (pool : List ℕ) (r : TokenRecord) �
     → fault.By 17 ≡ faultFor (faultOf rules pool r)
 checked-outside rules pool r l = ap faultFor (sym (fault-17 rules pool r l))
 
-pub held-room : {hs ss es : List ℕ} {n : ℕ} {rules : List Rule} → Holds hs ss es n rules → n ≤ length hs
-held-room {n = zero} h = omega arith
-held-room {n = suc n} h = h .tables .each n (omega (arith, h .count)) .room
-
 pub bytes-length : (pool : List ℕ) (r : TokenRecord) → r .place + r .len ≤ length pool → length (bytesIn pool r) ≡ r .len
 bytes-length pool r l = length-take-le (r .len) (drop (r .place) pool) (simp length-drop (omega arith))
 
-module _ {hs ss es : List ℕ} {n : ℕ} {rules : List Rule} (h : Holds hs ss es n rules) (pool : List ℕ) (r : TokenRecord)
-    (in-pool : r .place + r .len ≤ length pool) {k : ℕ} (ranks : Ranks rules (r .tag) k) where
+module _ {tb : List ℕ} {rules : List Rule} (h : Holds tb rules) (pool : List ℕ) (r : TokenRecord)
+    (in-pool : r .place + r .len ≤ length pool) {k n : ℕ} (ranks : Ranks rules (r .tag) k) (count : n ≡ length rules) where
   pub checked-unknown : k ≡ n → fault.By 18 ≡ faultFor (faultOf rules pool r)
-  checked-unknown e = ap faultFor (sym (fault-18 rules pool r in-pool (ranks-none ranks (e ∙ sym (h .count)))))
+  checked-unknown e = ap faultFor (sym (fault-18 rules pool r in-pool (ranks-none ranks (e ∙ count))))
 
-  module _ (known : k ≡ n → ⊥) {rule len : ℕ} (c : Chooses rules (bytesIn pool r) rule len) where
-    counted : k ≡ length rules → ⊥
-    counted e = known (e ∙ h .count)
+  module _ (differs : k ≡ n → ⊥) {rule len : ℕ} (c : Chooses rules (bytesIn pool r) rule len) where
+    known : k ≡ length rules → ⊥
+    known e = differs (e ∙ sym count)
 
     not-alone : aloneIn rules (r .tag) (bytesIn pool r) ≡ false → fault.By 19 ≡ faultFor (faultOf rules pool r)
-    not-alone e = ap faultFor (sym (fault-19 rules pool r in-pool (ranks-some ranks counted) e))
+    not-alone e = ap faultFor (sym (fault-19 rules pool r in-pool (ranks-some ranks known) e))
 
     pub checked-idle : len ≡ 0 → fault.By 19 ≡ faultFor (faultOf rules pool r)
-    checked-idle e = not-alone (alone-idle ranks counted (held-empty h) c e)
+    checked-idle e = not-alone (alone-idle ranks known (held-empty h) c e)
 
     pub checked-part : (len ≡ r .len → ⊥) → fault.By 19 ≡ faultFor (faultOf rules pool r)
-    checked-part ne = not-alone (alone-part ranks counted (held-empty h) c (λ e. ne (e ∙ bytes-length pool r in-pool)))
+    checked-part ne = not-alone (alone-part ranks known (held-empty h) c (λ e. ne (e ∙ bytes-length pool r in-pool)))
 
     module _ (some-byte : len ≡ 0 → ⊥) (all : len ≡ r .len) where
       pub checked-other : (rule ≡ k → ⊥) → fault.By 19 ≡ faultFor (faultOf rules pool r)
-      checked-other ne = not-alone (alone-other ranks counted (held-empty h) c some-byte (all ∙ sym (bytes-length pool r in-pool)) ne)
+      checked-other ne = not-alone (alone-other ranks known (held-empty h) c some-byte (all ∙ sym (bytes-length pool r in-pool)) ne)
 
       pub checked-same : rule ≡ k → fault.Nothing ≡ faultFor (faultOf rules pool r)
       checked-same e =
-          ap faultFor (sym (fault-none rules pool r in-pool (ranks-some ranks counted)
-          (alone-same ranks counted (held-empty h) c some-byte (all ∙ sym (bytes-length pool r in-pool)) e)))
+          ap faultFor (sym (fault-none rules pool r in-pool (ranks-some ranks known)
+          (alone-same ranks known (held-empty h) c some-byte (all ∙ sym (bytes-length pool r in-pool)) e)))

@@ -10,13 +10,12 @@ use lib.ListN.{length, drop, length-append, length-drop}
 use lib.Seq.{drop-drop, drop-at}
 use Rattle.automaton.specs.Choice.{All}
 use Rattle.automaton.specs.Rule.{Rule}
+use Rattle.automaton.specs.Contracts.{Ranks}
 use Rattle.automaton.proofs.Tests.{clash}
 use Rattle.book.specs.Limits.{maxText}
-use Rattle.book.specs.Contracts.{Ranks}
 use Rattle.book.proofs.Ranking.{ranks-none, ranks-some}
 use Rattle.longest_match.specs.Lexer.{firstMatch, join}
 use Rattle.longest_match.specs.Contracts.{Chooses}
-use Rattle.longest_match.proofs.First.{nothing}
 use Rattle.record.specs.Records.{recordCount}
 use Rattle.record.specs.declared.TokenRecord.{TokenRecord}
 use Rattle.record.specs.Tokens.{recordAt, recordsOf, bytesIn, tokensIn, tokensOf, InPool}

@@ -4,7 +4,7 @@ use record::TokenRecord;
 ghost use mathlib.Core.Path.{_≡_};
 ghost use mathlib.Core.List.{List};
 ghost use Rattle.automaton.specs.Rule.{Rule};
-ghost use Rattle.longest_match.specs.Contracts.{Holds, Held};
+ghost use Rattle.automaton.specs.Contracts.{Holds, Held};
 ghost use Rattle.token_list.specs.Faults.{faultOf};
 ghost use Rattle.token_list.specs.Contracts.{faultFor};
 
@@ -14,28 +14,21 @@ pub enum Fault {
     Nothing,
 }
 
-pub fn token_fault(
-    headers: &[u64],
-    states: &[u16],
-    edges: &[u64],
-    rules: usize,
-    pool: &[u8],
-    token: TokenRecord,
-) -> Fault
-    requires { ⌜ Held (now headers) (now states) (now edges) rules ⌝ }
-    ensures { λ r. ⌜ ((rs : List Rule) → Holds (now (headers .entry)) (now (states .entry)) (now (edges .entry)) rules rs
-        → r ≡ faultFor (faultOf rs (now (pool .entry)) token)) ⌝ }
+pub fn token_fault(table: &[u64], pool: &[u8], token: TokenRecord) -> Fault
+    requires { ⌜ Held (now table) ⌝ }
+    ensures { λ r. ⌜ ((rs : List Rule) → Holds (now (table .entry)) rs → r ≡ faultFor (faultOf rs (now (pool .entry)) token)) ⌝ }
 {
     let place = token.place as usize;
     let len = token.len as usize;
     if pool.len() < place + len {
         return Fault::By(Refusal::PAST_THE_POOL);
     }
-    let rule = book::find_tag(headers, rules, token.tag as u64);
+    let rule = automaton::find_tag(table, token.tag as u64);
+    let rules = automaton::count_of(table);
     if rule == rules {
         return Fault::By(Refusal::UNKNOWN_TAG);
     }
-    let chosen = longest_match::choose(headers, states, edges, rules, pool, place, place + len);
+    let chosen = longest_match::choose(table, pool, place, place + len);
     if chosen.len == 0 {
         return Fault::By(Refusal::NOT_ALONE);
     }

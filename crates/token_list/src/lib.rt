@@ -8,8 +8,8 @@ use answer::Refusal;
 ghost use mathlib.Core.Path.{_≡_};
 ghost use mathlib.Core.List.{List};
 ghost use Rattle.automaton.specs.Rule.{Rule};
+ghost use Rattle.automaton.specs.Contracts.{Holds, Held};
 ghost use Rattle.longest_match.specs.Lexer.{join};
-ghost use Rattle.longest_match.specs.Contracts.{Holds, Held};
 ghost use Rattle.record.specs.Tokens.{recordsOf, tokensOf};
 ghost use Rattle.token_list.specs.Faults.{faultOf};
 ghost use Rattle.token_list.specs.Checks.{firstFault};
@@ -30,23 +30,16 @@ impl Checked {
 }
 
 // The first token that is at fault.
-pub fn check_tokens(
-    headers: &[u64],
-    states: &[u16],
-    edges: &[u64],
-    rules: usize,
-    records: &[u8],
-    pool: &[u8],
-) -> Checked
-    requires { ⌜ Held (now headers) (now states) (now edges) rules ⌝ }
-    ensures { λ r. ⌜ ((rs : List Rule) → Holds (now (headers .entry)) (now (states .entry)) (now (edges .entry)) rules rs
+pub fn check_tokens(table: &[u64], records: &[u8], pool: &[u8]) -> Checked
+    requires { ⌜ Held (now table) ⌝ }
+    ensures { λ r. ⌜ ((rs : List Rule) → Holds (now (table .entry)) rs
         → r ≡ checkedOf (firstFault (faultOf rs (now (pool .entry))) (recordsOf (now (records .entry))) 0)) ⌝ }
 {
     let count = records.len() / 10;
     let mut k = 0;
     while k < count {
         let token = record::read_record(records, k);
-        match faults::token_fault(headers, states, edges, rules, pool, token) {
+        match faults::token_fault(table, pool, token) {
             Fault::By(number) => return Checked::refused(number, k),
             Fault::Nothing => k += 1,
         }

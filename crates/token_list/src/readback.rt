@@ -4,7 +4,7 @@ ghost use mathlib.Core.List.{List};
 ghost use Prim.Native.Nat.{ℕ, _≤_};
 ghost use lib.ListN.{length, take};
 ghost use Rattle.automaton.specs.Rule.{Rule};
-ghost use Rattle.longest_match.specs.Contracts.{Holds, Held};
+ghost use Rattle.automaton.specs.Contracts.{Holds, Held};
 ghost use Rattle.token_list.specs.Contracts.{Spans, Spread, Spreads, ReadsBack};
 
 // How many bytes the tokens have; or that one lies outside the pool, or that they are too many to be written.
@@ -36,19 +36,11 @@ pub fn measure(records: &[u8], pool: &[u8]) -> Extent
 
 // The number of the first token that is not what is chosen at its place of the tokens' bytes joined, the first `total` bytes of
 // `text`; the number of tokens where each is.
-pub fn read_back(
-    headers: &[u64],
-    states: &[u16],
-    edges: &[u64],
-    rules: usize,
-    records: &[u8],
-    text: &[u8],
-    total: usize,
-) -> usize
-    requires { ⌜ Held (now headers) (now states) (now edges) rules ⌝ }
+pub fn read_back(table: &[u64], records: &[u8], text: &[u8], total: usize) -> usize
+    requires { ⌜ Held (now table) ⌝ }
     requires { ⌜ total ≤ length (now text) ⌝ }
     requires { ⌜ Spreads (now records) (take total (now text)) ⌝ }
-    ensures { λ r. ⌜ ((rs : List Rule) (pool : List ℕ) → Holds (now (headers .entry)) (now (states .entry)) (now (edges .entry)) rules rs
+    ensures { λ r. ⌜ ((rs : List Rule) (pool : List ℕ) → Holds (now (table .entry)) rs
         → Spread (now (records .entry)) pool (take total (now (text .entry))) → ReadsBack rs (now (records .entry)) pool r) ⌝ }
 {
     let count = records.len() / 10;
@@ -57,8 +49,8 @@ pub fn read_back(
     while k < count {
         let token = record::read_record(records, k);
         let len = token.len as usize;
-        let rule = book::find_tag(headers, rules, token.tag as u64);
-        let chosen = longest_match::choose(headers, states, edges, rules, text, at, total);
+        let rule = automaton::find_tag(table, token.tag as u64);
+        let chosen = longest_match::choose(table, text, at, total);
         if chosen.len == 0 {
             return k;
         }

@@ -1,9 +1,8 @@
 -- `token_fault`: 17, 18, 19 in this order. Assumes nothing.
-use mathlib.Core.Path.{sym}
 use native.Mathlib.Omega.{arith}
 use borrow.Author.Needs.{needs}
 use Rattle.longest_match.proofs.Parts.{part-bytes}
-use Rattle.token_list.proofs.Faulting.{held-room, checked-outside, checked-unknown, checked-idle, checked-part, checked-other}
+use Rattle.token_list.proofs.Faulting.{checked-outside, checked-unknown, checked-idle, checked-part, checked-other}
 use Rattle.token_list.proofs.Faulting.{checked-same}
 use Rattle.token_list.proofs.faults.token_fault.Statement.{statement}
 use Rattle.token_list.proofs.faults.token_fault.Tie as tie
@@ -24,46 +23,52 @@ cast-find-tag : tie.Need-cast-find-tag
 cast-find-tag c = search needs
 
 find-tag-requires : tie.Need-find-tag-requires
-find-tag-requires c κs = held-room (c .before .before .before .before .before .before .before .before .pre .holds)
+find-tag-requires c κs = search needs
+
+count-of-requires : tie.Need-count-of-requires
+count-of-requires c κs = search needs
 
 returns-2 : tie.Need-returns-2
-returns-2 c = λ rs h. checked-unknown h _ _ (omega (arith, c .before .before .before .if1 .left))
-    (c .before .find-tag .ensures _ _ rs (h .tables) (sym (h .count))) (c .if2 .taken)
+returns-2 c = λ rs h. checked-unknown h _ _ (omega (arith, c .before .before .before .before .if1 .left))
+    (c .before .before .find-tag .ensures rs h) (c .before .count-of .ensures rs h) (c .if2 .taken)
 
 add-choose : tie.Need-add-choose
 add-choose c = search needs
 
 choose-requires : tie.Need-choose-requires
-choose-requires c κs = (c .before .before .before .before .before .before .before .before .before .before .pre, (omega arith, omega arith))
+choose-requires c κs = (c .before .before .before .before .before .before .before .before .before .pre, (omega arith, omega arith))
 
 returns-3 : tie.Need-returns-3
-returns-3 c = λ rs h. checked-idle h _ _ (omega (arith, c .before .before .before .before .before .before .if1 .left))
-    (c .before .before .before .before .find-tag .ensures _ _ rs (h .tables) (sym (h .count))) (c .before .before .before .if2 .left)
-    (c .before .before .choose .ensures rs _ h (part-bytes _ _ _)) (c .if3 .taken)
+returns-3 c = λ rs h. checked-idle h _ _ (omega (arith, c .before .before .before .before .before .before .before .if1 .left))
+    (c .before .before .before .before .before .find-tag .ensures rs h) (c .before .before .before .before .count-of .ensures rs h)
+    (c .before .before .before .if2 .left) (c .before .before .choose .ensures rs _ h (part-bytes _ _ _)) (c .if3 .taken)
 
 returns-4 : tie.Need-returns-4
-returns-4 c = λ rs h. checked-part h _ _ (omega (arith, c .before .before .before .before .before .before .before .before .if1 .left))
-    (c .before .before .before .before .before .before .find-tag .ensures _ _ rs (h .tables) (sym (h .count)))
-    (c .before .before .before .before .before .if2 .left) (c .before .before .before .before .choose .ensures rs _ h (part-bytes _ _ _))
-    (c .if4 .taken)
+returns-4 c = λ rs h. checked-part h _ _
+    (omega (arith, c .before .before .before .before .before .before .before .before .before .if1 .left))
+    (c .before .before .before .before .before .before .before .find-tag .ensures rs h)
+    (c .before .before .before .before .before .before .count-of .ensures rs h) (c .before .before .before .before .before .if2 .left)
+    (c .before .before .before .before .choose .ensures rs _ h (part-bytes _ _ _)) (c .if4 .taken)
 
 returns-5 : tie.Need-returns-5
-returns-5 c = λ rs h. checked-other h _ _ (omega (arith,
-    c .before .before .before .before .before .before .before .before .before .before .if1 .left))
-    (c .before .before .before .before .before .before .before .before .find-tag .ensures _ _ rs (h .tables) (sym (h .count)))
+returns-5 c = λ rs h. checked-other h _ _
+    (omega (arith, c .before .before .before .before .before .before .before .before .before .before .before .if1 .left))
+    (c .before .before .before .before .before .before .before .before .before .find-tag .ensures rs h)
+    (c .before .before .before .before .before .before .before .before .count-of .ensures rs h)
     (c .before .before .before .before .before .before .before .if2 .left)
     (c .before .before .before .before .before .before .choose .ensures rs _ h (part-bytes _ _ _))
     (c .before .before .before .before .if3 .left) (c .before .before .if4 .left) (c .if5 .taken)
 
 returns-6 : tie.Need-returns-6
-returns-6 c = λ rs h. checked-same h _ _ (omega (arith,
-    c .before .before .before .before .before .before .before .before .before .before .if1 .left))
-    (c .before .before .before .before .before .before .before .before .find-tag .ensures _ _ rs (h .tables) (sym (h .count)))
+returns-6 c = λ rs h. checked-same h _ _
+    (omega (arith, c .before .before .before .before .before .before .before .before .before .before .before .if1 .left))
+    (c .before .before .before .before .before .before .before .before .before .find-tag .ensures rs h)
+    (c .before .before .before .before .before .before .before .before .count-of .ensures rs h)
     (c .before .before .before .before .before .before .before .if2 .left)
     (c .before .before .before .before .before .before .choose .ensures rs _ h (part-bytes _ _ _))
     (c .before .before .before .before .if3 .left) (c .before .before .if4 .left) (c .if5 .left)
 
 pub token-fault-spec : {M : Type 1} → statement M
 token-fault-spec =
-    tie.close (tie.spec cast-place cast-len add-if1 returns cast-find-tag find-tag-requires returns-2 add-choose choose-requires returns-3
-    returns-4 returns-5 returns-6)
+    tie.close (tie.spec cast-place cast-len add-if1 returns cast-find-tag find-tag-requires count-of-requires returns-2 add-choose
+    choose-requires returns-3 returns-4 returns-5 returns-6)

@@ -1,5 +1,4 @@
--- `read_back`: the invariant is `Retracing`, for any rules that the tables hold and any pool. Assumes nothing.
-use mathlib.Core.Path.{sym}
+-- `read_back`: the invariant is `Retracing`, for any rules that the table holds and any pool. Assumes nothing.
 use mathlib.Core.List.{List}
 use Prim.Native.Nat.{ℕ, _-_}
 use native.Mathlib.Omega.{arith}
@@ -8,11 +7,10 @@ use lib.Seq.{length-take-le}
 use borrow.Author.Needs.{needs}
 use denote.Ref.{now}
 use Rattle.automaton.specs.Rule.{Rule}
-use Rattle.longest_match.specs.Contracts.{Holds}
+use Rattle.automaton.specs.Contracts.{Holds}
 use Rattle.longest_match.proofs.Parts.{part-front}
 use Rattle.longest_match.proofs.Held.{held-empty}
 use Rattle.record.specs.Records.{recordCount}
-use Rattle.token_list.proofs.Faulting.{held-room}
 use Rattle.token_list.specs.Contracts.{Spread}
 use Rattle.token_list.proofs.Settling.{Retracing, retracing-start, retracing-within, retracing-next, retracing-none}
 use Rattle.token_list.proofs.Settling.{retracing-longer, retracing-other, retracing-end}
@@ -20,22 +18,21 @@ use Rattle.token_list.proofs.readback.read_back.Statement.{statement}
 use Rattle.token_list.proofs.readback.read_back.Tie as tie
 
 abbrev Inv-loop : tie.InvT-loop
-Inv-loop headers states edges rules records text total count at₀ k₀ at k =
-    (rs : List Rule) (pool : List ℕ) → Holds headers states edges rules rs → Spread records pool (take total text)
+Inv-loop table records text total count at₀ k₀ at k =
+    (rs : List Rule) (pool : List ℕ) → Holds table rs → Spread records pool (take total text)
     → Retracing rs records pool (take total text) at k
 
 abbrev μ-loop : tie.MeasureT-loop
-μ-loop headers states edges rules records text total count at₀ k₀ at k = recordCount records - k
+μ-loop table records text total count at₀ k₀ at k = recordCount records - k
 
--- by one list of rules that the tables hold, and one pool
-some : (c : tie.At-loop Inv-loop μ-loop) → Retracing (c .before .before .before .before .before .before .pre .0 .rules)
-    (now (c .before .before .before .before .before .before .args .records))
-    (c .before .before .before .before .before .before .pre .1 .1 .pool)
-    (take (c .before .before .before .before .before .before .args .total)
-    (now (c .before .before .before .before .before .before .args .text))) (c .loop .at) (c .loop .k)
-some c =
-    let start = c .before .before .before .before .before .before in
-    c .loop .inv (start .pre .0 .rules) (start .pre .1 .1 .pool) (start .pre .0 .holds) (start .pre .1 .1 .spread)
+-- by one list of rules that the table holds, and one pool
+some : (c : tie.At-loop Inv-loop μ-loop) → Retracing (c .before .before .before .before .pre .0 .rules)
+    (now (c .before .before .before .before .args .records))
+    (c .before .before .before .before .pre .1 .1 .pool)
+    (take (c .before .before .before .before .args .total)
+    (now (c .before .before .before .before .args .text))) (c .loop .at) (c .loop .k)
+some c = c .loop .inv (c .before .before .before .before .pre .0 .rules) (c .before .before .before .before .pre .1 .1 .pool)
+    (c .before .before .before .before .pre .0 .holds) (c .before .before .before .before .pre .1 .1 .spread)
 
 loop-holds : tie.Need-loop-holds Inv-loop μ-loop
 loop-holds c = λ rs pool h s. retracing-start s
@@ -50,19 +47,19 @@ cast-find-tag : tie.Need-cast-find-tag Inv-loop μ-loop
 cast-find-tag c = search needs
 
 find-tag-requires : tie.Need-find-tag-requires Inv-loop μ-loop
-find-tag-requires c κs = held-room (c .before .before .before .before .before .before .before .before .before .before .pre .0 .holds)
+find-tag-requires c κs = search needs
 
 choose-requires : tie.Need-choose-requires Inv-loop μ-loop
 choose-requires c κs =
-    let start = c .before .before .before .before .before .before .before .before .before .before .before in
+    let start = c .before .before .before .before .before .before .before .before .before .pre in
     let w = some (c .before .before .before .before .before) .within in
-    (start .pre .0, (rw (length-take-le _ _ (start .pre .1 .0)) at w, start .pre .1 .0))
+    (start .0, (rw (length-take-le _ _ (start .1 .0)) at w, start .1 .0))
 
 returns : tie.Need-returns Inv-loop μ-loop
 returns c = λ rs pool h s. retracing-none (c .before .before .before .before .before .before .before .before .loop .inv rs pool h s)
     (held-empty h) (c .before .before .before .before .before .before .before .loop-test .taken)
     (c .before .before .before .before .before .before .read-record .ensures)
-    (c .before .before .before .find-tag .ensures _ _ rs (h .tables) (sym (h .count)))
+    (c .before .before .before .find-tag .ensures rs h)
     (c .before .before .choose .ensures rs _ h (part-front _ _ _)) (c .if1 .taken)
 
 returns-2 : tie.Need-returns-2 Inv-loop μ-loop
@@ -70,7 +67,7 @@ returns-2 c = λ rs pool h s. retracing-longer
     (c .before .before .before .before .before .before .before .before .before .before .loop .inv rs pool h s) (held-empty h)
     (c .before .before .before .before .before .before .before .before .before .loop-test .taken)
     (c .before .before .before .before .before .before .before .before .read-record .ensures)
-    (c .before .before .before .before .before .find-tag .ensures _ _ rs (h .tables) (sym (h .count)))
+    (c .before .before .before .before .before .find-tag .ensures rs h)
     (c .before .before .before .before .choose .ensures rs _ h (part-front _ _ _)) (c .if2 .taken)
 
 returns-3 : tie.Need-returns-3 Inv-loop μ-loop
@@ -78,22 +75,22 @@ returns-3 c = λ rs pool h s. retracing-other
     (c .before .before .before .before .before .before .before .before .before .before .before .before .loop .inv rs pool h s)
     (held-empty h) (c .before .before .before .before .before .before .before .before .before .before .before .loop-test .taken)
     (c .before .before .before .before .before .before .before .before .before .before .read-record .ensures)
-    (c .before .before .before .before .before .before .before .find-tag .ensures _ _ rs (h .tables) (sym (h .count)))
+    (c .before .before .before .before .before .before .before .find-tag .ensures rs h)
     (c .before .before .before .before .before .before .choose .ensures rs _ h (part-front _ _ _))
     (c .before .before .before .before .if1 .left) (c .before .before .if2 .left) (c .if3 .taken)
 
 add-at : tie.Need-add-at Inv-loop μ-loop
 add-at c =
-    let at-loop-test = c .before .before .before .before .before .before .before .before .before .before .before in
-    let start = at-loop-test .before .before .before .before .before .before .before in
-    omega (arith, length-take-le (start .args .total) (now (start .args .text)) (start .pre .1 .0), retracing-within
-        (some (at-loop-test .before)) (held-empty (start .pre .0 .holds)) (at-loop-test .loop-test .taken)
+    let test = c .before .before .before .before .before .before .before .before .before .before .before in
+    let start = test .before .before .before .before .before in
+    omega (arith, length-take-le (start .args .total) (now (start .args .text)) (start .pre .1 .0), retracing-within (some (test .before))
+        (held-empty (start .pre .0 .holds)) (test .loop-test .taken)
         (c .before .before .before .before .before .before .before .before .before .before .read-record .ensures), start .good)
 
 add-k : tie.Need-add-k Inv-loop μ-loop
 add-k c =
     let test = c .before .before .before .before .before .before .before .before .before .before .before in
-    omega (arith, test .loop-test .taken, test .before .before .before .before .before .before .before .good)
+    omega (arith, test .loop-test .taken, test .before .before .before .before .before .good)
 
 loop-less : tie.Need-loop-less Inv-loop μ-loop
 loop-less c = omega (arith, c .before .before .before .before .before .before .before .before .before .before .before .loop-test .taken)
@@ -103,7 +100,7 @@ loop-again c = λ rs pool h s. retracing-next
     (c .before .before .before .before .before .before .before .before .before .before .before .before .loop .inv rs pool h s)
     (held-empty h) (c .before .before .before .before .before .before .before .before .before .before .before .loop-test .taken)
     (c .before .before .before .before .before .before .before .before .before .before .read-record .ensures)
-    (c .before .before .before .before .before .before .before .find-tag .ensures _ _ rs (h .tables) (sym (h .count)))
+    (c .before .before .before .before .before .before .before .find-tag .ensures rs h)
     (c .before .before .before .before .before .before .choose .ensures rs _ h (part-front _ _ _))
     (c .before .before .before .before .if1 .left) (c .before .before .if2 .left) (c .if3 .left)
 
