@@ -20,7 +20,7 @@ use Rattle.token_list.specs.Faults.{faultOf}
 use Rattle.token_list.specs.Checks.{refuse, firstFault, firstExtended}
 use Rattle.token_list.specs.Contracts.{checkedOf, Fitting, Joined, Spanned, Spread, Faultless, ReadsBack}
 use Rattle.token_list.proofs.Passes.{faultless-pool}
-use Rattle.printer.specs.Contracts.{trouble, Clean, Rehearses}
+use Rattle.printer.specs.Contracts.{trouble, Clean, Rehearses, Roomy}
 use Rattle.token_list.specs.declared.Checked.the-variants as checked
 use Rattle.printer.specs.declared.rehearsal.Rehearsed.{Rehearsed}
 use Rattle.printer.specs.declared.rehearsal.Rehearsed.the-variants as rehearsed
@@ -93,9 +93,19 @@ module _ (rules : List Rule) (records pool scratch : List ℕ) where
           wrong = λ f e. absurd (clean-wrong e);
         }
 
+-- ---- the scratch
+
+-- one that has room for every text
+pub roomy-large : (records pool : List ℕ) {scratch : List ℕ} → maxText ≤ length scratch → Roomy records pool scratch
+roomy-large records pool l = record { room = λ n s. omega (arith, s .short) }
+
 module _ {records pool : List ℕ} {n : ℕ} (s : Spanned records pool n) where
-  pub spanned-fitting : {scratch : List ℕ} → length scratch ≡ maxText → Fitting records pool scratch
-  spanned-fitting e = record { each = s .each; room = omega (arith, s .bytes, s .short) }
+  -- one that has room for the bytes of this list
+  pub roomy-small : {scratch : List ℕ} → n ≤ length scratch → Roomy records pool scratch
+  roomy-small l = record { room = λ m t. omega (arith, s .bytes, t .bytes) }
+
+  pub spanned-fitting : {scratch : List ℕ} → n ≤ length scratch → Fitting records pool scratch
+  spanned-fitting l = record { each = s .each; room = omega (arith, s .bytes) }
 
   module _ {entry exit : List ℕ} (j : Joined (join (tokensOf records pool)) entry exit) where
     pub spanned-laid : take n exit ≡ join (tokensOf records pool)

@@ -2,15 +2,15 @@
 use mathlib.Core.Path.{_≡_}
 use mathlib.Core.Option.{Option, some}
 use mathlib.Core.List.{List}
-use Prim.Native.Nat.{ℕ}
+use Prim.Native.Nat.{ℕ, _≤_}
 use lib.Dec.{ltb}
 use lib.ListN.{length, take}
 use Rattle.answer.specs.declared.Refusal.{Refusal}
 use Rattle.answer.specs.declared.PrintAnswer.{PrintAnswer}
 use Rattle.automaton.specs.Rule.{Rule}
+use Rattle.automaton.specs.Contracts.{Holds, Held}
 use Rattle.book.specs.Limits.{maxText}
 use Rattle.longest_match.specs.Lexer.{or, join}
-use Rattle.longest_match.specs.Contracts.{Holds, Held}
 use Rattle.record.specs.Tokens.{recordsOf, tokensOf}
 use Rattle.token_list.specs.Faults.{faultOf}
 use Rattle.token_list.specs.Checks.{refuse, firstFault, firstExtended}
@@ -33,6 +33,10 @@ trouble rules records pool =
 
 -- ---- the rehearsal
 
+-- the scratch has room for the bytes of the list, unless they are too many to be written or a token lies outside the pool
+pub record Roomy (records pool scratch : List ℕ) : Type 0 where
+  pub room : (n : ℕ) → Spanned records pool n → n ≤ length scratch
+
 -- nothing is wrong with the list, and its n bytes stand at the front of the scratch
 pub record Clean (rules : List Rule) (records pool scratch : List ℕ) (n : ℕ) : Type 0 where
   pub settled : Settled rules records pool
@@ -43,7 +47,7 @@ pub record Rehearses (rules : List Rule) (records pool scratch : List ℕ) (r : 
   pub clean : (n : ℕ) → r ≡ rehearsed.Clean n → Clean rules records pool scratch n
   pub wrong : (f : Refusal) → r ≡ rehearsed.Wrong f → Faultless rules records pool → trouble rules records pool ≡ some f
 
--- whichever rules the tables hold, this is wrong with the list if no token is at fault
-pub record Suspects (hs ss es : List ℕ) (n : ℕ) (records pool : List ℕ) (f : Refusal) : Type 0 where
-  pub held : Held hs ss es n
-  pub suspected : (rules : List Rule) → Holds hs ss es n rules → Faultless rules records pool → trouble rules records pool ≡ some f
+-- whichever rules the table holds, this is wrong with the list if no token is at fault
+pub record Suspects (tb records pool : List ℕ) (f : Refusal) : Type 0 where
+  pub held : Held tb
+  pub suspected : (rules : List Rule) → Holds tb rules → Faultless rules records pool → trouble rules records pool ≡ some f

@@ -19,20 +19,19 @@ enum-known-total c = search needs
 
 write-requires : tie.Need-write-requires
 write-requires c κs =
-    let at-rehearse = c .before .before .before .before .before .before .before in
-    let start = at-rehearse .before .before .before .before .before .before .before .before .before .before in
-    let w = at-rehearse .rehearse .ensures (start .pre .0 .rules) (start .pre .0 .holds) .clean _
-        (c .before .before .before .total .given .1) in
-    omega (arith, w .spanned .short, at-rehearse .rehearse .kept, start .pre .1)
+    let rehearsed = c .before .before .before .before .before .before .before in
+    let start = rehearsed .before .before .before .before .before .before .before .before .pre in
+    let clean = rehearsed .rehearse .ensures (start .0 .rules) (start .0 .holds) .clean _ (c .before .before .before .total .given .1) in
+    omega (arith, start .1 .room _ (clean .spanned), rehearsed .rehearse .kept)
 
 enum-known-found : tie.Need-enum-known-found
 enum-known-found c = search needs
 
 find-refusal-requires : tie.Need-find-refusal-requires
 find-refusal-requires c κs =
-    record { held =
-        c .before .before .before .before .before .before .before .before .before .before .before .before .before .before .before .pre .0;
-        suspected = λ rs h. c .before .before .before .before .before .rehearse .ensures rs h .wrong _ (c .before .found .given .1) }
+    let rehearsed = c .before .before .before .before .before in
+    let held = rehearsed .before .before .before .before .before .before .before .before .pre .0 in
+    record { held = held; suspected = λ rs h. rehearsed .rehearse .ensures rs h .wrong _ (c .before .found .given .1) }
 
 same-length : tie.Need-same-length
 same-length c = search needs

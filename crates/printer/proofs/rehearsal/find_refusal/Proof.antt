@@ -15,7 +15,7 @@ enum-known-refusal : tie.Need-enum-known-refusal
 enum-known-refusal c = search needs
 
 returns : tie.Need-returns
-returns c = λ rs h. c .before .before .before .before .before .before .before .before .pre .suspected rs h
+returns c = λ rs h. c .before .before .before .before .before .before .pre .suspected rs h
     (passed-faultless rs _ _ (sym (c .enum-told .given .1) ∙ c .before .before .check-tokens .ensures rs h))
 
 returns-2 : tie.Need-returns-2

@@ -12,8 +12,9 @@ enum-known-total c = search needs
 
 rehearse-bytes-requires : tie.Need-rehearse-bytes-requires
 rehearse-bytes-requires c κs =
-    let start = c .before .before .before .before .before .before .before .before .before .before .before in
-    (start .pre .0, (start .pre .1, c .before .before .before .before .measure .ensures .fits _ (c .before .before .total .given .1)))
+    let start = c .before .before .before .before .before .before .before .before .before .pre in
+    let spanned = c .before .before .before .before .measure .ensures .fits _ (c .before .before .total .given .1) in
+    (start .0, (start .1 .room _ spanned, spanned))
 
 enum-told : tie.Need-enum-told
 enum-told c = search needs

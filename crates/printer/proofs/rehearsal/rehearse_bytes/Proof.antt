@@ -6,16 +6,13 @@ use Rattle.printer.proofs.rehearsal.rehearse_bytes.Statement.{statement
 use Rattle.printer.proofs.rehearsal.rehearse_bytes.Tie as tie
 
 join-tokens-requires : tie.Need-join-tokens-requires
-join-tokens-requires c κs =
-    let start = c .before .before .before .before .before .before .before in
-    spanned-fitting (start .pre .1 .1) (start .pre .1 .0)
+join-tokens-requires c κs = let start = c .before .before .before .before .before .pre in spanned-fitting (start .1 .1) (start .1 .0)
 
 read-back-requires : tie.Need-read-back-requires
 read-back-requires c κs =
-    let at-join-tokens = c .before .before .before in
-    let start = at-join-tokens .before .before .before .before .before .before .before .before in
-    (start .pre .0, (omega (arith, at-join-tokens .join-tokens .kept, start .pre .1 .0, start .pre .1 .1 .short), record
-        { pool = _; spread = spanned-spread (start .pre .1 .1) (at-join-tokens .join-tokens .ensures) }))
+    let start = c .before .before .before .before .before .before .before .before .before .pre in
+    let joined = c .before .before .before .join-tokens in
+    (start .0, (omega (arith, joined .kept, start .1 .0), record { pool = _; spread = spanned-spread (start .1 .1) (joined .ensures) }))
 
 wrong-requires : tie.Need-wrong-requires
 wrong-requires c κs = search needs
@@ -24,22 +21,21 @@ same-length : tie.Need-same-length
 same-length c = search needs
 
 returns : tie.Need-returns
-returns c =
-    let start = c .before .before .before .before .before .before .before .before .before .before .before .before .before .before in
-    λ rs h. rehearses-on rs _ _ _ (start .pre .1 .1) (c .before .before .read-back .ensures rs _ h
-        (spanned-spread (start .pre .1 .1) (c .before .before .before .before .before .before .join-tokens .ensures)))
-        (c .before .if1 .taken) (c .wrong .ensures)
+returns c = λ rs h.
+    let spanned = c .before .before .before .before .before .before .before .before .before .before .before .before .pre .1 .1 in
+    let joined = c .before .before .before .before .before .before .join-tokens .ensures in
+    rehearses-on rs _ _ _ spanned (c .before .before .read-back .ensures rs _ h (spanned-spread spanned joined)) (c .before .if1 .taken)
+    (c .wrong .ensures)
 
 same-length-2 : tie.Need-same-length-2
 same-length-2 c = search needs
 
 returns-2 : tie.Need-returns-2
-returns-2 c =
-    let at-join-tokens = c .before .before .before .before .before in
-    let start = at-join-tokens .before .before .before .before .before .before .before .before in
-    λ rs h. rehearses-clean rs _ _ _ (start .pre .1 .1) (c .before .read-back .ensures rs _ h
-        (spanned-spread (start .pre .1 .1) (at-join-tokens .join-tokens .ensures))) (c .if1 .left)
-        (spanned-laid (start .pre .1 .1) (at-join-tokens .join-tokens .ensures))
+returns-2 c = λ rs h.
+    let spanned = c .before .before .before .before .before .before .before .before .before .before .before .pre .1 .1 in
+    let joined = c .before .before .before .before .before .join-tokens .ensures in
+    rehearses-clean rs _ _ _ spanned (c .before .read-back .ensures rs _ h (spanned-spread spanned joined)) (c .if1 .left)
+    (spanned-laid spanned joined)
 
 pub rehearse-bytes-spec : {M : Type 1} → statement M
 rehearse-bytes-spec =
