@@ -96,8 +96,8 @@ module _ (rules : List Rule) (records pool scratch : List ℕ) where
 -- ---- the scratch
 
 -- one that has room for every text
-pub roomy-large : (records pool : List ℕ) {scratch : List ℕ} → maxText ≤ length scratch → Roomy records pool scratch
-roomy-large records pool l = record { room = λ n s. omega (arith, s .short) }
+pub roomy-large : {records pool scratch : List ℕ} → maxText ≤ length scratch → Roomy records pool scratch
+roomy-large l = record { room = λ n s. omega (arith, s .short) }
 
 module _ {records pool : List ℕ} {n : ℕ} (s : Spanned records pool n) where
   -- one that has room for the bytes of this list
