@@ -33,9 +33,19 @@ trouble rules records pool =
 
 -- ---- the rehearsal
 
+-- bytes of a small scratch
+abbrev pub smallText : ℕ
+smallText = 2048
+
 -- the scratch has room for the bytes of the list, unless they are too many to be written or a token lies outside the pool
 pub record Roomy (records pool scratch : List ℕ) : Type 0 where
   pub room : (n : ℕ) → Spanned records pool n → n ≤ length scratch
+
+-- the tokens lie in the pool and have as many bytes as a small scratch has room for
+pub record Short (records pool : List ℕ) : Type 0 where
+  pub bytes : ℕ
+  pub spanned : Spanned records pool bytes
+  pub few : bytes ≤ smallText
 
 -- nothing is wrong with the list, and its n bytes stand at the front of the scratch
 pub record Clean (rules : List Rule) (records pool scratch : List ℕ) (n : ℕ) : Type 0 where

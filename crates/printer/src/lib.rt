@@ -3,3 +3,84 @@
 // the rules that a lent table holds, `rehearsal` reads a list back before it is printed.
 pub mod by_rules;
 pub mod rehearsal;
+
+use answer::BookAnswer;
+use answer::PrintAnswer;
+use book::Book;
+use token_list::readback::Extent;
+ghost use mathlib.Core.Path.{_≡_};
+ghost use mathlib.Core.Bool.{true};
+ghost use Prim.Native.Nat.{_≤_};
+ghost use lib.ListN.{length};
+ghost use Rattle.reader.specs.Contracts.{smallBook, Lent};
+ghost use Rattle.printer.specs.Outcome.{printOutcome};
+ghost use Rattle.printer.specs.Contracts.{PrintAnswered, Roomy, Short};
+
+// Prints the tokens that `records` say with `pool`, by the rules of a book: the number of bytes, which stand at the start of `out`,
+// or the refusal of document 01. Every other byte of `out` stays as it was.
+pub fn print(book: &[u8], records: &[u8], pool: &[u8], out: &mut [u8]) -> PrintAnswer
+    ensures { λ r. ⌜ r ≡ (printOutcome (now (book .entry)) (now (records .entry)) (now (pool .entry)) (now (out .entry))) .answer ⌝ }
+    ensures { λ r. ⌜ now (out .exit)
+        ≡ (printOutcome (now (book .entry)) (now (records .entry)) (now (pool .entry)) (now (out .entry))) .out ⌝ }
+{
+    if book.len() <= Book::SMALL {
+        if is_short(records, pool) {
+            return print_small(book, records, pool, out);
+        }
+    }
+    print_large(book, records, pool, out)
+}
+
+// Whether the tokens of a list lie in the pool and have so few bytes that a small scratch has room for them.
+fn is_short(records: &[u8], pool: &[u8]) -> bool
+    ensures { λ r. ⌜ (r ≡ true → Short (now (records .entry)) (now (pool .entry))) ⌝ }
+{
+    if Book::SMALL < records.len() / 10 {
+        return false;
+    }
+    match token_list::readback::measure(records, pool) {
+        Extent::Bytes(total) => total <= Book::SMALL,
+        Extent::Beyond => false,
+    }
+}
+
+fn print_small(book: &[u8], records: &[u8], pool: &[u8], out: &mut [u8]) -> PrintAnswer
+    requires { ⌜ (length (now book) ≤ smallBook) × Short (now records) (now pool) ⌝ }
+    ensures { λ r. ⌜ PrintAnswered (printOutcome (now (book .entry)) (now (records .entry)) (now (pool .entry)) (now (out .entry)))
+        r (now (out .exit)) ⌝ }
+{
+    let mut table = [0u64; Book::SMALL_TABLE];
+    let mut scratch = [0u8; Book::SMALL];
+    print_with(book, &mut table, records, pool, &mut scratch, out)
+}
+
+fn print_large(book: &[u8], records: &[u8], pool: &[u8], out: &mut [u8]) -> PrintAnswer
+    ensures { λ r. ⌜ PrintAnswered (printOutcome (now (book .entry)) (now (records .entry)) (now (pool .entry)) (now (out .entry)))
+        r (now (out .exit)) ⌝ }
+{
+    let mut table = [0u64; Book::TABLE];
+    let mut scratch = [0u8; Book::TEXT];
+    print_with(book, &mut table, records, pool, &mut scratch, out)
+}
+
+// With a table for the book's rules and a scratch for the list's bytes.
+fn print_with(
+    book: &[u8],
+    table: &mut [u64],
+    records: &[u8],
+    pool: &[u8],
+    scratch: &mut [u8],
+    out: &mut [u8],
+) -> PrintAnswer
+    requires { ⌜ Lent (length (now book)) (now table) ⌝ }
+    requires { ⌜ Roomy (now records) (now pool) (now scratch) ⌝ }
+    ensures { λ r. ⌜ PrintAnswered (printOutcome (now (book .entry)) (now (records .entry)) (now (pool .entry)) (now (out .entry)))
+        r (now (out .exit)) ⌝ }
+{
+    match reader::load(book, table) {
+        BookAnswer::Accepted(_) => {
+            crate::by_rules::print_rules(table, records, pool, scratch, out)
+        }
+        BookAnswer::Refused(refusal) => PrintAnswer::Refused(refusal),
+    }
+}
