@@ -299,6 +299,115 @@ static void bench_printers(void)
     printf("\nMode 1 writes %lu bytes, mode 2 %lu.\n", (unsigned long)written[1], (unsigned long)written[2]);
 }
 
+/* The tokens of each line, and those of plain rules; a blank of the line is the separator. */
+static uint8_t line_list[LINES][LINE * ZGV_RECORD_BYTES], line_plain[LINES][LINE * ZGV_RECORD_BYTES];
+static size_t line_list_len[LINES], line_plain_len[LINES];
+static zgv_token line_blank[LINES];
+
+static void make_line_lists(void)
+{
+    size_t i, k;
+    for (i = 0; i < LINES; i++) {
+        size_t tokens, kept = 0;
+        tokens = zgv_first(zgv_lex(book, book_len, lines[i], LINE, line_list[i], sizeof line_list[i]));
+        line_list_len[i] = tokens * ZGV_RECORD_BYTES;
+        for (k = 0; k < tokens; k++) {
+            zgv_token t = zgv_get_record(line_list[i], k);
+            if (t.tag == 3 && t.length == 1)
+                line_blank[i] = t;
+            else if (t.tag != 3 && t.tag != 4)
+                zgv_put_record(line_plain[i], kept++, t);
+        }
+        line_plain_len[i] = kept * ZGV_RECORD_BYTES;
+    }
+}
+
+static void lines_print(void) { EACH_LINE(zgv_print(book, book_len, line_list[i], line_list_len[i], line, LINE, out, SHEET)); }
+static void lines_mode_2(void)
+{
+    EACH_LINE(zgv_print_separated(book, book_len, line_blank[i].tag, line_blank[i].place, line_blank[i].length, ZGV_MODE_SPARE,
+                                  line_plain[i], line_plain_len[i], line, LINE, out, SHEET));
+}
+
+static void bench_line_printers(void)
+{
+    contender all[] = {{"`zgv_print`", lines_print, (double)LINES * LINE, 0},
+                       {"`zgv_print_separated`, mode 2", lines_mode_2, (double)LINES * LINE, 0}};
+    size_t i;
+    make_line_lists();
+    for (i = 0; i < 2; i++) {
+        all[i].run();
+        if (zgv_number(sink) != ZGV_ACCEPTED)
+            fail("a printer refuses a line");
+    }
+    print_table("### Printing the tokens of a line", all, 2, LINES);
+}
+
+/* ---- An earlier library beside this one, its calls renamed */
+
+#ifdef HAVE_OLD
+uint64_t old_zgv_read_book(const uint8_t *, size_t);
+uint64_t old_zgv_lex(const uint8_t *, size_t, const uint8_t *, size_t, uint8_t *, size_t);
+uint64_t old_zgv_lex_builtin(const uint8_t *, size_t, uint8_t *, size_t);
+uint64_t old_zgv_print(const uint8_t *, size_t, const uint8_t *, size_t, const uint8_t *, size_t, uint8_t *, size_t);
+uint64_t old_zgv_print_separated(const uint8_t *, size_t, uint16_t, uint32_t, uint32_t, uint32_t, const uint8_t *, size_t,
+                                 const uint8_t *, size_t, uint8_t *, size_t);
+
+static void old_book(void) { sink = old_zgv_read_book(book, book_len); }
+static void new_book(void) { sink = zgv_read_book(book, book_len); }
+static void old_sheet(void) { sink = old_zgv_lex(book, book_len, sheet, sheet_len, records, ROOM); }
+static void old_lines(void) { EACH_LINE(old_zgv_lex(book, book_len, line, LINE, records, ROOM)); }
+static void old_sheet_builtin(void) { sink = old_zgv_lex_builtin(sheet, sheet_len, records, ROOM); }
+static void old_print(void) { sink = old_zgv_print(book, book_len, list, list_len, sheet, sheet_len, out, SHEET); }
+static void old_mode(uint32_t mode)
+{
+    sink = old_zgv_print_separated(book, book_len, blank.tag, blank.place, blank.length, mode, plain, plain_len, sheet, sheet_len,
+                                   out, SHEET);
+}
+static void old_mode_1(void) { old_mode(ZGV_MODE_ALL); }
+static void old_mode_2(void) { old_mode(ZGV_MODE_SPARE); }
+static void old_lines_print(void)
+{
+    EACH_LINE(old_zgv_print(book, book_len, line_list[i], line_list_len[i], line, LINE, out, SHEET));
+}
+static void old_lines_mode_2(void)
+{
+    EACH_LINE(old_zgv_print_separated(book, book_len, line_blank[i].tag, line_blank[i].place, line_blank[i].length, ZGV_MODE_SPARE,
+                                      line_plain[i], line_plain_len[i], line, LINE, out, SHEET));
+}
+
+static void bench_old(void)
+{
+    static const struct {
+        const char *name;
+        void (*old_run)(void), (*new_run)(void);
+        double calls;
+    } pairs[] = {{"`zgv_read_book`, the built-in book", old_book, new_book, 1},
+                 {"`zgv_lex`, a line", old_lines, lines_zgv, LINES},
+                 {"`zgv_print`, a line", old_lines_print, lines_print, LINES},
+                 {"`zgv_print_separated`, mode 2, a line", old_lines_mode_2, lines_mode_2, LINES},
+                 {"`zgv_lex`, the sheet", old_sheet, sheet_zgv, 1},
+                 {"`zgv_lex_builtin`, the sheet", old_sheet_builtin, sheet_builtin, 1},
+                 {"`zgv_print`, the sheet", old_print, print_plain, 1},
+                 {"`zgv_print_separated`, mode 1, the sheet", old_mode_1, print_mode_1, 1},
+                 {"`zgv_print_separated`, mode 2, the sheet", old_mode_2, print_mode_2, 1}};
+    size_t i;
+    printf("\n### An earlier library beside this one\n\n| | earlier, µs a call | this, µs a call | this : earlier |\n|---|---:|---:|---:|\n");
+    for (i = 0; i < sizeof pairs / sizeof pairs[0]; i++) {
+        contender both[] = {{"", pairs[i].old_run, 0, 0}, {"", pairs[i].new_run, 0, 0}};
+        uint64_t answer;
+        both[0].run();
+        answer = sink;
+        both[1].run();
+        if (sink != answer)
+            fail("two libraries answer differently");
+        measure(both, 2);
+        printf("| %s | %.2f | %.2f | %.2f |\n", pairs[i].name, both[0].best * 1e6 / pairs[i].calls,
+               both[1].best * 1e6 / pairs[i].calls, both[1].best / both[0].best);
+    }
+}
+#endif
+
 /* ---- Growth */
 
 static uint8_t wide_book[ZGV_BOOK_BYTES];
@@ -523,6 +632,10 @@ int main(int argc, char **argv)
     check_same();
     bench_lexers();
     bench_printers();
+    bench_line_printers();
+#ifdef HAVE_OLD
+    bench_old();
+#endif
     bench_growth();
     bench_reading();
     return 0;

@@ -1,6 +1,6 @@
 #!/bin/sh
 # Builds and runs the benchmark over build/libzagvulem.a (make it first) and prints its tables. Where flex is missing it is
-# installed from the system's packages; NO_FLEX=1 leaves the flex line out.
+# installed from the system's packages; NO_FLEX=1 leaves the flex line out. OLD=FILE measures an earlier library beside this one.
 set -eu
 cd "$(dirname "$0")/.."
 cc=${CC:-cc}
@@ -16,6 +16,13 @@ if [ -z "${NO_FLEX:-}" ]; then
     flex -o "$dir/sheet.c" bench/sheet.l
     $cc $flags -w -c "$dir/sheet.c" -o "$dir/sheet.o"
     set -- -DHAVE_FLEX "$dir/sheet.o"
+fi
+if [ -n "${OLD:-}" ]; then
+    ar p "$OLD" zagvulem.o >"$dir/old.o"
+    for call in read_book lex lex_builtin print print_separated; do
+        objcopy --redefine-sym "zgv_$call=old_zgv_$call" "$dir/old.o"
+    done
+    set -- "$@" -DHAVE_OLD "$dir/old.o"
 fi
 $cc $flags -c bench/chains.c -o "$dir/chains.o"
 $cc $flags -c bench/dense.c -o "$dir/dense.o"
