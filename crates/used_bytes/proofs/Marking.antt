@@ -1,55 +1,18 @@
 -- Marks while they are set, and the search for the lowest. Assumes nothing.
 use mathlib.Core.Path.{_≡_, refl, ap, _∙_}
 use mathlib.Core.Bool.{Bool, true, false, _&&_, _||_}
+use mathlib.Core.Logic.{_⊎_, inl, inr}
 use mathlib.Core.Option.{none, some}
 use mathlib.Core.List.{List}
 use Prim.Native.Nat.{ℕ, zero, suc, _+_, _-_, _≤_, _<_}
 use native.Mathlib.Omega.{arith}
 use native.Mathlib.Numerals.{add-one}
-use lib.Dec.{leb, ltb, eqb}
+use lib.Dec.{leb, eqb}
 use lib.ListN.{length, getD, set, replicate, length-set}
 use lib.Seq.{getD-set-same, getD-set-other}
-use borrow.Author.Tests.{le-leb, lt-ltb, le-ltb, leb-true, ltb-true, ltb-false, eqb-true, eqb-false}
-use Rattle.automaton.proofs.Tests.{and-false-right}
-use Rattle.used_bytes.specs.Contracts.{between}
+use borrow.Author.Tests.{leb-true, leb-false, eqb-true, eqb-false}
+use Rattle.used_bytes.specs.Contracts.{Ranged}
 use Rattle.used_bytes.specs.Bytes.{lowestFrom}
-
--- ---- tests of a number below a bound that grows by one
-
-ltb-other : (x b : ℕ) → (x ≡ b → ⊥) → ltb x (b + 1) ≡ ltb x b
-ltb-other x b ne = go (ltb x b) refl
-  where
-    go : (t : Bool) → ltb x b ≡ t → ltb x (b + 1) ≡ t
-    go true e = let l : x < b = ltb-true x b e in lt-ltb x (b + 1) (omega arith)
-    go false e = let l : b ≤ x = ltb-false x b e in le-ltb x (b + 1) (omega arith)
-
-and-true-right : (x : Bool) → x && true ≡ x
-and-true-right true = refl
-and-true-right false = refl
-
--- ---- marks
-
--- the marks that were there, and those of f
-pub record Over (f : ℕ → Bool) (before after : List Bool) : Type 0 where
-  pub size : length after ≡ 256
-  pub marks : (x : ℕ) → x < 256 → getD after x false ≡ f x || getD before x false
-
-over-start : (f : ℕ → Bool) (l : List Bool) → length l ≡ 256 → ((x : ℕ) → f x ≡ false) → Over f l l
-over-start f l n h = record { size = n; marks = λ x p. rw (h x) }
-
-module _ {f : ℕ → Bool} {before after : List Bool} (w : Over f before after) where
-  over-same : (g : ℕ → Bool) → ((x : ℕ) → g x ≡ f x) → Over g before after
-  over-same g h = record { size = w .size; marks = λ x p. rw (h x) (w .marks x p) }
-
-  over-set : (g : ℕ → Bool) (b : ℕ) → b < 256 → g b ≡ true → ((x : ℕ) → (x ≡ b → ⊥) → g x ≡ f x) → Over g before (set after b true)
-  over-set g b l e h = record { size = simp length-set (w .size); marks = λ x p. go x p (eqb x b) refl }
-    where
-      go : (x : ℕ) → x < 256 → (t : Bool) → eqb x b ≡ t → getD (set after b true) x false ≡ g x || getD before x false
-      go x p true q =
-          let z : x ≡ b = eqb-true x b q in
-          rw (z, getD-set-same after b true false (omega (arith, w .size)), e)
-      go x p false q =
-          rw (getD-set-other after b x true false (λ z. eqb-false x b q z), h x (eqb-false x b q)) (w .marks x p)
 
 -- no marks
 pub unmarked : (n x : ℕ) → getD (replicate n false) x false ≡ false
@@ -57,63 +20,56 @@ unmarked zero x = refl
 unmarked (suc n) zero = refl
 unmarked (suc n) (suc x) = unmarked n x
 
--- a range, marked below b
-pub record Ranging (low high b : ℕ) (before after : List Bool) : Type 0 where
-  pub from : low ≤ b
-  pub over : Over (λ (x : ℕ). between low high x && ltb x b) before after
+-- the marks from `start` to before b are those of f, the others as they were
+pub record Filling (f : ℕ → Bool) (start b : ℕ) (before after : List Bool) : Type 0 where
+  pub from : start ≤ b
+  pub size : length after ≡ 256
+  pub inside : (x : ℕ) → start ≤ x → x < b → getD after x false ≡ f x
+  pub outside : (x : ℕ) → (x < start) ⊎ (b ≤ x) → getD after x false ≡ getD before x false
 
-pub ranging-start : (low high : ℕ) (l : List Bool) → length l ≡ 256 → Ranging low high low l l
-ranging-start low high l n =
-    record { from = omega arith; over = over-start (λ (x : ℕ). between low high x && ltb x low) l n (λ x. go x (leb low x) refl) }
-  where
-    go : (x : ℕ) (t : Bool) → leb low x ≡ t → (t && leb x high) && ltb x low ≡ false
-    go x true e = rw (le-ltb x low (leb-true low x e), and-false-right)
-    go x false e = refl
+pub filling-start : (f : ℕ → Bool) (start : ℕ) (l : List Bool) → length l ≡ 256 → Filling f start start l l
+filling-start f start l n = record { from = omega arith; size = n; inside = λ x p q. absurd (omega arith); outside = λ x p. refl }
 
-module _ {low high b : ℕ} {before after : List Bool} (w : Ranging low high b before after) where
-  pub ranging-next : b ≤ high → b < 256 → Ranging low high (b + 1) before (set after b true)
-  ranging-next h l =
+module _ {f : ℕ → Bool} {start b : ℕ} {before after : List Bool} (w : Filling f start b before after) where
+  pub filling-next : b < 256 → (v : Bool) → v ≡ f b → Filling f start (b + 1) before (set after b v)
+  filling-next l v e =
       record {
         from = omega (arith, w .from);
-        over = over-set (w .over) (λ (x : ℕ). between low high x && ltb x (b + 1)) b l
-            (rw (le-leb low b (w .from), le-leb b high h, lt-ltb b (b + 1) (omega arith))) (λ x ne. rw (ltb-other x b ne));
+        size = simp length-set (w .size);
+        inside = λ x p q. go x p q (eqb x b) refl;
+        outside = λ x p. other x (apart x p) ∙ w .outside x (wider x p);
       }
-
-  pub ranging-end : high < b → (x : ℕ) → x < 256 → getD after x false ≡ between low high x || getD before x false
-  ranging-end h x l = w .over .marks x l ∙ ap (λ (t : Bool). t || getD before x false) (go (leb x high) refl)
     where
-      go : (t : Bool) → leb x high ≡ t → (leb low x && t) && ltb x b ≡ leb low x && t
-      go true e = let k : x ≤ high = leb-true x high e in rw (lt-ltb x b (omega arith), and-true-right (leb low x && true))
-      go false e = rw (and-false-right (leb low x))
+      other : (x : ℕ) → (x ≡ b → ⊥) → getD (set after b v) x false ≡ getD after x false
+      other x ne = getD-set-other after b x v false ne
 
--- another set, joined below b
-abbrev joinedTo : List Bool → ℕ → ℕ → Bool
-joinedTo other b x = ltb x b && getD other x false
+      apart : (x : ℕ) → (x < start) ⊎ (b + 1 ≤ x) → x ≡ b → ⊥
+      apart x (inl p) z = omega (arith, w .from)
+      apart x (inr p) z = omega arith
 
-pub record Merging (other : List Bool) (b : ℕ) (before after : List Bool) : Type 0 where
-  pub within : b ≤ 256
-  pub over : Over (λ (x : ℕ). ltb x b && getD other x false) before after
+      wider : (x : ℕ) → (x < start) ⊎ (b + 1 ≤ x) → (x < start) ⊎ (b ≤ x)
+      wider x (inl p) = inl p
+      wider x (inr p) = inr (omega arith)
 
-pub merging-start : (other l : List Bool) → length l ≡ 256 → Merging other 0 l l
-merging-start other l n = record { within = omega arith; over = over-start (joinedTo other 0) l n (λ x. rw (le-ltb x 0 (omega arith))) }
+      go : (x : ℕ) → start ≤ x → x < b + 1 → (t : Bool) → eqb x b ≡ t → getD (set after b v) x false ≡ f x
+      go x p q true z = let y = eqb-true x b z in rw (y, getD-set-same after b v false (omega (arith, w .size))) e
+      go x p q false z = let y = eqb-false x b z in other x y ∙ w .inside x p (omega arith)
 
-module _ {other : List Bool} {b : ℕ} {before after : List Bool} (w : Merging other b before after) where
-  pub merging-mark : b < 256 → getD other b false ≡ true → Merging other (b + 1) before (set after b true)
-  merging-mark l e =
-      record {
-        within = omega arith;
-        over = over-set (w .over) (joinedTo other (b + 1)) b l (rw (lt-ltb b (b + 1) (omega arith), e)) (λ x ne. rw (ltb-other x b ne));
-      }
-
-  pub merging-pass : b < 256 → getD other b false ≡ false → Merging other (b + 1) before after
-  merging-pass l e = record { within = omega arith; over = over-same (w .over) (joinedTo other (b + 1)) (λ x. go x (eqb x b) refl) }
-    where
-      go : (x : ℕ) (t : Bool) → eqb x b ≡ t → joinedTo other (b + 1) x ≡ joinedTo other b x
-      go x true q = let z : x ≡ b = eqb-true x b q in rw (z, e, and-false-right (ltb b (b + 1)), and-false-right (ltb b b))
-      go x false q = rw (ltb-other x b (eqb-false x b q))
-
-  pub merging-end : 256 ≤ b → (x : ℕ) → x < 256 → getD after x false ≡ getD other x false || getD before x false
-  merging-end l x p = w .over .marks x p ∙ rw (lt-ltb x b (omega arith))
+-- a range
+pub ranging-end : {low high b : ℕ} {before after : List Bool} → Filling (λ (x : ℕ). true) low b before after → high < b
+    → b ≤ low + (high + 1 - low) → Ranged low high before after
+ranging-end {low} {high} {before = before} {after} w l m = record { size = w .size; marks = λ x. go x (leb low x) refl (leb x high) refl }
+  where
+    go : (x : ℕ) (s : Bool) → leb low x ≡ s → (t : Bool) → leb x high ≡ t → getD after x false ≡ s && t || getD before x false
+    go x true p true q =
+        let y : low ≤ x = leb-true low x p in
+        let z : x ≤ high = leb-true x high q in
+        w .inside x y (omega arith)
+    go x true p false q =
+        let y : low ≤ x = leb-true low x p in
+        let z : high < x = leb-false x high q in
+        w .outside x (inr (omega arith))
+    go x false p t q = let y : x < low = leb-false low x p in w .outside x (inl y)
 
 -- ---- the lowest byte
 

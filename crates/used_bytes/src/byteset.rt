@@ -1,8 +1,9 @@
 // A set of bytes: 256 marks in one record, by value.
 ghost use mathlib.Core.Path.{_≡_};
-ghost use mathlib.Core.Bool.{true, false, _||_, _&&_};
+ghost use mathlib.Core.Bool.{false, _||_, _&&_};
 ghost use Prim.Native.Nat.{ℕ, _<_};
-ghost use Rattle.used_bytes.specs.Contracts.{mark, between, lowestOf};
+ghost use lib.ListN.{length};
+ghost use Rattle.used_bytes.specs.Contracts.{mark, Ranged, lowestOf};
 ghost use Rattle.used_bytes.specs.Bytes.{lowestFrom};
 
 pub struct ByteSet {
@@ -25,30 +26,14 @@ impl ByteSet {
         }
     }
 
-    // With the bytes from `low` to `high`, both included.
-    pub fn with_range(mut self, low: usize, high: usize) -> ByteSet
-        requires { ⌜ high < 256 ⌝ }
-        ensures { λ r. ⌜ ((b : ℕ) → b < 256 → mark r b ≡ between low high b || mark self b) ⌝ }
-    {
-        let mut b = low;
-        while b <= high {
-            self.marks[b] = true;
-            b += 1;
-        }
-        self
-    }
-
     // With the bytes of another set.
     pub fn joined(mut self, other: ByteSet) -> ByteSet
-        ensures { λ r. ⌜ ((b : ℕ) → b < 256 → mark r b ≡ mark other b || mark self b) ⌝ }
+        ensures { λ r. ⌜ ((b : ℕ) → b < 256 → mark r b ≡ mark self b || mark other b) ⌝ }
     {
         let mut b = 0;
         while b < 256 {
-            let k = b;
+            self.marks[b] = self.marks[b] | other.marks[b];
             b += 1;
-            if other.marks[k] {
-                self.marks[k] = true;
-            }
         }
         self
     }
@@ -68,5 +53,17 @@ impl ByteSet {
             }
         }
         Lowest::Nothing
+    }
+}
+
+// Marks the bytes from `low` to `high`, both included.
+pub fn mark_range(marks: &mut [bool; 256], low: usize, high: usize)
+    requires { ⌜ (high < 256) × (length (now marks) ≡ 256) ⌝ }
+    ensures { λ r. ⌜ Ranged low high (now (marks .entry)) (now (marks .exit)) ⌝ }
+{
+    let mut b = low;
+    while b <= high {
+        marks[b] = true;
+        b += 1;
     }
 }

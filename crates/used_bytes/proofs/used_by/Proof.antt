@@ -1,77 +1,107 @@
--- `used_by`: the invariant is `Gathered`, the transitions that leave a state below `s`. Assumes nothing.
-use mathlib.Core.Path.{_≡_}
-use Prim.Native.Nat.{_+_, _-_, _*_, _≤_}
+-- `used_by`: the invariant is `Gathering`, the transitions left and the marks together. Assumes nothing.
+use mathlib.Core.Path.{_≡_, sym, ap, _∙_}
+use Prim.Native.Nat.{_-_, _<_}
 use native.Mathlib.Omega.{arith}
+use lib.ListN.{length}
 use borrow.Author.Needs.{needs}
+use denote.Ref.{now}
 use Rattle.automaton.specs.Rule.{Rule}
-use Rattle.automaton.specs.Contracts.{Table, leaving}
-use Rattle.automaton.proofs.Walks.{header-error}
-use Rattle.used_bytes.proofs.Gathering.{Gathered, gathered-start, gathered-next, gathered-end}
+use Rattle.automaton.specs.Contracts.{stateOf, Table}
+use Rattle.used_bytes.proofs.Gathering.{Gathering, gathering-start, gathering-room, gathering-pass, gathering-mark, gathering-end}
 use Rattle.used_bytes.proofs.used_by.Statement.{statement}
 use Rattle.used_bytes.proofs.used_by.Tie as tie
 
 abbrev Inv-loop : tie.InvT-loop
-Inv-loop headers states edges rule error base set₀ s₀ set s = (s ≤ 256)
-    × ((m : Rule) → Table headers states edges rule m → Gathered m s (set .marks))
+Inv-loop table rule error first at₀ set₀ at set =
+    (length (set .marks) ≡ 256) × ((m : Rule) → Table table rule m → Gathering table first at m (set .marks))
 
 abbrev μ-loop : tie.MeasureT-loop
-μ-loop headers states edges rule error base set₀ s₀ set s = 256 - s
+μ-loop table rule error first at₀ set₀ at set = at
 
-mul-error : tie.Need-mul-error Inv-loop μ-loop
-mul-error c = omega (arith, c .before .before .before .pre .table .room, c .before .before .before .good .0 .1)
+error-of-requires : tie.Need-error-of-requires Inv-loop μ-loop
+error-of-requires c κs = search needs
 
-shared-slice-read-error : tie.Need-shared-slice-read-error Inv-loop μ-loop
-shared-slice-read-error c = c .before .before .before .before .pre .table .room
+first-of-requires : tie.Need-first-of-requires Inv-loop μ-loop
+first-of-requires c κs = search needs
 
-mul-base : tie.Need-mul-base Inv-loop μ-loop
-mul-base c = omega (arith, c .before .before .before .before .pre .table .cells .room, c .before .before .before .before .good .1 .0 .0)
+end-of-requires : tie.Need-end-of-requires Inv-loop μ-loop
+end-of-requires c κs = search needs
 
 empty-requires : tie.Need-empty-requires Inv-loop μ-loop
 empty-requires c κs = search needs
 
 loop-holds : tie.Need-loop-holds Inv-loop μ-loop
-loop-holds c = (omega arith, λ m t. gathered-start m _ (c .empty .ensures))
+loop-holds c = (
+  search needs,
+  λ m t. gathering-start t (c .before .before .first-of .ensures) (c .before .end-of .ensures) _
+      (c .empty .ensures),
+)
 
-add-cell : tie.Need-add-cell Inv-loop μ-loop
-add-cell c =
-    let start = c .before .before .before .before .before .before .before in
-    omega (arith, start .pre .table .cells .room, start .good .1 .0 .0)
+sub-at : tie.Need-sub-at Inv-loop μ-loop
+sub-at c = omega arith
 
-mul-cell : tie.Need-mul-cell Inv-loop μ-loop
-mul-cell c =
-    let start = c .before .before .before .before .before .before .before in
-    omega (arith, start .pre .table .cells .room, start .good .1 .0 .1)
+room : (c : tie.In-loop Inv-loop μ-loop) → c .before .loop .at - 1 < length
+    (now (c .before .before .before .before .before .before .before .args .table))
+room c = gathering-room (c .before .loop .inv .1 (c .before .before .before .before .before .before .before .pre .rule)
+    (c .before .before .before .before .before .before .before .pre .table)) (c .loop-test .taken)
 
-shared-slice-read-cell : tie.Need-shared-slice-read-cell Inv-loop μ-loop
-shared-slice-read-cell c = omega (arith, c .before .before .before .before .before .before .before .before .pre .table .cells .room)
+mul-e : tie.Need-mul-e Inv-loop μ-loop
+mul-e c = omega (arith, room c, c .before .before .before .before .before .before .before .good .0 .1)
 
-cast-with-chain : tie.Need-cast-with-chain Inv-loop μ-loop
-cast-with-chain c = omega (arith, c .shared-slice-known5 .given
-    (c .before .before .before .before .before .before .before .before .args .rule * 256 + c .before .before .loop .s))
+shared-slice-read-e : tie.Need-shared-slice-read-e Inv-loop μ-loop
+shared-slice-read-e c = room (c .before)
 
-with-chain-requires : tie.Need-with-chain-requires Inv-loop μ-loop
-with-chain-requires c κs =
-    let start = c .before .before .before .before .before .before .before .before in
-    record { transitions = leaving (c .before .before .loop .s) (start .pre .rule .transitions); chain = start .pre .table .cells .chains
-        (c .before .before .loop .s) (c .before .loop-test .taken) }
+spot-requires : tie.Need-spot-requires Inv-loop μ-loop
+spot-requires c κs = search needs
 
-add-s : tie.Need-add-s Inv-loop μ-loop
-add-s c = omega arith
+state-requires : tie.Need-state-requires Inv-loop μ-loop
+state-requires c κs = search needs
+
+low-requires : tie.Need-low-requires Inv-loop μ-loop
+low-requires c κs = search needs
+
+high-requires : tie.Need-high-requires Inv-loop μ-loop
+high-requires c κs = search needs
+
+mark-range-requires : tie.Need-mark-range-requires Inv-loop μ-loop
+mark-range-requires c κs = (
+  omega (arith, c .high .ensures),
+  c .before .before .before .before .before .before .before .before .loop .inv .0,
+)
 
 loop-less : tie.Need-loop-less Inv-loop μ-loop
-loop-less c = omega arith
+loop-less c = omega (arith, c .before .before .before .before .before .before .before .before .loop-test .taken)
 
 loop-again : tie.Need-loop-again Inv-loop μ-loop
-loop-again c =
-    let head = c .before .before .before in
-    (omega arith, λ m t. gathered-next t (head .loop .inv .1 m t) _ (header-error t)
-        (c .with-chain .ensures (leaving (head .loop .s) m.transitions)
-        (t .cells .chains (head .loop .s) (c .before .before .loop-test .taken))))
+loop-again c = (
+  c .mark-range .ensures .size,
+  λ m t.
+      gathering-mark (c .before .before .before .before .before .before .before .before .before .loop .inv .1 m t)
+      (c .before .before .before .before .before .before .before .before .loop-test .taken)
+      (λ z. c .before .before .before .before .if1 .taken (c .before .before .before .before .before .state .ensures ∙ ap stateOf
+      (c .before .before .before .before .before .before .spot .ensures) ∙ z ∙ sym
+      (c .before .before .before .before .before .before .before .before .before .before .before .before .before .error-of .ensures m
+      t)))
+      (λ b l. rw (← (c .before .before .before .low .ensures), ← (c .before .high .ensures)) (c .mark-range .ensures .marks b)),
+)
+
+loop-less-2 : tie.Need-loop-less-2 Inv-loop μ-loop
+loop-less-2 c = omega (arith, c .before .before .before .before .loop-test .taken)
+
+loop-again-2 : tie.Need-loop-again-2 Inv-loop μ-loop
+loop-again-2 c = (
+  c .before .before .before .before .before .loop .inv .0,
+  λ m t.
+      gathering-pass (c .before .before .before .before .before .loop .inv .1 m t) (c .before .before .before .before .loop-test .taken)
+      (sym (c .before .state .ensures ∙ ap stateOf (c .before .before .spot .ensures)) ∙ c .if1 .left
+      ∙ c .before .before .before .before .before .before .before .before .before .error-of .ensures m t),
+)
 
 returns : tie.Need-returns Inv-loop μ-loop
-returns c = λ m t. let e : c .before .loop .s ≡ 256 = omega arith in gathered-end t (rw e at (c .before .loop .inv .1 m t))
+returns c = λ m t b l. gathering-end (c .before .loop .inv .1 m t) (c .loop-test .left) b l
 
 pub used-by-spec : {M : Type 1} → statement M
 used-by-spec =
-    tie.close (tie.spec Inv-loop μ-loop mul-error shared-slice-read-error mul-base empty-requires loop-holds add-cell mul-cell
-    shared-slice-read-cell cast-with-chain with-chain-requires add-s loop-less loop-again returns)
+    tie.close (tie.spec Inv-loop μ-loop error-of-requires first-of-requires end-of-requires empty-requires loop-holds sub-at mul-e
+    shared-slice-read-e spot-requires state-requires low-requires high-requires mark-range-requires loop-less loop-again loop-less-2
+    loop-again-2 returns)

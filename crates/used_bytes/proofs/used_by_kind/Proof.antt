@@ -1,92 +1,83 @@
--- `used_by_kind`: the invariant is `Kinds`, the first rules of the kind. Assumes nothing.
+-- `used_by_kind`: the invariant is `Kinds`, the bytes that the first rules of the kind use. Assumes nothing.
 use mathlib.Core.Path.{sym, _∙_}
 use mathlib.Core.List.{List}
 use Prim.Native.Nat.{_-_, _≤_, _<_}
 use native.Mathlib.Omega.{arith}
 use lib.ListN.{length}
 use borrow.Author.Needs.{needs}
+use denote.Ref.{now}
 use Rattle.automaton.specs.Rule.{Rule}
-use Rattle.automaton.specs.Contracts.{ruleAt}
-use Rattle.automaton.proofs.Walks.{header-kind}
-use Rattle.longest_match.specs.Contracts.{Holds}
-use Rattle.longest_match.proofs.Held.{table-at}
+use Rattle.automaton.specs.Contracts.{Table, Tabled, Holds, ruleAt}
 use Rattle.used_bytes.proofs.Gathering.{Kinds, kinds-start, kinds-join, kinds-pass, kinds-end}
 use Rattle.used_bytes.proofs.used_by_kind.Statement.{statement}
 use Rattle.used_bytes.proofs.used_by_kind.Tie as tie
 
 abbrev Inv-loop : tie.InvT-loop
-Inv-loop headers states edges rules kind set₀ next₀ set next = (next ≤ rules)
-    × ((rs : List Rule) → Holds headers states edges rules rs → Kinds rs kind next (set .marks))
+Inv-loop table kind rules set₀ next₀ set next = (rs : List Rule) → Holds table rs → Kinds rs kind next (set .marks)
 
 abbrev μ-loop : tie.MeasureT-loop
-μ-loop headers states edges rules kind set₀ next₀ set next = rules - next
+μ-loop table kind rules set₀ next₀ set next = rules - next
+
+count-of-requires : tie.Need-count-of-requires Inv-loop μ-loop
+count-of-requires c κs = search needs
 
 empty-requires : tie.Need-empty-requires Inv-loop μ-loop
 empty-requires c κs = search needs
 
 loop-holds : tie.Need-loop-holds Inv-loop μ-loop
-loop-holds c = (omega arith, λ rs h. kinds-start rs _ _ (c .empty .ensures))
+loop-holds c = λ rs h. kinds-start rs _ _ (c .empty .ensures)
 
 add-next : tie.Need-add-next Inv-loop μ-loop
 add-next c = omega arith
 
-mul-header : tie.Need-mul-header Inv-loop μ-loop
-mul-header c =
-    let start = c .before .before .before .before .before .before in
-    omega (arith, table-at (start .pre .holds) (c .loop-test .taken) .room, start .good .0 .1)
+-- there is a rule number `next`
+more : (c : tie.In-loop Inv-loop μ-loop) (rs : List Rule) → Holds (now (c .before .before .before .before .before .args .table)) rs
+    → c .before .loop .next < length rs
+more c rs h = omega (arith, c .loop-test .taken, c .before .before .before .count-of .ensures rs h)
 
-shared-slice-read-header : tie.Need-shared-slice-read-header Inv-loop μ-loop
-shared-slice-read-header c = table-at (c .before .before .before .before .before .before .before .pre .holds)
-    (c .before .loop-test .taken) .room
+here : (c : tie.In-loop Inv-loop μ-loop) (rs : List Rule) (h : Holds (now (c .before .before .before .before .before .args .table)) rs)
+    → Table (now (c .before .before .before .before .before .args .table)) (c .before .loop .next) (ruleAt rs (c .before .loop .next))
+here c rs h = h .each (c .before .loop .next) (more c rs h)
+
+tabled : (c : tie.In-loop Inv-loop μ-loop) → Tabled (now (c .before .before .before .before .before .args .table)) (c .before .loop .next)
+tabled c = record {
+  rule = ruleAt (c .before .before .before .before .before .pre .rules) (c .before .loop .next);
+  table =
+      here c (c .before .before .before .before .before .pre .rules) (c .before .before .before .before .before .pre .holds);
+}
 
 kind-of-requires : tie.Need-kind-of-requires Inv-loop μ-loop
-kind-of-requires c κs = search needs
+kind-of-requires c κs = tabled c
 
 used-by-requires : tie.Need-used-by-requires Inv-loop μ-loop
-used-by-requires c κs =
-    let start = c .before .before .before .before .before .before .before .before .before in
-    record { rule = ruleAt (start .pre .rules) (c .before .before .before .before .loop .next); table = table-at (start .pre .holds)
-        (c .before .before .before .loop-test .taken) }
+used-by-requires c κs = tabled (c .before .before)
 
 joined-requires : tie.Need-joined-requires Inv-loop μ-loop
 joined-requires c κs = search needs
 
 loop-less : tie.Need-loop-less Inv-loop μ-loop
-loop-less c = omega arith
+loop-less c = omega (arith, c .before .before .before .before .loop-test .taken)
 
 loop-again : tie.Need-loop-again Inv-loop μ-loop
-loop-again c =
-    let test = c .before .before .before .before .before in
-    let head = test .before in
-    (
-  omega arith,
-  λ rs h.
-      let l : head .loop .next < length rs = omega (arith, test .loop-test .taken, h .count) in
-      let t = table-at h (test .loop-test .taken) in
-      kinds-join (head .loop .inv .1 rs h) l (c .before .used-by .result .marks)
-          (sym (header-kind t) ∙ sym (c .before .before .before .kind-of .ensures) ∙ c .before .before .if1 .taken)
-          (c .before .used-by .ensures _ t) (c .joined .ensures),
-)
+loop-again c = λ rs h.
+    let t = here (c .before .before .before .before) rs h in
+    kinds-join (c .before .before .before .before .before .loop .inv rs h) (more (c .before .before .before .before) rs h)
+    (sym (c .before .before .before .kind-of .ensures _ t) ∙ c .before .before .if1 .taken)
+    (λ b l. c .joined .ensures b l ∙ rw (c .before .used-by .ensures _ t b l))
 
 loop-less-2 : tie.Need-loop-less-2 Inv-loop μ-loop
-loop-less-2 c = omega arith
+loop-less-2 c = omega (arith, c .before .before .loop-test .taken)
 
 loop-again-2 : tie.Need-loop-again-2 Inv-loop μ-loop
-loop-again-2 c =
-    let test = c .before .before .before in
-    let head = test .before in
-    (
-  omega arith,
-  λ rs h.
-      let l : head .loop .next < length rs = omega (arith, test .loop-test .taken, h .count) in
-      let t = table-at h (test .loop-test .taken) in
-      kinds-pass (head .loop .inv .1 rs h) l (λ z. c .if1 .left (c .before .kind-of .ensures ∙ header-kind t ∙ z)),
-)
+loop-again-2 c = λ rs h.
+    kinds-pass (c .before .before .before .loop .inv rs h) (more (c .before .before) rs h)
+    (λ z. c .if1 .left (c .before .kind-of .ensures _ (here (c .before .before) rs h) ∙ z))
 
 returns : tie.Need-returns Inv-loop μ-loop
-returns c = λ rs h. kinds-end (c .before .loop .inv .1 rs h) (omega (arith, h .count))
+returns c = λ rs h. kinds-end (c .before .loop .inv rs h)
+    (omega (arith, c .loop-test .left, c .before .before .before .count-of .ensures rs h))
 
 pub used-by-kind-spec : {M : Type 1} → statement M
 used-by-kind-spec =
-    tie.close (tie.spec Inv-loop μ-loop empty-requires loop-holds add-next mul-header shared-slice-read-header kind-of-requires
-    used-by-requires joined-requires loop-less loop-again loop-less-2 loop-again-2 returns)
+    tie.close (tie.spec Inv-loop μ-loop count-of-requires empty-requires loop-holds add-next kind-of-requires used-by-requires
+    joined-requires loop-less loop-again loop-less-2 loop-again-2 returns)
