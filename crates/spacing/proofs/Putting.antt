@@ -7,8 +7,8 @@ use native.Mathlib.Omega.{arith}
 use lib.ListN.{length, drop, length-append}
 use lib.Seq.{drop-length}
 use Rattle.automaton.specs.Rule.{Rule}
+use Rattle.automaton.specs.Contracts.{Holds}
 use Rattle.longest_match.specs.Lexer.{Token, Alone, join}
-use Rattle.longest_match.specs.Contracts.{Holds}
 use Rattle.record.specs.Records.{recordCount}
 use Rattle.record.specs.declared.TokenRecord.{TokenRecord}
 use Rattle.record.specs.Tokens.{recordAt, bytesIn, tokenIn, tokensIn, InPool}
@@ -64,13 +64,13 @@ pub record Putting (rules : List Rule) (sep : TokenRecord) (mode : ℕ) (records
   pub few : k ≤ recordCount records
   pub laid : drop at scratch ≡ join (separated rules (tokenIn pool sep) mode (tokensIn pool (left records k)))
 
-module _ {hs ss es : List ℕ} {n : ℕ} {sep : TokenRecord} {records pool : List ℕ} (p : Spaceable hs ss es n sep records pool) {k : ℕ}
+module _ {tb : List ℕ} {sep : TokenRecord} {records pool : List ℕ} (p : Spaceable tb sep records pool) {k : ℕ}
     (l : k < recordCount records)
     {r : TokenRecord} (e : r ≡ recordAt records k) where
   pub spaced-inside : InPool pool r
   spaced-inside = rw e (record-at (InPool pool) records (p .inside) k l)
 
-  pub spaced-alone : (rules : List Rule) → Holds hs ss es n rules → Alone rules (tokenIn pool r)
+  pub spaced-alone : (rules : List Rule) → Holds tb rules → Alone rules (tokenIn pool r)
   spaced-alone rules h = rw e (record-at (λ (q : TokenRecord). Alone rules (tokenIn pool q)) records (p .alone rules h) k l)
 
 module _ (rules : List Rule) (sep : TokenRecord) (mode : ℕ) (records pool : List ℕ) where

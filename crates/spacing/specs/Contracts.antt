@@ -6,8 +6,8 @@ use Prim.Native.Nat.{ℕ}
 use lib.ListN.{length}
 use Rattle.automaton.specs.Rule.{Rule}
 use Rattle.automaton.specs.Choice.{All}
+use Rattle.automaton.specs.Contracts.{Holds, Held}
 use Rattle.longest_match.specs.Lexer.{Token, Alone, join}
-use Rattle.longest_match.specs.Contracts.{Holds, Held}
 use Rattle.record.specs.declared.TokenRecord.{TokenRecord}
 use Rattle.record.specs.Tokens.{recordsOf, tokenIn, InPool}
 
@@ -27,9 +27,9 @@ pub record Ahead (rules : List Rule) (t : Token) (us : List Token) (len : ℕ) (
 
 -- ---- putting a list together
 
--- the separator and the tokens lie in the pool, and every token is cut as itself alone, whichever rules the tables hold
-pub record Spaceable (hs ss es : List ℕ) (n : ℕ) (sep : TokenRecord) (records pool : List ℕ) : Type 0 where
-  pub held : Held hs ss es n
+-- the separator and the tokens lie in the pool, and every token is cut as itself alone, whichever rules the table holds
+pub record Spaceable (tb : List ℕ) (sep : TokenRecord) (records pool : List ℕ) : Type 0 where
+  pub held : Held tb
   pub separator : InPool pool sep
   pub inside : All (InPool pool) (recordsOf records)
-  pub alone : (rules : List Rule) → Holds hs ss es n rules → All (λ (r : TokenRecord). Alone rules (tokenIn pool r)) (recordsOf records)
+  pub alone : (rules : List Rule) → Holds tb rules → All (λ (r : TokenRecord). Alone rules (tokenIn pool r)) (recordsOf records)

@@ -6,8 +6,8 @@ ghost use mathlib.Core.List.{List};
 ghost use Prim.Native.Nat.{_≤_};
 ghost use lib.ListN.{length, drop};
 ghost use Rattle.automaton.specs.Rule.{Rule};
+ghost use Rattle.automaton.specs.Contracts.{Holds, Held};
 ghost use Rattle.longest_match.specs.Lexer.{Token};
-ghost use Rattle.longest_match.specs.Contracts.{Holds, Held};
 ghost use Rattle.spacing.specs.Separators.{meaning, follows};
 ghost use Rattle.spacing.specs.Contracts.{Ahead};
 
@@ -19,20 +19,10 @@ fn meaning_of(mode: u32) -> u32
 }
 
 // Whether a separator follows the token of `len` bytes at `start`, behind which the rest is written.
-pub fn is_due(
-    headers: &[u64],
-    states: &[u16],
-    edges: &[u64],
-    rules: usize,
-    mode: u32,
-    last: bool,
-    text: &[u8],
-    start: usize,
-    len: usize,
-) -> bool
-    requires { ⌜ Held (now headers) (now states) (now edges) rules ⌝ }
+pub fn is_due(table: &[u64], mode: u32, last: bool, text: &[u8], start: usize, len: usize) -> bool
+    requires { ⌜ Held (now table) ⌝ }
     requires { ⌜ start ≤ length (now text) ⌝ }
-    ensures { λ r. ⌜ ((rs : List Rule) → Holds (now (headers .entry)) (now (states .entry)) (now (edges .entry)) rules rs
+    ensures { λ r. ⌜ ((rs : List Rule) → Holds (now (table .entry)) rs
         → (t : Token) (us : List Token) → Ahead rs t us len last (drop start (now (text .entry))) → r ≡ follows rs mode t us) ⌝ }
 {
     if last {
@@ -41,7 +31,7 @@ pub fn is_due(
     if meaning_of(mode) == 1 {
         return true;
     }
-    let chosen = longest_match::choose(headers, states, edges, rules, text, start, text.len());
+    let chosen = longest_match::choose(table, text, start, text.len());
     if chosen.len != len {
         return true;
     }

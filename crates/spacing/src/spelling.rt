@@ -7,8 +7,8 @@ ghost use mathlib.Core.List.{List, _∷_};
 ghost use Prim.Native.Nat.{_≤_};
 ghost use lib.ListN.{length, drop};
 ghost use Rattle.automaton.specs.Rule.{Rule};
+ghost use Rattle.automaton.specs.Contracts.{Holds, Held};
 ghost use Rattle.longest_match.specs.Lexer.{Token, Alone, join};
-ghost use Rattle.longest_match.specs.Contracts.{Holds, Held};
 ghost use Rattle.record.specs.Tokens.{tokenIn, InPool};
 ghost use Rattle.output.specs.Contracts.{Stands};
 ghost use Rattle.spacing.specs.Separators.{follows, put, spelled};
@@ -16,10 +16,7 @@ ghost use Rattle.spacing.specs.Contracts.{isLast, Spaceable};
 
 // The token, with the separator behind it where one is due.
 fn put_token(
-    headers: &[u64],
-    states: &[u16],
-    edges: &[u64],
-    rules: usize,
+    table: &[u64],
     mode: u32,
     pool: &[u8],
     token: TokenRecord,
@@ -28,11 +25,11 @@ fn put_token(
     scratch: &mut [u8],
     at: usize,
 ) -> Placed
-    requires { ⌜ Held (now headers) (now states) (now edges) rules ⌝ }
+    requires { ⌜ Held (now table) ⌝ }
     requires { ⌜ InPool (now pool) token ⌝ }
     requires { ⌜ InPool (now pool) separator ⌝ }
     requires { ⌜ at ≤ length (now scratch) ⌝ }
-    ensures { λ r. ⌜ ((rs : List Rule) → Holds (now (headers .entry)) (now (states .entry)) (now (edges .entry)) rules rs
+    ensures { λ r. ⌜ ((rs : List Rule) → Holds (now (table .entry)) rs
         → Alone rs (tokenIn (now (pool .entry)) token) → (us : List Token) → drop at (now (scratch .entry)) ≡ join us → last ≡ isLast us
         → Stands r
         (join (tokenIn (now (pool .entry)) token
@@ -41,17 +38,7 @@ fn put_token(
 {
     match output::put_token(pool, token, scratch, at) {
         Placed::At(start) => {
-            if crate::is_due(
-                headers,
-                states,
-                edges,
-                rules,
-                mode,
-                last,
-                scratch,
-                start,
-                token.len as usize,
-            ) {
+            if crate::is_due(table, mode, last, scratch, start, token.len as usize) {
                 return output::put_both(pool, token, separator, scratch, at);
             }
             Placed::At(start)
@@ -62,18 +49,15 @@ fn put_token(
 
 // All the tokens of the list, to the end of the scratch.
 pub fn put_list(
-    headers: &[u64],
-    states: &[u16],
-    edges: &[u64],
-    rules: usize,
+    table: &[u64],
     separator: TokenRecord,
     mode: u32,
     records: &[u8],
     pool: &[u8],
     scratch: &mut [u8],
 ) -> Placed
-    requires { ⌜ Spaceable (now headers) (now states) (now edges) rules separator (now records) (now pool) ⌝ }
-    ensures { λ r. ⌜ ((rs : List Rule) → Holds (now (headers .entry)) (now (states .entry)) (now (edges .entry)) rules rs
+    requires { ⌜ Spaceable (now table) separator (now records) (now pool) ⌝ }
+    ensures { λ r. ⌜ ((rs : List Rule) → Holds (now (table .entry)) rs
         → Stands r (spelled rs separator mode (now (records .entry)) (now (pool .entry))) (now (scratch .exit))) ⌝ }
 {
     let count = records.len() / 10;
@@ -83,19 +67,7 @@ pub fn put_list(
         let last = k == count;
         k -= 1;
         let token = record::read_record(records, k);
-        match put_token(
-            headers,
-            states,
-            edges,
-            rules,
-            mode,
-            pool,
-            token,
-            separator,
-            last,
-            scratch,
-            at,
-        ) {
+        match put_token(table, mode, pool, token, separator, last, scratch, at) {
             Placed::At(start) => at = start,
             Placed::Full => return Placed::Full,
         }

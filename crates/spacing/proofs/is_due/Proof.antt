@@ -19,7 +19,7 @@ returns-2 c = λ rs h t us a. due-always _ a (c .before .before .if1 .left) (sym
 
 choose-requires : tie.Need-choose-requires
 choose-requires c κs =
-    let start = c .before .before .before .before .before .before .before in
+    let start = c .before .before .before .before .before in
     (start .pre .0, (start .pre .1, le-refl _))
 
 returns-3 : tie.Need-returns-3

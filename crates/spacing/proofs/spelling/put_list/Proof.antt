@@ -6,22 +6,22 @@ use lib.ListN.{length}
 use borrow.Author.Needs.{needs}
 use denote.Ref.{now}
 use Rattle.automaton.specs.Rule.{Rule}
-use Rattle.longest_match.specs.Contracts.{Holds}
+use Rattle.automaton.specs.Contracts.{Holds}
 use Rattle.spacing.proofs.Separated.{from, from-last}
 use Rattle.spacing.proofs.Putting.{Putting, spaced-inside, spaced-alone, putting-start, putting-next, putting-full, putting-end}
 use Rattle.spacing.proofs.spelling.put_list.Statement.{statement}
 use Rattle.spacing.proofs.spelling.put_list.Tie as tie
 
 abbrev Inv-loop : tie.InvT-loop
-Inv-loop headers states edges rules separator mode records pool scratch₀ count at₀ k₀ scratch at k = (length scratch ≡ length scratch₀)
-    × ((rs : List Rule) → Holds headers states edges rules rs → Putting rs separator mode records pool scratch at k)
+Inv-loop table separator mode records pool scratch₀ count at₀ k₀ scratch at k = (length scratch ≡ length scratch₀)
+    × ((rs : List Rule) → Holds table rs → Putting rs separator mode records pool scratch at k)
 
 abbrev μ-loop : tie.MeasureT-loop
-μ-loop headers states edges rules separator mode records pool scratch₀ count at₀ k₀ scratch at k = k
+μ-loop table separator mode records pool scratch₀ count at₀ k₀ scratch at k = k
 
 loop-holds : tie.Need-loop-holds Inv-loop μ-loop
 loop-holds c =
-    let start = c .before .before .before .before .before .before in
+    let start = c .before .before .before .before in
     (refl, λ rs h. putting-start rs (start .args .separator) (start .args .mode) (now (start .args .records)) (now (start .args .pool)) _
         _ refl)
 
@@ -30,13 +30,13 @@ sub-k c = omega (arith, c .loop-test .taken)
 
 read-record-requires : tie.Need-read-record-requires Inv-loop μ-loop
 read-record-requires c κs =
-    let start = c .before .before .before .before .before .before .before .before in
+    let start = c .before .before .before .before .before .before in
     omega (arith, c .loop-test .taken, (c .before .loop .inv .1 (start .pre .held .rules) (start .pre .held .holds)) .few)
 
 put-token-requires : tie.Need-put-token-requires Inv-loop μ-loop
 put-token-requires c κs =
     let head = c .before .before .before in
-    let start = head .before .before .before .before .before .before .before in
+    let start = head .before .before .before .before .before in
     (start .pre .held, (spaced-inside (start .pre) (omega
         (arith, (head .loop .inv .1 (start .pre .held .rules) (start .pre .held .holds)) .few, c .before .before .loop-test .taken))
         (c .before .read-record .ensures), (start .pre .separator,
@@ -54,8 +54,8 @@ loop-again c =
     let at-read-record = at-put-token .before .before in
     let test = at-read-record .before in
     let head = test .before in
-    let start′ = head .before .before .before .before .before .before .before in
-    (at-put-token .put-token .kept .1 .1 .1 .1 .1 .1 .1 .1 .1 .0
+    let start′ = head .before .before .before .before .before in
+    (at-put-token .put-token .kept .1 .1 .1 .1 .1 .1 .0
         ∙ head .loop .inv .0, λ rs h. putting-next rs (start′ .args .separator) (start′ .args .mode) (now (start′ .args .records))
         (now (start′ .args .pool)) (head .loop .inv .1 rs h) (test .loop-test .taken) (at-read-record .read-record .ensures)
         (at-put-token .put-token .ensures rs h (spaced-alone (start′ .pre)
@@ -68,7 +68,7 @@ enum-told : tie.Need-enum-told Inv-loop μ-loop
 enum-told c = search needs
 
 same-length : tie.Need-same-length Inv-loop μ-loop
-same-length c = c .before .before .before .before .put-token .kept .1 .1 .1 .1 .1 .1 .1 .1 .1 .0
+same-length c = c .before .before .before .before .put-token .kept .1 .1 .1 .1 .1 .1 .0
     ∙ c .before .before .before .before .before .before .before .before .loop .inv .0
 
 returns : tie.Need-returns Inv-loop μ-loop
@@ -76,7 +76,7 @@ returns c =
     let at-read-record = c .before .before .before .before .before .before in
     let test = at-read-record .before in
     let head = test .before in
-    let start = head .before .before .before .before .before .before .before in
+    let start = head .before .before .before .before .before in
     λ rs h. putting-full rs (start .args .separator) (start .args .mode) (now (start .args .records)) (now (start .args .pool))
         (head .loop .inv .1 rs h) (test .loop-test .taken) (at-read-record .read-record .ensures)
         (c .before .before .before .before .put-token .ensures rs h
@@ -91,7 +91,7 @@ same-length-2 c = c .before .loop .inv .0
 
 returns-2 : tie.Need-returns-2 Inv-loop μ-loop
 returns-2 c =
-    let start = c .before .before .before .before .before .before .before .before in
+    let start = c .before .before .before .before .before .before in
     λ rs h. putting-end rs (start .args .separator) (start .args .mode) (now (start .args .records)) (now (start .args .pool))
         (c .before .loop .inv .1 rs h) (omega (arith, c .loop-test .left))
 

@@ -12,7 +12,7 @@ use Rattle.spacing.proofs.spelling.put_token.Tie as tie
 
 put-token-requires : tie.Need-put-token-requires
 put-token-requires c κs =
-    let start = c .before .before .before .before .before .before in
+    let start = c .before .before .before .before in
     (start .pre .1 .0, start .pre .1 .1 .1)
 
 enum-known-start : tie.Need-enum-known-start
@@ -23,14 +23,14 @@ cast-is-due c = search needs
 
 is-due-requires : tie.Need-is-due-requires
 is-due-requires c κs =
-    (c .before .before .before .before .before .before .before .before .before .before .before .before .before .before .pre .0,
+    (c .before .before .before .before .before .before .before .before .before .before .before .before .pre .0,
     c .before .before .before .before .before .before .before .put-token .ensures .at _
     (c .before .before .before .start .given .1) .within)
 
 put-both-requires : tie.Need-put-both-requires
 put-both-requires c κs =
     let placed = c .before .before .before .before .before .before .before .before .before .before in
-    let start = placed .before .before .before .before .before .before .before in
+    let start = placed .before .before .before .before .before in
     (start .pre .1 .0, (start .pre .1 .1 .0, omega (arith, placed .put-token .kept, start .pre .1 .1 .1)))
 
 same-length : tie.Need-same-length
@@ -39,7 +39,7 @@ same-length c = search needs
 returns : tie.Need-returns
 returns c =
     let at-put-token = c .before .before .before .before .before .before .before .before .before .before .before .before .before in
-    let start′ = at-put-token .before .before .before .before .before .before .before in
+    let start′ = at-put-token .before .before .before .before .before in
     λ rs h a us e l. let s = at-put-token .put-token .ensures .at _
         (c .before .before .before .before .before .before .before .before .before .start .given .1) in token-both rs
         (start′ .args .mode) (now (start′ .args .pool)) (start′ .args .token) (start′ .args .separator) us
@@ -61,7 +61,7 @@ returns-2 : tie.Need-returns-2
 returns-2 c =
     let at-start = c .before .before .before .before .before in
     let at-put-token = at-start .before .before .before .before in
-    let start′ = at-put-token .before .before .before .before .before .before .before in
+    let start′ = at-put-token .before .before .before .before .before in
     λ rs h a us e l. let s = at-put-token .put-token .ensures .at _ (at-start .start .given .1) in token-alone rs (start′ .args .mode)
         (now (start′ .args .pool)) (start′ .args .token) (start′ .args .separator) us
         (drop (start′ .args .at) (now (start′ .args .scratch))) e
@@ -75,7 +75,7 @@ same-length-3 c = search needs
 
 returns-3 : tie.Need-returns-3
 returns-3 c =
-    let start = c .before .before .before .before .before .before .before .before .before .before .before in
+    let start = c .before .before .before .before .before .before .before .before .before in
     λ rs h a us e l. token-full rs (start .args .mode) (now (start .args .pool)) (start .args .token) (start .args .separator) us
         (drop (start .args .at) (now (start .args .scratch))) e (c .enum-told .given .1)
         (c .before .before .before .before .put-token .ensures)
