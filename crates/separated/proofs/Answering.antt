@@ -14,9 +14,9 @@ use Rattle.answer.specs.declared.Refusal.{Refusal}
 use Rattle.answer.specs.declared.BookAnswer.{BookAnswer}
 use Rattle.answer.specs.declared.PrintAnswer.{PrintAnswer}
 use Rattle.automaton.specs.Rule.{Rule}
+use Rattle.automaton.specs.Contracts.{Holds}
 use Rattle.book.specs.Limits.{maxText}
 use Rattle.reader.specs.Contracts.{Loaded}
-use Rattle.longest_match.specs.Contracts.{Holds}
 use Rattle.record.specs.declared.TokenRecord.{TokenRecord}
 use Rattle.record.specs.Tokens.{recordsOf}
 use Rattle.lexer.proofs.Outcomes.{loaded-rules, loaded-refused}
@@ -29,7 +29,7 @@ use Rattle.spacing.specs.Separators.{spelled}
 use Rattle.spacing.specs.Contracts.{Spaceable}
 use Rattle.token_list.specs.Contracts.{checkedOf}
 use Rattle.separated.specs.Refusals.{separatedRefusal}
-use Rattle.separated.specs.Contracts.{Passed}
+use Rattle.separated.specs.Contracts.{Passed, Roomy}
 use Rattle.separated.specs.Outcome.{writing, separatedRules, separatedOutcome}
 use Rattle.separated.proofs.Sides.{all-map}
 use Rattle.separated.proofs.Unrefused.{CallPasses, passes}
@@ -69,15 +69,24 @@ answered-written scratch at out {total} {r} {exit} e short h = go (ltb (length o
     go true l = let g = h .lacks (ltb-true _ _ l) in rw (g .1) (answered-short (drop at scratch) out e short (ltb-true _ _ l) (g .0))
     go false l = let g = h .prints (ltb-false _ _ l) in rw (g .0) (answered-printed (drop at scratch) out e short (ltb-false _ _ l) (g .1))
 
--- what stands at the end of a scratch of that size
-module _ (scratch : List ℕ) (size : length scratch ≡ maxText) where
-  pub answered-full : {p : Placed} (bytes out : List ℕ) → Stands p bytes scratch → p ≡ placed.Full
-      → {r : PrintAnswer} → r ≡ print.Refused (record { number = 20; place = 0 }) → PrintAnswered (writing bytes out) r out
-  answered-full bytes out s e a = let l = s .full e in answered-long bytes out (omega arith) a
+-- ---- what stands at the end of a scratch
 
-  pub answered-at : {p : Placed} {start : ℕ} (bytes out : List ℕ) {exit : List ℕ} → Stands p bytes scratch → p ≡ placed.At start
-      → {r : PrintAnswer} → PrintAnswered (writing (drop start scratch) out) r exit → PrintAnswered (writing bytes out) r exit
-  answered-at bytes out {exit} s e {r} a = subst (λ (x : List ℕ). PrintAnswered (writing x out) r exit) (s .at _ e .laid) a
+pub answered-at : {p : Placed} {start : ℕ} {scratch : List ℕ} (bytes out : List ℕ) {exit : List ℕ} → Stands p bytes scratch
+    → p ≡ placed.At start → {r : PrintAnswer} → PrintAnswered (writing (drop start scratch) out) r exit
+    → PrintAnswered (writing bytes out) r exit
+answered-at bytes out {exit} s e {r} a = subst (λ (x : List ℕ). PrintAnswered (writing x out) r exit) (s .at _ e .laid) a
+
+module _ {sep : TokenRecord} {mode : ℕ} {records pool entry : List ℕ} (k : Roomy sep mode records pool entry) where
+  -- a list that finds no room is too long
+  pub answered-full : (rules : List Rule) (out : List ℕ) {p : Placed} {scratch : List ℕ} → length scratch ≡ length entry
+      → Stands p (spelled rules sep mode records pool) scratch → p ≡ placed.Full → {r : PrintAnswer}
+      → r ≡ print.Refused (record { number = 20; place = 0 }) → PrintAnswered (writing (spelled rules sep mode records pool) out) r out
+  answered-full rules out q s e a = answered-long (spelled rules sep mode records pool) out (go _ refl) a
+    where
+      go : (t : Bool) → ltb maxText (length (spelled rules sep mode records pool)) ≡ t
+          → maxText < length (spelled rules sep mode records pool)
+      go true l = ltb-true _ _ l
+      go false l = let m = k .room rules (ltb-false _ _ l) in absurd (omega (arith, s .full e))
 
 -- ---- by rules
 
@@ -111,14 +120,14 @@ module _ (rules : List Rule) (sep : TokenRecord) (mode : ℕ) (records pool : Li
 
 -- ---- by a book
 
-module _ {bytes hs ss es : List ℕ} {b : BookAnswer} {n : ℕ} (l : Loaded bytes b hs ss es) (a : b ≡ book.Accepted n) where
+module _ {bytes tb : List ℕ} {b : BookAnswer} {n : ℕ} (l : Loaded bytes b tb) (a : b ≡ book.Accepted n) where
   pub answered-book : (sep : TokenRecord) (mode : ℕ) (records pool out exit : List ℕ) (r : PrintAnswer)
-      → ((rules : List Rule) → Holds hs ss es n rules → PrintAnswered (separatedRules rules sep mode records pool out) r exit)
+      → ((rules : List Rule) → Holds tb rules → PrintAnswered (separatedRules rules sep mode records pool out) r exit)
       → PrintAnswered (separatedOutcome bytes sep mode records pool out) r exit
   unfolding separatedOutcome
   answered-book sep mode records pool out exit r h = let k = loaded-rules l a in rw (k .1 .0) (h (k .0) (k .1 .1))
 
-module _ {bytes hs ss es : List ℕ} {b : BookAnswer} {f : Refusal} (l : Loaded bytes b hs ss es) (a : b ≡ book.Refused f) where
+module _ {bytes tb : List ℕ} {b : BookAnswer} {f : Refusal} (l : Loaded bytes b tb) (a : b ≡ book.Refused f) where
   pub answered-refused : (sep : TokenRecord) (mode : ℕ) (records pool out : List ℕ)
       → PrintAnswered (separatedOutcome bytes sep mode records pool out) (print.Refused f) out
   unfolding separatedOutcome
@@ -127,10 +136,10 @@ module _ {bytes hs ss es : List ℕ} {b : BookAnswer} {f : Refusal} (l : Loaded 
 -- ---- what is put together
 
 -- a call that is not refused can be put together
-pub passed-spaceable : {hs ss es : List ℕ} {n : ℕ} {sep : TokenRecord} {mode : ℕ} {records pool : List ℕ}
-    → Passed hs ss es n sep mode records pool
-    → Spaceable hs ss es n sep records pool
-passed-spaceable {hs} {ss} {es} {n} {sep} {mode} {records} {pool} p =
+pub passed-spaceable : {tb : List ℕ} {sep : TokenRecord} {mode : ℕ} {records pool : List ℕ}
+    → Passed tb sep mode records pool
+    → Spaceable tb sep records pool
+passed-spaceable {tb} {sep} {mode} {records} {pool} p =
     record {
       held = p .held;
       separator = record { in-pool = fine (p .held .holds) .separator .faultless .in-pool };
@@ -138,5 +147,5 @@ passed-spaceable {hs} {ss} {es} {n} {sep} {mode} {records} {pool} p =
       alone = λ rules h. all-map _ _ (λ r t. alone-first rules (r .tag) _ (t .faultless .alone)) (recordsOf records) (fine h .tokens);
     }
   where
-    fine : {rules : List Rule} → Holds hs ss es n rules → CallPasses rules sep mode records pool
+    fine : {rules : List Rule} → Holds tb rules → CallPasses rules sep mode records pool
     fine {rules} h = passes rules sep mode records pool (p .unrefused rules h)

@@ -1,23 +1,20 @@
 -- The checks of the code: the search for a separator rule, the faults of tokens, the passes over a list. Assumes nothing.
 use mathlib.Core.Path.{_≡_, refl, sym, _∙_}
-use mathlib.Core.Bool.{Bool, true, false, _&&_}
+use mathlib.Core.Bool.{Bool, true, false, _&&_, Bool·beq}
 use mathlib.Core.Option.{Option, none, some}
 use mathlib.Core.List.{List, [], _∷_}
 use Prim.Native.Nat.{ℕ, zero, suc, _+_, _<_, _≤_}
 use native.Mathlib.Omega.{arith}
 use lib.Dec.{eqb}
-use lib.ListN.{length, getD}
+use lib.ListN.{length}
 use borrow.Author.Count.{below-more}
 use borrow.Author.Tests.{lt-ltb, le-ltb, eq-eqb, ne-eqb}
 use Rattle.automaton.specs.Choice.{if, any}
 use Rattle.automaton.specs.Rule.{Rule}
-use Rattle.automaton.specs.Contracts.{tagOf, kindOf, ruleAt}
-use Rattle.automaton.proofs.Tests.{clash, or-true, and-false-right}
-use Rattle.automaton.proofs.Walks.{header-tag, header-kind}
+use Rattle.automaton.specs.Contracts.{ruleAt}
+use Rattle.automaton.proofs.Tests.{or-true, and-false-right}
 use Rattle.book.specs.Limits.{maxTokens}
 use Rattle.longest_match.specs.Lexer.{or}
-use Rattle.longest_match.specs.Contracts.{Holds}
-use Rattle.longest_match.proofs.Held.{table-at}
 use Rattle.record.specs.Records.{recordCount}
 use Rattle.record.specs.declared.TokenRecord.{TokenRecord}
 use Rattle.record.specs.Tokens.{recordsOf}
@@ -51,77 +48,60 @@ any-never f [] h = refl
 any-never f (r ∷ rs) h = rw (h 0 (omega arith)) (any-never f rs (λ j l. h (suc j) (omega arith)))
 
 -- none of the first k rules is a separator of the tag
-pub record Plainly (hs : List ℕ) (rules tag k : ℕ) : Type 0 where
-  pub within : k ≤ rules
-  pub passed : (ss es : List ℕ) (rs : List Rule) → Holds hs ss es rules rs → (j : ℕ) → j < k → separator tag (ruleAt rs j) ≡ false
+pub record Plainly (rules : List Rule) (tag k : ℕ) : Type 0 where
+  pub passed : (j : ℕ) → j < k → separator tag (ruleAt rules j) ≡ false
 
-pub plainly-start : (hs : List ℕ) (rules tag : ℕ) → Plainly hs rules tag 0
-plainly-start hs rules tag = record { within = omega arith; passed = λ ss es rs h j l. absurd (omega arith) }
+pub plainly-start : (rules : List Rule) (tag : ℕ) → Plainly rules tag 0
+plainly-start rules tag = record { passed = λ j l. absurd (omega arith) }
 
-module _ {hs : List ℕ} {rules tag k : ℕ} (w : Plainly hs rules tag k) where
-  module _ (more : k < rules) where
-    next : ((ss es : List ℕ) (rs : List Rule) → Holds hs ss es rules rs → separator tag (ruleAt rs k) ≡ false)
-        → Plainly hs rules tag (k + 1)
-    next f =
-        record {
-          within = omega arith;
-          passed = λ ss es rs h. below-more (λ j. separator tag (ruleAt rs j) ≡ false) k (w .passed ss es rs h) (f ss es rs h);
-        }
+module _ {rules : List Rule} {tag k : ℕ} (w : Plainly rules tag k) where
+  next : separator tag (ruleAt rules k) ≡ false → Plainly rules tag (k + 1)
+  next e = record { passed = below-more (λ j. separator tag (ruleAt rules j) ≡ false) k (w .passed) e }
 
-    pub plainly-other : (tagOf (getD hs k 0) ≡ tag → ⊥) → Plainly hs rules tag (k + 1)
-    plainly-other ne = next (λ ss es rs h. rw (ne-eqb ((ruleAt rs k) .tag) tag (λ e. ne (header-tag (table-at h more) ∙ e))))
+  pub plainly-other : ((ruleAt rules k) .tag ≡ tag → ⊥) → Plainly rules tag (k + 1)
+  plainly-other ne = next (rw (ne-eqb ((ruleAt rules k) .tag) tag ne))
 
-    pub plainly-plain : (kindOf (getD hs k 0) ≡ separatorKind → ⊥) → Plainly hs rules tag (k + 1)
-    plainly-plain ne =
-        next (λ ss es rs h. rw (ne-eqb ((ruleAt rs k) .kind) separatorKind (λ e. ne (header-kind (table-at h more) ∙ e)), and-false-right))
+  pub plainly-plain : ((ruleAt rules k) .kind ≡ separatorKind → ⊥) → Plainly rules tag (k + 1)
+  plainly-plain ne = next (rw (ne-eqb ((ruleAt rules k) .kind) separatorKind ne, and-false-right))
 
-    pub plainly-found : tagOf (getD hs k 0) ≡ tag → kindOf (getD hs k 0) ≡ separatorKind
-        → (ss es : List ℕ) (rs : List Rule) → Holds hs ss es rules rs → true ≡ separates rs tag
-    unfolding separates
-    plainly-found e f ss es rs h =
-        sym (any-at (separator tag) rs k (omega (arith, h .count))
-        (rw (eq-eqb ((ruleAt rs k) .tag) tag (sym (header-tag (table-at h more)) ∙ e), eq-eqb ((ruleAt rs k) .kind) separatorKind
-            (sym (header-kind (table-at h more)) ∙ f))))
-
-  pub plainly-end : rules ≤ k → (ss es : List ℕ) (rs : List Rule) → Holds hs ss es rules rs → false ≡ separates rs tag
+  pub plainly-end : length rules ≤ k → false ≡ separates rules tag
   unfolding separates
-  plainly-end l ss es rs h = sym (any-never (separator tag) rs (λ j p. w .passed ss es rs h j (omega (arith, w .within, h .count))))
+  plainly-end l = sym (any-never (separator tag) rules (λ j p. w .passed j (omega arith)))
+
+pub separator-found : (rules : List Rule) (tag k : ℕ) → k < length rules → (ruleAt rules k) .tag ≡ tag
+    → (ruleAt rules k) .kind ≡ separatorKind → true ≡ separates rules tag
+unfolding separates
+separator-found rules tag k l e f =
+    sym (any-at (separator tag) rules k l
+    (rw (eq-eqb ((ruleAt rules k) .tag) tag e, eq-eqb ((ruleAt rules k) .kind) separatorKind f)))
 
 -- ---- the fault of a token, or its kind
-
-pub kind-same : (wanted kind : Bool) (number : ℕ) → wanted ≡ kind
-    → fault.Nothing ≡ faultFor (if (differs wanted kind) (some number) none)
-kind-same true true number e = refl
-kind-same true false number e = clash refl e
-kind-same false true number e = clash e refl
-kind-same false false number e = refl
-
-pub kind-other : (wanted kind : Bool) (number : ℕ) → (wanted ≡ kind → ⊥)
-    → fault.By number ≡ faultFor (if (differs wanted kind) (some number) none)
-kind-other true true number ne = absurd (ne refl)
-kind-other true false number ne = refl
-kind-other false true number ne = refl
-kind-other false false number ne = absurd (ne refl)
 
 pub or-fault : {number : ℕ} (first : Option ℕ) (test : Bool) (other : ℕ) → fault.By number ≡ faultFor first
     → fault.By number ≡ faultFor (orElse first test other)
 unfolding orElse
 or-fault first test other e = rw (by-number first e)
 
-pub or-kind : {r : Fault} (first : Option ℕ) (test : Bool) (other : ℕ) → fault.Nothing ≡ faultFor first
-    → r ≡ faultFor (if test (some other) none) → r ≡ faultFor (orElse first test other)
-unfolding orElse
-or-kind first test other e f = f ∙ rw (by-none first e)
+pub or-kind : {same : Bool} (first : Option ℕ) (kind wanted : Bool) (other : ℕ) → fault.Nothing ≡ faultFor first
+    → Bool·beq kind wanted ≡ same → faultFor (if same none (some other)) ≡ faultFor (orElse first (differs wanted kind) other)
+unfolding orElse differs
+or-kind {same} first kind wanted other e q = rw (by-none first e) (go kind wanted q)
+  where
+    go : (k w : Bool) → Bool·beq k w ≡ same → faultFor (if same none (some other)) ≡ faultFor (if (differs w k) (some other) none)
+    go true true z = rw (← z)
+    go true false z = rw (← z)
+    go false true z = rw (← z)
+    go false false z = rw (← z)
 
 module _ (rules : List Rule) (pool : List ℕ) (r : TokenRecord) {f : Fault} where
   pub separator-fault : f ≡ faultFor (orElse (faultOf rules pool r) (differs true (separates rules (r .tag))) 25)
       → f ≡ faultFor (separatorFault rules pool r)
-  unfolding separatorFault
+  unfolding separatorFault differs
   separator-fault e = e
 
   pub plain-fault : f ≡ faultFor (orElse (faultOf rules pool r) (differs false (separates rules (r .tag))) 26)
       → f ≡ faultFor (plainFault rules pool r)
-  unfolding plainFault
+  unfolding plainFault differs
   plain-fault e = e
 
 -- ---- the checks of a call

@@ -3,18 +3,27 @@ use mathlib.Core.Bool.{Bool, true, false, not}
 use mathlib.Core.Option.{none}
 use mathlib.Core.Path.{_≡_}
 use mathlib.Core.List.{List}
-use Prim.Native.Nat.{ℕ}
+use Prim.Native.Nat.{ℕ, _≤_}
+use lib.ListN.{length}
 use Rattle.automaton.specs.Rule.{Rule}
-use Rattle.longest_match.specs.Contracts.{Holds, Held}
+use Rattle.automaton.specs.Contracts.{Holds, Held}
+use Rattle.book.specs.Limits.{maxText}
 use Rattle.record.specs.declared.TokenRecord.{TokenRecord}
+use Rattle.spacing.specs.Separators.{spelled}
 use Rattle.separated.specs.Refusals.{separatedRefusal}
 
 -- whether a kind is not the wanted one
-abbrev pub differs : Bool → Bool → Bool
+unfoldable pub differs : Bool → Bool → Bool
 differs true kind = not kind
 differs false kind = kind
 
--- the call is not refused before anything is put together, whichever rules the tables hold
-pub record Passed (hs ss es : List ℕ) (n : ℕ) (sep : TokenRecord) (mode : ℕ) (records pool : List ℕ) : Type 0 where
-  pub held : Held hs ss es n
-  pub unrefused : (rules : List Rule) → Holds hs ss es n rules → separatedRefusal rules sep mode records pool ≡ none
+-- the call is not refused before anything is put together, whichever rules the table holds
+pub record Passed (tb : List ℕ) (sep : TokenRecord) (mode : ℕ) (records pool : List ℕ) : Type 0 where
+  pub held : Held tb
+  pub unrefused : (rules : List Rule) → Holds tb rules → separatedRefusal rules sep mode records pool ≡ none
+
+-- the scratch has room for what is put together, unless that is too long to be written, and for no more than may be written
+pub record Roomy (sep : TokenRecord) (mode : ℕ) (records pool scratch : List ℕ) : Type 0 where
+  pub short : length scratch ≤ maxText
+  pub room : (rules : List Rule) → length (spelled rules sep mode records pool) ≤ maxText
+      → length (spelled rules sep mode records pool) ≤ length scratch

@@ -14,7 +14,7 @@ enum-told c = search needs
 
 print-passed-requires : tie.Need-print-passed-requires
 print-passed-requires c κs =
-    let start = c .before .before .before .before .before .before .before .before .before .before .before .before in
+    let start = c .before .before .before .before .before .before .before .before .before .before in
     (record { held = start .pre .0; unrefused = λ rs h. unrefused rs (start .args .separator) (start .args .mode)
         (now (start .args .records)) (now (start .args .pool))
         (sym (c .before .before .enum-told .given .1) ∙ c .before .before .before .before .check-call .ensures rs h) }, start .pre .1)
@@ -31,7 +31,7 @@ same-length-2 c = search needs
 returns : tie.Need-returns
 returns c =
     let call = c .before .before .before .before .before .before .before .before .before in
-    let start = call .before .before .before .before .before .before .before .before in
+    let start = call .before .before .before .before .before .before in
     λ rs h. answered-passed rs (start .args .separator) (start .args .mode) (now (start .args .records)) (now (start .args .pool)) _
         (sym (c .before .before .before .before .before .before .before .enum-told .given .1)
         ∙ call .check-call .ensures rs h)
@@ -39,7 +39,7 @@ returns c =
 
 returns-2 : tie.Need-returns-2
 returns-2 c =
-    let start = c .before .before .before .before .before .before .before .before .before .before .before in
+    let start = c .before .before .before .before .before .before .before .before .before in
     λ rs h. answered-fault rs (start .args .separator) (start .args .mode) (now (start .args .records)) (now (start .args .pool)) _
         (sym (c .before .refusal .given .1) ∙ c .before .before .before .check-call .ensures rs h)
 

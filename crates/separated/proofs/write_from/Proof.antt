@@ -21,7 +21,7 @@ returns : tie.Need-returns
 returns c =
     let start = c .before .before .before .before .before .before in
     answered-written (now (start .args .scratch)) (start .args .at) _ (sym (length-drop (start .args .at) (now (start .args .scratch))))
-        (omega (arith, start .pre .0)) (c .before .before .write .ensures)
+        (omega (arith, start .pre .1)) (c .before .before .write .ensures)
 
 pub write-from-spec : {M : Type 1} → statement M
 write-from-spec = tie.close (tie.spec sub-write write-requires same-length returns)

@@ -1,7 +1,7 @@
 -- `used_by_kind`: the invariant is `Kinds`, the bytes that the first rules of the kind use. Assumes nothing.
 use mathlib.Core.Path.{sym, _∙_}
 use mathlib.Core.List.{List}
-use Prim.Native.Nat.{_-_, _≤_, _<_}
+use Prim.Native.Nat.{_-_, _<_}
 use native.Mathlib.Omega.{arith}
 use lib.ListN.{length}
 use borrow.Author.Needs.{needs}
@@ -40,11 +40,7 @@ here : (c : tie.In-loop Inv-loop μ-loop) (rs : List Rule) (h : Holds (now (c .b
 here c rs h = h .each (c .before .loop .next) (more c rs h)
 
 tabled : (c : tie.In-loop Inv-loop μ-loop) → Tabled (now (c .before .before .before .before .before .args .table)) (c .before .loop .next)
-tabled c = record {
-  rule = ruleAt (c .before .before .before .before .before .pre .rules) (c .before .loop .next);
-  table =
-      here c (c .before .before .before .before .before .pre .rules) (c .before .before .before .before .before .pre .holds);
-}
+tabled c = record { rule = _; table = here c _ (c .before .before .before .before .before .pre .holds) }
 
 kind-of-requires : tie.Need-kind-of-requires Inv-loop μ-loop
 kind-of-requires c κs = tabled c

@@ -29,5 +29,4 @@ returns-2 c = λ rs h. call-list rs _ _ _ _ (sym (c .before .enum-told .given .1
     (c .check-list .ensures rs h)
 
 pub check-call-spec : {M : Type 1} → statement M
-check-call-spec =
-    tie.close (tie.spec shared-byte-requires enum-known-b refused-requires enum-told check-list-requires returns returns-2)
+check-call-spec = tie.close (tie.spec shared-byte-requires enum-known-b refused-requires enum-told check-list-requires returns returns-2)

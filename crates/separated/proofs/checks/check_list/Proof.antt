@@ -49,5 +49,5 @@ returns-4 c = λ rs h.
 
 pub check-list-spec : {M : Type 1} → statement M
 check-list-spec =
-    tie.close (tie.spec refused-requires returns fault-or-kind-requires enum-known-number refused-requires-2 enum-told refused-requires-3
-    returns-2 check-tokens-requires returns-3 returns-4)
+    tie.close (tie.spec refused-requires returns fault-or-kind-requires enum-known-number refused-requires-2 enum-told
+    refused-requires-3 returns-2 check-tokens-requires returns-3 returns-4)

@@ -5,7 +5,7 @@ use Prim.Native.Nat.{_-_}
 use native.Mathlib.Omega.{arith}
 use borrow.Author.Needs.{needs}
 use Rattle.automaton.specs.Rule.{Rule}
-use Rattle.longest_match.specs.Contracts.{Holds}
+use Rattle.automaton.specs.Contracts.{Holds}
 use Rattle.record.specs.Records.{recordCount}
 use Rattle.token_list.proofs.Passes.{Passing, passing-start, passing-refused, passing-next, passing-end}
 use Rattle.separated.specs.Refusals.{plainFault}
@@ -14,11 +14,11 @@ use Rattle.separated.proofs.checks.check_tokens.Statement.{statement}
 use Rattle.separated.proofs.checks.check_tokens.Tie as tie
 
 abbrev Inv-loop : tie.InvT-loop
-Inv-loop headers states edges rules records pool count k₀ k =
-    (rs : List Rule) → Holds headers states edges rules rs → Passing (plainFault rs pool) records k
+Inv-loop table records pool count k₀ k =
+    (rs : List Rule) → Holds table rs → Passing (plainFault rs pool) records k
 
 abbrev μ-loop : tie.MeasureT-loop
-μ-loop headers states edges rules records pool count k₀ k = recordCount records - k
+μ-loop table records pool count k₀ k = recordCount records - k
 
 loop-holds : tie.Need-loop-holds Inv-loop μ-loop
 loop-holds c = λ rs h. passing-start _ _
@@ -27,7 +27,7 @@ read-record-requires : tie.Need-read-record-requires Inv-loop μ-loop
 read-record-requires c κs = omega (arith, c .loop-test .taken)
 
 fault-or-kind-requires : tie.Need-fault-or-kind-requires Inv-loop μ-loop
-fault-or-kind-requires c κs = c .before .before .before .before .before .before .before .before .pre
+fault-or-kind-requires c κs = c .before .before .before .before .before .before .pre
 
 enum-known-number : tie.Need-enum-known-number Inv-loop μ-loop
 enum-known-number c = search needs
@@ -48,7 +48,7 @@ enum-told c = search needs
 
 add-k : tie.Need-add-k Inv-loop μ-loop
 add-k c = omega (arith, c .before .before .before .before .loop-test .taken,
-    c .before .before .before .before .before .before .before .before .before .before .before .good)
+    c .before .before .before .before .before .before .before .before .before .good)
 
 loop-less : tie.Need-loop-less Inv-loop μ-loop
 loop-less c = omega (arith, c .before .before .before .before .loop-test .taken)
@@ -64,5 +64,5 @@ returns-2 c = λ rs h. passing-end (c .before .loop .inv rs h) (c .loop-test .le
 
 pub check-tokens-spec : {M : Type 1} → statement M
 check-tokens-spec =
-    tie.close (tie.spec Inv-loop μ-loop loop-holds read-record-requires fault-or-kind-requires enum-known-number refused-requires returns
-    enum-told add-k loop-less loop-again returns-2)
+    tie.close (tie.spec Inv-loop μ-loop loop-holds read-record-requires fault-or-kind-requires enum-known-number refused-requires
+    returns enum-told add-k loop-less loop-again returns-2)

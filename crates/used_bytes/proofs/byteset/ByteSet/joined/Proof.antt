@@ -1,7 +1,7 @@
 -- `joined`: the marks below `b` are those of both sets. Assumes nothing.
 use mathlib.Core.Bool.{_||_}
 use mathlib.Core.Logic.{inr}
-use Prim.Native.Nat.{ℕ, _-_, _≤_}
+use Prim.Native.Nat.{ℕ, _-_}
 use native.Mathlib.Omega.{arith}
 use borrow.Author.Needs.{needs}
 use Rattle.used_bytes.specs.Contracts.{mark}
