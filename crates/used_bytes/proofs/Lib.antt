@@ -1,3 +1,3 @@
--- Marks of a set (Marking), and the used bytes gathered from the tables (Gathering).
+-- Marks of a set (Marking), and the used bytes gathered from a table (Gathering).
 pub mod Marking
 pub mod Gathering
