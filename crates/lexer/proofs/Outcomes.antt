@@ -2,7 +2,7 @@
 use mathlib.Core.Path.{_≡_, refl, sym, _∙_, ap}
 use mathlib.Core.Bool.{Bool, true, false}
 use mathlib.Core.List.{List}
-use Prim.Native.Nat.{ℕ, _-_}
+use Prim.Native.Nat.{ℕ, _-_, _<_}
 use native.Mathlib.Omega.{arith}
 use lib.Dec.{ltb}
 use lib.ListN.{length, take, drop, length-drop}
@@ -13,9 +13,10 @@ use Rattle.answer.specs.declared.LexAnswer.{LexAnswer}
 use Rattle.automaton.specs.Choice.{if}
 use Rattle.automaton.specs.Rule.{Rule}
 use Rattle.automaton.specs.Contracts.{Holds, Held}
-use Rattle.book.specs.Limits.{maxText}
+use Rattle.book.specs.Limits.{maxBytes, maxText}
 use Rattle.reader.specs.Reading.{Reading, accepted, refused, readBook, answer}
 use Rattle.reader.specs.Contracts.{Loaded}
+use Rattle.reader.proofs.Loading.{read-too-long}
 use Rattle.longest_match.specs.Lexer.{lex}
 use Rattle.longest_match.proofs.Lexing.{rest-drop}
 use Rattle.record.specs.Records.{recordCount}
@@ -70,6 +71,12 @@ module _ {bytes tb : List ℕ} {b : BookAnswer} {f : Refusal} (l : Loaded bytes 
   pub rest-refused : (text : List ℕ) → RestAt text 0 (restOf bytes text)
   unfolding restOf
   rest-refused text = rw loaded-refused (record { within = omega arith; tail = refl })
+
+-- a book that is too long is refused before it is read
+pub answered-too-long : (bytes text records : List ℕ) → maxBytes < length bytes
+    → LexAnswered (lexOutcome bytes text records) (lexed.Refused (record { number = 1; place = 0 })) records
+unfolding lexOutcome
+answered-too-long bytes text records l = rw (read-too-long bytes l) (record { answer = refl; records = refl })
 
 -- ---- the rest
 

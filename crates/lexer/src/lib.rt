@@ -1,7 +1,9 @@
 // Lexing by a book's bytes, open to every caller: it asks nothing and refuses what is unfit.
-// The table is a local of the call, small for a small book. `by_rules` cuts by the rules that a lent table holds, `filling` stores the records.
+// The table is a local of the call, and `sizes` picks its size. `by_rules` cuts by the rules that a lent table holds, `filling` stores the
+// records.
 pub mod by_rules;
 pub mod filling;
+pub mod sizes;
 
 use answer::BookAnswer;
 use answer::LexAnswer;
@@ -19,30 +21,11 @@ pub fn lex(book: &[u8], text: &[u8], records: &mut [u8]) -> LexAnswer
     ensures { λ r. ⌜ r ≡ (lexOutcome (now (book .entry)) (now (text .entry)) (now (records .entry))) .answer ⌝ }
     ensures { λ r. ⌜ now (records .exit) ≡ (lexOutcome (now (book .entry)) (now (text .entry)) (now (records .entry))) .records ⌝ }
 {
-    if book.len() <= Book::SMALL {
-        lex_small(book, text, records)
-    } else {
-        lex_large(book, text, records)
-    }
-}
-
-fn lex_small(book: &[u8], text: &[u8], records: &mut [u8]) -> LexAnswer
-    requires { ⌜ length (now book) ≤ smallBook ⌝ }
-    ensures { λ r. ⌜ LexAnswered (lexOutcome (now (book .entry)) (now (text .entry)) (now (records .entry))) r (now (records .exit)) ⌝ }
-{
-    let mut table = [0u64; Book::SMALL_TABLE];
-    lex_with(book, &mut table, text, records)
-}
-
-fn lex_large(book: &[u8], text: &[u8], records: &mut [u8]) -> LexAnswer
-    ensures { λ r. ⌜ LexAnswered (lexOutcome (now (book .entry)) (now (text .entry)) (now (records .entry))) r (now (records .exit)) ⌝ }
-{
-    let mut table = [0u64; Book::TABLE];
-    lex_with(book, &mut table, text, records)
+    crate::sizes::lex_sized(book, text, records)
 }
 
 // With a table for the book's rules.
-fn lex_with(book: &[u8], table: &mut [u64], text: &[u8], records: &mut [u8]) -> LexAnswer
+pub fn lex_with(book: &[u8], table: &mut [u64], text: &[u8], records: &mut [u8]) -> LexAnswer
     requires { ⌜ Lent (length (now book)) (now table) ⌝ }
     ensures { λ r. ⌜ LexAnswered (lexOutcome (now (book .entry)) (now (text .entry)) (now (records .entry))) r (now (records .exit)) ⌝ }
 {

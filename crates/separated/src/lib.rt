@@ -2,23 +2,145 @@
 // a scratch of the call's own, so that the output stands as it was where the list is refused. `checks` has what is refused before that.
 pub mod checks;
 
+use answer::BookAnswer;
 use answer::PrintAnswer;
 use answer::Refusal;
+use book::Book;
 use output::Placed;
 use record::TokenRecord;
 use token_list::Checked;
+use token_list::readback::Extent;
+ghost use mathlib.Core.Path.{_≡_};
+ghost use mathlib.Core.Bool.{true};
 ghost use mathlib.Core.List.{List};
 ghost use Prim.Native.Nat.{_≤_};
 ghost use lib.ListN.{length, drop};
 ghost use Rattle.automaton.specs.Rule.{Rule};
 ghost use Rattle.automaton.specs.Contracts.{Holds, Held};
 ghost use Rattle.book.specs.Limits.{maxText};
+ghost use Rattle.reader.specs.Contracts.{smallBook, Lent};
 ghost use Rattle.printer.specs.Contracts.{PrintAnswered};
 ghost use Rattle.spacing.specs.Separators.{spelled};
-ghost use Rattle.separated.specs.Outcome.{writing, separatedRules};
-ghost use Rattle.separated.specs.Contracts.{Passed, Roomy};
+ghost use Rattle.separated.specs.Outcome.{writing, separatedRules, separatedOutcome};
+ghost use Rattle.separated.specs.Contracts.{Passed, Roomy, Short};
 
-// Prints the tokens by the rules that a table holds.
+// Prints the tokens that `records` say with `pool`, by the rules of a book, with the separator token between neighbours: in mode 1, and
+// in mode 0, between all, in mode 2 where a token would be read on. The answer is the number of bytes, which stand at the start of
+// `out`, or the refusal of document 01. Every other byte of `out` stays as it was.
+pub fn print_separated(
+    book: &[u8],
+    separator: TokenRecord,
+    mode: u32,
+    records: &[u8],
+    pool: &[u8],
+    out: &mut [u8],
+) -> PrintAnswer
+    ensures { λ r. ⌜ r
+        ≡ (separatedOutcome (now (book .entry)) separator mode (now (records .entry)) (now (pool .entry)) (now (out .entry))) .answer ⌝ }
+    ensures { λ r. ⌜ now (out .exit)
+        ≡ (separatedOutcome (now (book .entry)) separator mode (now (records .entry)) (now (pool .entry)) (now (out .entry))) .out ⌝ }
+{
+    if book.len() <= Book::SMALL {
+        if is_short(separator, records, pool) {
+            return print_small(book, separator, mode, records, pool, out);
+        }
+    }
+    print_large(book, separator, mode, records, pool, out)
+}
+
+// Whether the tokens of a list lie in the pool and a small scratch has room for them with a separator each.
+fn is_short(separator: TokenRecord, records: &[u8], pool: &[u8]) -> bool
+    ensures { λ r. ⌜ (r ≡ true → Short separator (now (records .entry)) (now (pool .entry))) ⌝ }
+{
+    let count = records.len() / 10;
+    if Book::SMALL < count {
+        return false;
+    }
+    match token_list::readback::measure(records, pool) {
+        Extent::Bytes(total) => total + count * (separator.len as usize) <= Book::SMALL,
+        Extent::Beyond => false,
+    }
+}
+
+fn print_small(
+    book: &[u8],
+    separator: TokenRecord,
+    mode: u32,
+    records: &[u8],
+    pool: &[u8],
+    out: &mut [u8],
+) -> PrintAnswer
+    requires { ⌜ (length (now book) ≤ smallBook) × Short separator (now records) (now pool) ⌝ }
+    ensures { λ r. ⌜ PrintAnswered
+        (separatedOutcome (now (book .entry)) separator mode (now (records .entry)) (now (pool .entry)) (now (out .entry)))
+        r (now (out .exit)) ⌝ }
+{
+    let mut table = [0u64; Book::SMALL_TABLE];
+    let mut scratch = [0u8; Book::SMALL];
+    print_with(
+        book,
+        &mut table,
+        separator,
+        mode,
+        records,
+        pool,
+        &mut scratch,
+        out,
+    )
+}
+
+fn print_large(
+    book: &[u8],
+    separator: TokenRecord,
+    mode: u32,
+    records: &[u8],
+    pool: &[u8],
+    out: &mut [u8],
+) -> PrintAnswer
+    ensures { λ r. ⌜ PrintAnswered
+        (separatedOutcome (now (book .entry)) separator mode (now (records .entry)) (now (pool .entry)) (now (out .entry)))
+        r (now (out .exit)) ⌝ }
+{
+    let mut table = [0u64; Book::TABLE];
+    let mut scratch = [0u8; Book::TEXT];
+    print_with(
+        book,
+        &mut table,
+        separator,
+        mode,
+        records,
+        pool,
+        &mut scratch,
+        out,
+    )
+}
+
+// With a table for the book's rules and a scratch for what is put together.
+fn print_with(
+    book: &[u8],
+    table: &mut [u64],
+    separator: TokenRecord,
+    mode: u32,
+    records: &[u8],
+    pool: &[u8],
+    scratch: &mut [u8],
+    out: &mut [u8],
+) -> PrintAnswer
+    requires { ⌜ Lent (length (now book)) (now table) ⌝ }
+    requires { ⌜ Roomy separator mode (now records) (now pool) (now scratch) ⌝ }
+    ensures { λ r. ⌜ PrintAnswered
+        (separatedOutcome (now (book .entry)) separator mode (now (records .entry)) (now (pool .entry)) (now (out .entry)))
+        r (now (out .exit)) ⌝ }
+{
+    match reader::load(book, table) {
+        BookAnswer::Accepted(_) => {
+            print_rules(table, separator, mode, records, pool, scratch, out)
+        }
+        BookAnswer::Refused(refusal) => PrintAnswer::Refused(refusal),
+    }
+}
+
+// By the rules that a table holds.
 pub fn print_rules(
     table: &[u64],
     separator: TokenRecord,

@@ -1,0 +1,83 @@
+// Lexing with a table of the size that the book needs. The sizes double, as the room that a book may need is a word for four of its
+// bytes, and each table is a local of a function of its own: a call clears, and takes of the stack, what its book needs.
+use answer::LexAnswer;
+use answer::Refusal;
+use book::Book;
+ghost use Prim.Native.Nat.{_≤_};
+ghost use lib.ListN.{length};
+ghost use Rattle.lexer.specs.Outcome.{lexOutcome};
+ghost use Rattle.lexer.specs.Contracts.{LexAnswered};
+
+// A book that is too long needs no table.
+pub fn lex_sized(book: &[u8], text: &[u8], records: &mut [u8]) -> LexAnswer
+    ensures { λ r. ⌜ LexAnswered (lexOutcome (now (book .entry)) (now (text .entry)) (now (records .entry))) r (now (records .exit)) ⌝ }
+{
+    let len = book.len();
+    if Book::BYTES < len {
+        return LexAnswer::refused(Refusal::BOOK_TOO_LONG, 0);
+    }
+    if len <= 1024 {
+        return lex_1k(book, text, records);
+    }
+    if len <= 2048 {
+        return lex_2k(book, text, records);
+    }
+    if len <= 4096 {
+        return lex_4k(book, text, records);
+    }
+    if len <= 8192 {
+        return lex_8k(book, text, records);
+    }
+    if len <= 16384 {
+        return lex_16k(book, text, records);
+    }
+    lex_32k(book, text, records)
+}
+
+fn lex_1k(book: &[u8], text: &[u8], records: &mut [u8]) -> LexAnswer
+    requires { ⌜ length (now book) ≤ 1024 ⌝ }
+    ensures { λ r. ⌜ LexAnswered (lexOutcome (now (book .entry)) (now (text .entry)) (now (records .entry))) r (now (records .exit)) ⌝ }
+{
+    let mut table = [0u64; 322];
+    crate::lex_with(book, &mut table, text, records)
+}
+
+fn lex_2k(book: &[u8], text: &[u8], records: &mut [u8]) -> LexAnswer
+    requires { ⌜ length (now book) ≤ 2048 ⌝ }
+    ensures { λ r. ⌜ LexAnswered (lexOutcome (now (book .entry)) (now (text .entry)) (now (records .entry))) r (now (records .exit)) ⌝ }
+{
+    let mut table = [0u64; 578];
+    crate::lex_with(book, &mut table, text, records)
+}
+
+fn lex_4k(book: &[u8], text: &[u8], records: &mut [u8]) -> LexAnswer
+    requires { ⌜ length (now book) ≤ 4096 ⌝ }
+    ensures { λ r. ⌜ LexAnswered (lexOutcome (now (book .entry)) (now (text .entry)) (now (records .entry))) r (now (records .exit)) ⌝ }
+{
+    let mut table = [0u64; 1090];
+    crate::lex_with(book, &mut table, text, records)
+}
+
+fn lex_8k(book: &[u8], text: &[u8], records: &mut [u8]) -> LexAnswer
+    requires { ⌜ length (now book) ≤ 8192 ⌝ }
+    ensures { λ r. ⌜ LexAnswered (lexOutcome (now (book .entry)) (now (text .entry)) (now (records .entry))) r (now (records .exit)) ⌝ }
+{
+    let mut table = [0u64; 2114];
+    crate::lex_with(book, &mut table, text, records)
+}
+
+fn lex_16k(book: &[u8], text: &[u8], records: &mut [u8]) -> LexAnswer
+    requires { ⌜ length (now book) ≤ 16384 ⌝ }
+    ensures { λ r. ⌜ LexAnswered (lexOutcome (now (book .entry)) (now (text .entry)) (now (records .entry))) r (now (records .exit)) ⌝ }
+{
+    let mut table = [0u64; 4162];
+    crate::lex_with(book, &mut table, text, records)
+}
+
+fn lex_32k(book: &[u8], text: &[u8], records: &mut [u8]) -> LexAnswer
+    requires { ⌜ length (now book) ≤ 32768 ⌝ }
+    ensures { λ r. ⌜ LexAnswered (lexOutcome (now (book .entry)) (now (text .entry)) (now (records .entry))) r (now (records .exit)) ⌝ }
+{
+    let mut table = [0u64; 8258];
+    crate::lex_with(book, &mut table, text, records)
+}

@@ -1,0 +1,50 @@
+use mathlib.Core.Path.{refl}
+use Prim.Native.Nat.{_*_, _≤_}
+use native.Mathlib.Omega.{arith}
+use borrow.Author.Needs.{needs}
+use borrow.Author.Tests.{leb-true}
+use Rattle.automaton.proofs.Tests.{clash}
+use Rattle.separated.proofs.is_short.Statement.{statement}
+use Rattle.separated.proofs.is_short.Tie as tie
+
+returns : tie.Need-returns
+returns c = λ e. clash e refl
+
+measure-requires : tie.Need-measure-requires
+measure-requires c κs = search needs
+
+enum-known-total : tie.Need-enum-known-total
+enum-known-total c = search needs
+
+cast-result : tie.Need-cast-result
+cast-result c = search needs
+
+mul-result : tie.Need-mul-result
+mul-result c = omega (arith, product c)
+
+add-result : tie.Need-add-result
+add-result c = omega (arith, product c, c .measure .ensures .fits _ (c .total .given .1) .short)
+
+enum-told : tie.Need-enum-told
+enum-told c = search needs
+
+returns-2 : tie.Need-returns-2
+returns-2 c = λ e.
+    record { bytes = c .before .before .total .given .0 .0; spanned = c .before .before .before .before .measure .ensures .fits _ (c .before .before .total .given .1); few = leb-true _ _ e }
+
+returns-3 : tie.Need-returns-3
+returns-3 c = λ e. clash e refl
+
+pub is-short-spec : {M : Type 1} → statement M
+is-short-spec =
+    tie.close
+    (tie.spec
+    returns
+    measure-requires
+    enum-known-total
+    cast-result
+    mul-result
+    add-result
+    enum-told
+    returns-2
+    returns-3)
