@@ -1,4 +1,4 @@
--- What is pending first, by the rules of the tables: refused by 14 or by 15, or the first token. Assumes nothing.
+-- What is pending first, by the rules of the table: refused by 14 or by 15, or the first token. Assumes nothing.
 use mathlib.Core.Path.{_≡_, refl, sym, subst}
 use mathlib.Core.List.{List}
 use Prim.Native.Nat.{ℕ, _<_, _≤_}
@@ -16,24 +16,24 @@ use Rattle.slices.specs.declared.lexing.Pending.{Pending}
 use Rattle.slices.specs.Contracts.{refusedPending, PendingAt, Opens}
 use Rattle.answer.specs.declared.LexAnswer.the-variants as answer
 
-module _ {rules : List Rule} {text : List ℕ} {n room : ℕ} {r : Pending} where
+module _ {rules : List Rule} {text : List ℕ} {room : ℕ} {r : Pending} where
   refused : (number place : ℕ) → r ≡ refusedPending number place
       → ((records : List ℕ) → recordCount records ≡ room
       → LexAnswered (lexRules rules text records) (answer.Refused (record { number = number; place = place })) records)
-      → Opens rules text n room r
+      → Opens rules text room r
   refused number place e f =
-      subst (Opens rules text n room) (sym e) (record { idle = λ _. refl; refuses = λ _. f; starts = λ p. clash refl p })
+      subst (Opens rules text room) (sym e) (record { idle = λ _. refl; refuses = λ _. f; starts = λ p. clash refl p })
 
-  pub opens-long : maxText < length text → r ≡ refusedPending 14 0 → Opens rules text n room r
+  pub opens-long : maxText < length text → r ≡ refusedPending 14 0 → Opens rules text room r
   opens-long l e = refused 14 0 e (λ records _. answered-long rules text records l)
 
   pub opens-few : {tokens rest : ℕ} → length text ≤ maxText → Cuts rules text tokens rest → room < tokens → r ≡ refusedPending 15 tokens
-      → Opens rules text n room r
+      → Opens rules text room r
   opens-few {tokens} {rest} l c f e =
       refused 15 tokens e (λ records q. answered-few rules text records l c (subst (λ (x : ℕ). x < tokens) (sym q) f))
 
-  pub opens-pending : length text ≤ maxText → length ((lex rules text) .tokens) ≤ room → PendingAt rules text n 0 0 r
-      → Opens rules text n room r
+  pub opens-pending : length text ≤ maxText → length ((lex rules text) .tokens) ≤ room → PendingAt rules text 0 0 r
+      → Opens rules text room r
   opens-pending l m t = record {
     idle = λ p. clash p (t .plain);
     refuses = λ p. clash p (t .plain);

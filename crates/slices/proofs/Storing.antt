@@ -7,12 +7,11 @@ use Prim.Native.Nat.{ℕ, _+_, _-_, _*_, _%_, _<_, _≤_}
 use native.Mathlib.Omega.{arith}
 use lib.ListN.{length, take, drop}
 use Rattle.automaton.specs.Rule.{Rule}
-use Rattle.automaton.specs.Contracts.{ruleAt}
+use Rattle.automaton.specs.Contracts.{ruleAt, Holds}
 use Rattle.automaton.proofs.Tests.{clash}
 use Rattle.book.specs.Limits.{maxText}
 use Rattle.reader.specs.Reading.{readBook, accepted}
 use Rattle.longest_match.specs.Lexer.{lex}
-use Rattle.longest_match.specs.Contracts.{Holds}
 use Rattle.longest_match.proofs.Cutting.{cutting-within, cutting-stop, lex-stop}
 use Rattle.record.specs.Records.{recordOf, recordCount}
 use Rattle.record.proofs.Encoding.{tenBytes, two-bytes}
@@ -25,24 +24,24 @@ use Rattle.slices.specs.Contracts.{answerOf, pendingRefusal, Chosen, Pen
 use Rattle.answer.specs.declared.LexAnswer.the-variants as answer
 
 -- t is pending after t .index tokens of the text, which are in the records; at most `left` tokens follow
-pub record Standing (book text entry hs ss es records : List ℕ) (left : ℕ) (t : Pending) (rules : List Rule) : Type 0 where
+pub record Standing (book text entry tb records : List ℕ) (left : ℕ) (t : Pending) (rules : List Rule) : Type 0 where
   pub accepts : readBook book ≡ accepted rules
-  pub holds : Holds hs ss es (t .rules) rules
+  pub holds : Holds tb rules
   pub short : length text ≤ maxText
   pub enough : length ((lex rules text) .tokens) ≤ recordCount entry
   pub at : ℕ
   pub filling : Filling rules text entry records at (t .index)
-  pub pending : PendingAt rules text (t .rules) (t .index) at t
+  pub pending : PendingAt rules text (t .index) at t
   pub further : t .more ≡ true → length text < t .next + left
 
-pub record Going (book text entry hs ss es records : List ℕ) (left : ℕ) (t : Pending) : Type 0 where
+pub record Going (book text entry tb records : List ℕ) (left : ℕ) (t : Pending) : Type 0 where
   pub idle : t .refused ≡ true → t .more ≡ false
   pub refuses : t .refused ≡ true → LexAnswered (lexOutcome book text entry) (answer.Refused (pendingRefusal t)) records
-  pub stands : t .refused ≡ false → (rules : List Rule) × Standing book text entry hs ss es records left t rules
+  pub stands : t .refused ≡ false → (rules : List Rule) × Standing book text entry tb records left t rules
 
-module _ {book text entry hs ss es : List ℕ} where
-  pub going-start : {room : ℕ} {t : Pending} → Begun book text room hs ss es t → recordCount entry ≡ room
-      → Going book text entry hs ss es entry (length text) t
+module _ {book text entry tb : List ℕ} where
+  pub going-start : {room : ℕ} {t : Pending} → Begun book text room tb t → recordCount entry ≡ room
+      → Going book text entry tb entry (length text) t
   going-start {room} {t} b e = record {
     idle = b .idle;
     refuses = λ p. b .refuses p entry e;
@@ -58,13 +57,13 @@ module _ {book text entry hs ss es : List ℕ} where
             enough = subst (λ (n : ℕ). length ((lex (s .0) text) .tokens) ≤ n) (sym e) (o .enough);
             at = 0;
             filling = subst (Filling (s .0) text entry entry 0) (sym i) (filling-start (s .0) text entry);
-            pending = subst (λ (n : ℕ). PendingAt (s .0) text (t .rules) n 0 t) (sym i) (o .pending);
+            pending = subst (λ (n : ℕ). PendingAt (s .0) text n 0 t) (sym i) (o .pending);
             further = λ m. let c = o .pending .goes m in omega (arith, c .some, c .next);
           },
         );
   }
 
-  module _ {records : List ℕ} {left : ℕ} {t : Pending} (g : Going book text entry hs ss es records left t) where
+  module _ {records : List ℕ} {left : ℕ} {t : Pending} (g : Going book text entry tb records left t) where
     pub going-stop : t .more ≡ false → LexAnswered (lexOutcome book text entry) (answerOf t) records
     unfolding lexOutcome
     going-stop m = go (t .refused) refl
@@ -90,7 +89,7 @@ module _ {book text entry hs ss es : List ℕ} where
       abbrev rules : List Rule
       rules = g .stands plain .0
 
-      s : Standing book text entry hs ss es records left t rules
+      s : Standing book text entry tb records left t rules
       s = g .stands plain .1
 
       c : Chosen rules text (s .at) t
@@ -105,7 +104,7 @@ module _ {book text entry hs ss es : List ℕ} where
       within : t .next ≤ length text
       within = omega (arith, cutting-within (s .filling .cut) (c .chooses) (c .some), c .next)
 
-      pub going-ready : Ready hs ss es text t
+      pub going-ready : Ready tb text t
       going-ready = record {
         held = record { rules = rules; holds = s .holds };
         counts = omega (arith, s .filling .cut .few, s .filling .cut .within, s .short);
@@ -119,8 +118,8 @@ module _ {book text entry hs ss es : List ℕ} where
       -- the token is stored, and r is pending behind t
       pub going-next : {after : List ℕ} {r : Pending}
           → after ≡ take (10 * t .index) records ++ tenBytes (t .token) ++ drop (10 * t .index + 10) records
-          → ((rs : List Rule) → Holds hs ss es (t .rules) rs → PendingAt rs text (t .rules) (t .index + 1) (t .next) r)
-          → Going book text entry hs ss es after (left - 1) r
+          → ((rs : List Rule) → Holds tb rs → PendingAt rs text (t .index + 1) (t .next) r)
+          → Going book text entry tb after (left - 1) r
       going-next {after} {r} e f =
           let u = f rules (s .holds) in
           record {
@@ -130,12 +129,12 @@ module _ {book text entry hs ss es : List ℕ} where
               rules,
               record {
                 accepts = s .accepts;
-                holds = subst (λ (n : ℕ). Holds hs ss es n rules) (sym (u .count)) (s .holds);
+                holds = s .holds;
                 short = s .short;
                 enough = s .enough;
                 at = t .next;
                 filling = filled u;
-                pending = moved u;
+                pending = subst (λ (n : ℕ). PendingAt rules text n (t .next) r) (sym (u .stored)) u;
                 further = λ m₂. let d = u .goes m₂ in omega (arith, s .further m, d .some, d .next, going-left);
               },
             );
@@ -151,12 +150,8 @@ module _ {book text entry hs ss es : List ℕ} where
               ++ drop (10 * t .index + 10) records
           stored = e ∙ ap (λ (x : List ℕ). take (10 * t .index) records ++ x ++ drop (10 * t .index + 10) records) same
 
-          filled : PendingAt rules text (t .rules) (t .index + 1) (t .next) r → Filling rules text entry after (t .next) (r .index)
+          filled : PendingAt rules text (t .index + 1) (t .next) r → Filling rules text entry after (t .next) (r .index)
           filled u =
               subst (Filling rules text entry after (t .next)) (sym (u .stored))
               (subst (λ (n : ℕ). Filling rules text entry after n (t .index + 1)) (sym (c .next))
               (filling-next (s .filling) room (c .chooses) (c .some) refl stored))
-
-          moved : PendingAt rules text (t .rules) (t .index + 1) (t .next) r → PendingAt rules text (r .rules) (r .index) (t .next) r
-          moved u = subst (λ (n : ℕ). PendingAt rules text n (r .index) (t .next) r) (sym (u .count))
-              (subst (λ (n : ℕ). PendingAt rules text (t .rules) n (t .next) r) (sym (u .stored)) u)

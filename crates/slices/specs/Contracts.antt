@@ -12,11 +12,11 @@ use Rattle.answer.specs.declared.LexAnswer.{LexAnswer}
 use Rattle.answer.specs.declared.PrintAnswer.{PrintAnswer}
 use Rattle.automaton.specs.Choice.{if}
 use Rattle.automaton.specs.Rule.{Rule}
-use Rattle.automaton.specs.Contracts.{ruleAt}
+use Rattle.automaton.specs.Contracts.{ruleAt, Holds, Held}
 use Rattle.book.specs.Limits.{maxText, maxTokens}
 use Rattle.reader.specs.Reading.{readBook, accepted}
 use Rattle.longest_match.specs.Lexer.{choose, lex}
-use Rattle.longest_match.specs.Contracts.{Held, Chooses, Holds}
+use Rattle.longest_match.specs.Contracts.{Chooses}
 use Rattle.record.specs.Records.{recordCount}
 use Rattle.record.specs.Contracts.{noRecord}
 use Rattle.record.specs.declared.TokenRecord.{TokenRecord}
@@ -35,7 +35,7 @@ use Rattle.answer.specs.declared.PrintAnswer.the-variants as print
 
 abbrev pub refusedPending : ℕ → ℕ → Pending
 refusedPending number place =
-    record { more = false; index = 0; token = noRecord; next = 0; rules = 0; refused = true; number = number; place = place }
+    record { more = false; index = 0; token = noRecord; next = 0; refused = true; number = number; place = place }
 
 abbrev pub pendingRefusal : Pending → Refusal
 pendingRefusal p = record { number = p .number; place = p .place }
@@ -53,17 +53,16 @@ pub record Chosen (rules : List Rule) (text : List ℕ) (at : ℕ) (p : Pending)
   pub place : p .token .place ≡ at
   pub next : p .next ≡ at + p .token .len
 
--- p is pending after `index` tokens, where the text goes on at `at`, by n rules
-pub record PendingAt (rules : List Rule) (text : List ℕ) (n index at : ℕ) (p : Pending) : Type 0 where
+-- p is pending after `index` tokens, where the text goes on at `at`
+pub record PendingAt (rules : List Rule) (text : List ℕ) (index at : ℕ) (p : Pending) : Type 0 where
   pub plain : p .refused ≡ false
-  pub count : p .rules ≡ n
   pub stored : p .index ≡ index
   pub stops : p .more ≡ false → (choose rules (drop at text) ≡ none) × (p .next ≡ at)
   pub goes : p .more ≡ true → Chosen rules text at p
 
--- the tables and the text by which it goes on behind p
-pub record Ready (hs ss es text : List ℕ) (p : Pending) : Type 0 where
-  pub held : Held hs ss es (p .rules)
+-- the table and the text by which it goes on behind p
+pub record Ready (tb text : List ℕ) (p : Pending) : Type 0 where
+  pub held : Held tb
   pub counts : p .index + 1 < 2 ^ 64
   pub within : p .next ≤ length text
   pub short : length text ≤ maxText
@@ -71,41 +70,40 @@ pub record Ready (hs ss es text : List ℕ) (p : Pending) : Type 0 where
 -- ---- What is pending first.
 
 -- neither 14 nor 15 applies, and p is pending at the start of the text
-pub record Started (rules : List Rule) (text : List ℕ) (n room : ℕ) (p : Pending) : Type 0 where
+pub record Started (rules : List Rule) (text : List ℕ) (room : ℕ) (p : Pending) : Type 0 where
   pub short : length text ≤ maxText
   pub enough : length ((lex rules text) .tokens) ≤ room
-  pub pending : PendingAt rules text n 0 0 p
+  pub pending : PendingAt rules text 0 0 p
 
--- by rules that the tables hold: 14, 15, or the first token
-pub record Opens (rules : List Rule) (text : List ℕ) (n room : ℕ) (p : Pending) : Type 0 where
+-- by rules that the table holds: 14, 15, or the first token
+pub record Opens (rules : List Rule) (text : List ℕ) (room : ℕ) (p : Pending) : Type 0 where
   pub idle : p .refused ≡ true → p .more ≡ false
   pub refuses : p .refused ≡ true → (records : List ℕ) → recordCount records ≡ room
       → LexAnswered (lexRules rules text records) (answer.Refused (pendingRefusal p)) records
-  pub starts : p .refused ≡ false → Started rules text n room p
+  pub starts : p .refused ≡ false → Started rules text room p
 
 -- by a book: refused, or the first token by its rules
-pub record Begun (book text : List ℕ) (room : ℕ) (hs ss es : List ℕ) (p : Pending) : Type 0 where
+pub record Begun (book text : List ℕ) (room : ℕ) (tb : List ℕ) (p : Pending) : Type 0 where
   pub idle : p .refused ≡ true → p .more ≡ false
   pub refuses : p .refused ≡ true → (records : List ℕ) → recordCount records ≡ room
       → LexAnswered (lexOutcome book text records) (answer.Refused (pendingRefusal p)) records
   pub starts : p .refused ≡ false
-      → (rules : List Rule) × ((readBook book ≡ accepted rules)
-      × (Holds hs ss es (p .rules) rules × Started rules text (p .rules) room p))
+      → (rules : List Rule) × ((readBook book ≡ accepted rules) × (Holds tb rules × Started rules text room p))
 
 -- ==== Module printing: the stages.
 
-abbrev pub going : ℕ → ℕ → ℕ → ℕ → ℕ → Stage
-going pass index at total rules =
-    record { more = true; pass = pass; index = index; at = at; total = total; rules = rules; refused = false; number = 0; place = 0 }
+abbrev pub going : ℕ → ℕ → ℕ → ℕ → Stage
+going pass index at total =
+    record { more = true; pass = pass; index = index; at = at; total = total; refused = false; number = 0; place = 0 }
 
 -- every token has passed; there are `total` bytes
 abbrev pub done : ℕ → Stage
 done total =
-    record { more = false; pass = 0; index = 0; at = 0; total = total; rules = 0; refused = false; number = 0; place = 0 }
+    record { more = false; pass = 0; index = 0; at = 0; total = total; refused = false; number = 0; place = 0 }
 
 abbrev pub refusedStage : ℕ → ℕ → Stage
 refusedStage number place =
-    record { more = false; pass = 0; index = 0; at = 0; total = 0; rules = 0; refused = true; number = number; place = place }
+    record { more = false; pass = 0; index = 0; at = 0; total = 0; refused = true; number = number; place = place }
 
 abbrev pub stageRefusal : Stage → Refusal
 stageRefusal s = record { number = s .number; place = s .place }
@@ -113,17 +111,17 @@ stageRefusal s = record { number = s .number; place = s .place }
 -- ---- From stage to stage.
 
 -- a pass is over after `at` bytes: the first with 20 where they are too many
-abbrev pub passOver : ℕ → ℕ → ℕ → ℕ → Stage
-passOver pass at total rules =
-    if (eqb pass 0) (if (ltb maxText at) (refusedStage 20 0) (going 1 0 0 at rules))
-    (if (eqb pass 1) (going 2 0 0 total rules)
+abbrev pub passOver : ℕ → ℕ → ℕ → Stage
+passOver pass at total =
+    if (eqb pass 0) (if (ltb maxText at) (refusedStage 20 0) (going 1 0 0 at))
+    (if (eqb pass 1) (going 2 0 0 total)
     (done total))
 
 -- the stage after a token of `len` bytes
 abbrev pub movedOn : Stage → ℕ → ℕ → Stage
 movedOn s len count =
-    if (ltb (s .index + 1) count) (going (s .pass) (s .index + 1) (s .at + len) (s .total) (s .rules))
-    (passOver (s .pass) (s .at + len) (s .total) (s .rules))
+    if (ltb (s .index + 1) count) (going (s .pass) (s .index + 1) (s .at + len) (s .total))
+    (passOver (s .pass) (s .at + len) (s .total))
 
 -- the first pass: the token's fault, if it has one
 abbrev pub checked : Option ℕ → Stage → ℕ → ℕ → Stage
@@ -138,8 +136,8 @@ pub record Reads (rules : List Rule) (text : List ℕ) (s : Stage) (len count : 
   pub result : r ≡ if (eqb most len) (movedOn s len count) (refusedStage 21 (s .index))
 
 -- what a step asks
-pub record Steps (hs ss es scratch pool : List ℕ) (s : Stage) (t : TokenRecord) : Type 0 where
-  pub held : Held hs ss es (s .rules)
+pub record Steps (tb scratch pool : List ℕ) (s : Stage) (t : TokenRecord) : Type 0 where
+  pub held : Held tb
   pub sized : length scratch ≡ maxText
   pub few : s .index < maxTokens
   pub checks : s .pass ≡ 0 → s .at ≤ s .index * 4294967295
@@ -147,30 +145,30 @@ pub record Steps (hs ss es scratch pool : List ℕ) (s : Stage) (t : TokenRecord
   pub reads : (s .pass ≡ 0 → ⊥) → (s .pass ≡ 1 → ⊥) → (s .at ≤ s .total) × (s .total ≤ maxText)
 
 -- what a step does with token t
-pub record Stepped (hs ss es scratch after pool : List ℕ) (s : Stage) (t : TokenRecord) (count : ℕ) (r : Stage) : Type 0 where
+pub record Stepped (tb scratch after pool : List ℕ) (s : Stage) (t : TokenRecord) (count : ℕ) (r : Stage) : Type 0 where
   pub checks : s .pass ≡ 0 → (after ≡ scratch)
-      × ((rules : List Rule) → Holds hs ss es (s .rules) rules → r ≡ checked (faultOf rules pool t) s (t .len) count)
+      × ((rules : List Rule) → Holds tb rules → r ≡ checked (faultOf rules pool t) s (t .len) count)
   pub joins : s .pass ≡ 1 → (after ≡ paste scratch (s .at) (drop (t .place) pool) (t .len)) × (r ≡ movedOn s (t .len) count)
   pub reads : (s .pass ≡ 0 → ⊥) → (s .pass ≡ 1 → ⊥) → (after ≡ scratch)
-      × ((rules : List Rule) → Holds hs ss es (s .rules) rules → Reads rules (take (s .total) scratch) s (t .len) count r)
+      × ((rules : List Rule) → Holds tb rules → Reads rules (take (s .total) scratch) s (t .len) count r)
 
 -- ---- The first stage and the last.
 
-abbrev pub firstStage : ℕ → ℕ → Stage
-firstStage rules count = if (eqb count 0) (done 0) (going 0 0 0 0 rules)
+abbrev pub firstStage : ℕ → Stage
+firstStage count = if (eqb count 0) (done 0) (going 0 0 0 0)
 
 -- 16 before it
-abbrev pub begun : ℕ → ℕ → Stage
-begun rules count = if (ltb maxTokens count) (refusedStage 16 0) (firstStage rules count)
+abbrev pub begun : ℕ → Stage
+begun count = if (ltb maxTokens count) (refusedStage 16 0) (firstStage count)
 
 -- the first stage of printing `count` tokens: refused by the book or by 16, or the first token
-pub record Begins (book : List ℕ) (count : ℕ) (hs ss es : List ℕ) (r : Stage) : Type 0 where
+pub record Begins (book : List ℕ) (count : ℕ) (tb : List ℕ) (r : Stage) : Type 0 where
   pub refuses : r .refused ≡ true → (r ≡ refusedStage (r .number) (r .place))
       × ((records pool out : List ℕ) → recordCount records ≡ count
       → PrintAnswered (printOutcome book records pool out) (print.Refused (stageRefusal r)) out)
   pub starts : r .refused ≡ false
-      → (rules : List Rule) × ((n : ℕ) × ((readBook book ≡ accepted rules)
-      × (Holds hs ss es n rules × ((count ≤ maxTokens) × (r ≡ firstStage n count)))))
+      → (rules : List Rule) × ((readBook book ≡ accepted rules)
+      × (Holds tb rules × ((count ≤ maxTokens) × (r ≡ firstStage count))))
 
 -- the answer, by the joined bytes in the scratch
 pub record Finishes (scratch : List ℕ) (s : Stage) (out : List ℕ) (r : PrintAnswer) (exit : List ℕ) : Type 0 where

@@ -9,9 +9,9 @@ ghost use mathlib.Core.List.{List};
 ghost use Prim.Native.Nat.{_+_, _≤_};
 ghost use lib.ListN.{length};
 ghost use Rattle.automaton.specs.Rule.{Rule};
+ghost use Rattle.automaton.specs.Contracts.{Holds, Held};
 ghost use Rattle.book.specs.Limits.{maxText};
-ghost use Rattle.book.specs.Contracts.{Fresh};
-ghost use Rattle.longest_match.specs.Contracts.{Holds, Held};
+ghost use Rattle.reader.specs.Contracts.{Lent};
 ghost use Rattle.slices.specs.Contracts.{answerOf, refusedPending, PendingAt, Ready, Opens, Begun};
 
 // What is pending: whether `token` is to be stored, as number `index`, and where the text goes on behind it; where there is none,
@@ -21,7 +21,6 @@ pub struct Pending {
     pub index: usize,
     pub token: TokenRecord,
     pub next: usize,
-    pub rules: usize,
     pub refused: bool,
     pub number: u8,
     pub place: usize,
@@ -40,7 +39,6 @@ pub fn refuse(number: u8, place: usize) -> Pending
             len: 0,
         },
         next: 0,
-        rules: 0,
         refused: true,
         number,
         place,
@@ -48,21 +46,12 @@ pub fn refuse(number: u8, place: usize) -> Pending
 }
 
 // What is pending after `index` tokens, where the text goes on at `at`.
-fn pending_at(
-    headers: &[u64],
-    states: &[u16],
-    edges: &[u64],
-    rules: usize,
-    text: &[u8],
-    index: usize,
-    at: usize,
-) -> Pending
-    requires { ⌜ Held (now headers) (now states) (now edges) rules ⌝ }
+fn pending_at(table: &[u64], text: &[u8], index: usize, at: usize) -> Pending
+    requires { ⌜ Held (now table) ⌝ }
     requires { ⌜ (at ≤ length (now text)) × (length (now text) ≤ maxText) ⌝ }
-    ensures { λ r. ⌜ ((rs : List Rule) → Holds (now (headers .entry)) (now (states .entry)) (now (edges .entry)) rules rs
-        → PendingAt rs (now (text .entry)) rules index at r) ⌝ }
+    ensures { λ r. ⌜ ((rs : List Rule) → Holds (now (table .entry)) rs → PendingAt rs (now (text .entry)) index at r) ⌝ }
 {
-    let c = longest_match::choose(headers, states, edges, rules, text, at, text.len());
+    let c = longest_match::choose(table, text, at, text.len());
     let rule = c.rule;
     let len = c.len;
     if len == 0 {
@@ -75,14 +64,12 @@ fn pending_at(
                 len: 0,
             },
             next: at,
-            rules,
             refused: false,
             number: 0,
             place: 0,
         };
     }
-    let header = headers[rule];
-    let tag = automaton::tag_of(header);
+    let tag = automaton::tag_of(table, rule);
     Pending {
         more: true,
         index,
@@ -92,54 +79,36 @@ fn pending_at(
             len: len as u32,
         },
         next: at + len,
-        rules,
         refused: false,
         number: 0,
         place: 0,
     }
 }
 
-// What is pending first in lexing `text` by the rules of the tables into `room` tokens.
-pub fn begin_rules(
-    headers: &[u64],
-    states: &[u16],
-    edges: &[u64],
-    rules: usize,
-    text: &[u8],
-    room: usize,
-) -> Pending
-    requires { ⌜ Held (now headers) (now states) (now edges) rules ⌝ }
-    ensures { λ r. ⌜ ((rs : List Rule) → Holds (now (headers .entry)) (now (states .entry)) (now (edges .entry)) rules rs
-        → Opens rs (now (text .entry)) rules room r) ⌝ }
+// What is pending first in lexing `text` by the rules of the table into `room` tokens.
+pub fn begin_rules(table: &[u64], text: &[u8], room: usize) -> Pending
+    requires { ⌜ Held (now table) ⌝ }
+    ensures { λ r. ⌜ ((rs : List Rule) → Holds (now (table .entry)) rs → Opens rs (now (text .entry)) room r) ⌝ }
 {
     if Book::TEXT < text.len() {
         return refuse(Refusal::TEXT_TOO_LONG, 0);
     }
     if room < text.len() {
-        let needed = longest_match::count(headers, states, edges, rules, text);
+        let needed = longest_match::count(table, text);
         if room < needed.tokens {
             return refuse(Refusal::TOO_FEW_RECORDS, needed.tokens);
         }
     }
-    pending_at(headers, states, edges, rules, text, 0, 0)
+    pending_at(table, text, 0, 0)
 }
 
 // What is pending once the token of `pending` is stored.
-pub fn next(
-    headers: &[u64; Book::RULES],
-    states: &[u16; Book::CELLS],
-    edges: &[u64; Book::EDGES],
-    text: &[u8],
-    pending: Pending,
-) -> Pending
-    requires { ⌜ Ready (now headers) (now states) (now edges) (now text) pending ⌝ }
-    ensures { λ r. ⌜ ((rs : List Rule) → Holds (now (headers .entry)) (now (states .entry)) (now (edges .entry)) (pending .rules) rs
-        → PendingAt rs (now (text .entry)) (pending .rules) (pending .index + 1) (pending .next) r) ⌝ }
+pub fn next(table: &[u64; Book::TABLE], text: &[u8], pending: Pending) -> Pending
+    requires { ⌜ Ready (now table) (now text) pending ⌝ }
+    ensures { λ r. ⌜ ((rs : List Rule) → Holds (now (table .entry)) rs
+        → PendingAt rs (now (text .entry)) (pending .index + 1) (pending .next) r) ⌝ }
 {
-    let rules = pending.rules;
-    let index = pending.index + 1;
-    let at = pending.next;
-    pending_at(headers, states, edges, rules, text, index, at)
+    pending_at(table, text, pending.index + 1, pending.next)
 }
 
 // What is answered when there is no token to store.
@@ -158,36 +127,13 @@ pub fn answer(pending: Pending) -> LexAnswer
     }
 }
 
-fn begin_arrays(
-    headers: &[u64; Book::RULES],
-    states: &[u16; Book::CELLS],
-    edges: &[u64; Book::EDGES],
-    rules: usize,
-    text: &[u8],
-    room: usize,
-) -> Pending
-    requires { ⌜ Held (now headers) (now states) (now edges) rules ⌝ }
-    ensures { λ r. ⌜ ((rs : List Rule) → Holds (now (headers .entry)) (now (states .entry)) (now (edges .entry)) rules rs
-        → Opens rs (now (text .entry)) rules room r) ⌝ }
+// What is pending first in lexing `text` by a book into `room` tokens; the table is lent empty, and holds the book's rules afterwards.
+pub fn begin(book: &[u8], table: &mut [u64; Book::TABLE], text: &[u8], room: usize) -> Pending
+    requires { ⌜ Lent (length (now book)) (now table) ⌝ }
+    ensures { λ r. ⌜ Begun (now (book .entry)) (now (text .entry)) room (now (table .exit)) r ⌝ }
 {
-    begin_rules(headers, states, edges, rules, text, room)
-}
-
-// What is pending first in lexing `text` by a book into `room` tokens; the tables are lent fresh, and hold the book's rules afterwards.
-pub fn begin(
-    book: &[u8],
-    headers: &mut [u64; Book::RULES],
-    states: &mut [u16; Book::CELLS],
-    edges: &mut [u64; Book::EDGES],
-    text: &[u8],
-    room: usize,
-) -> Pending
-    requires { ⌜ Fresh (now headers) (now states) (now edges) ⌝ }
-    ensures { λ r. ⌜ Begun (now (book .entry)) (now (text .entry)) room
-        (now (headers .exit)) (now (states .exit)) (now (edges .exit)) r ⌝ }
-{
-    match reader::load_arrays(book, headers, states, edges) {
-        BookAnswer::Accepted(rules) => begin_arrays(headers, states, edges, rules, text, room),
+    match reader::load(book, table) {
+        BookAnswer::Accepted(_) => begin_rules(table, text, room),
         BookAnswer::Refused(refusal) => refuse(refusal.number, refusal.place),
     }
 }

@@ -18,24 +18,13 @@ pub fn lex_tokens(book: &[u8], text: &[u8], tokens: &mut [TokenRecord]) -> LexAn
     ensures { λ r. ⌜ (r ≡ (lexOutcome (now (book .entry)) (now (text .entry)) (encoded (now (tokens .entry)))) .answer)
         × (encoded (now (tokens .exit)) ≡ (lexOutcome (now (book .entry)) (now (text .entry)) (encoded (now (tokens .entry)))) .records) ⌝ }
 {
-    let mut headers = [0u64; Book::RULES];
-    let mut states = [0u16; Book::CELLS];
-    let mut edges = [0u64; Book::EDGES];
-    let mut pending = crate::lexing::begin(
-        book,
-        &mut headers,
-        &mut states,
-        &mut edges,
-        text,
-        tokens.len(),
-    );
-    let h = &headers;
-    let s = &states;
-    let e = &edges;
+    let mut table = [0u64; Book::TABLE];
+    let mut pending = crate::lexing::begin(book, &mut table, text, tokens.len());
+    let t = &table;
     while pending.more {
         let index = pending.index;
         tokens[index] = pending.token;
-        pending = crate::lexing::next(h, s, e, text, pending);
+        pending = crate::lexing::next(t, text, pending);
     }
     crate::lexing::answer(pending)
 }
@@ -47,18 +36,14 @@ pub fn print_tokens(book: &[u8], tokens: &[TokenRecord], pool: &[u8], out: &mut 
         × (now (out .exit)
         ≡ (printOutcome (now (book .entry)) (encoded (now (tokens .entry))) (now (pool .entry)) (now (out .entry))) .out) ⌝ }
 {
-    let mut headers = [0u64; Book::RULES];
-    let mut states = [0u16; Book::CELLS];
-    let mut edges = [0u64; Book::EDGES];
+    let mut table = [0u64; Book::TABLE];
     let mut scratch = [0u8; Book::TEXT];
     let count = tokens.len();
-    let mut stage = crate::printing::begin(book, &mut headers, &mut states, &mut edges, count);
-    let h = &headers;
-    let s = &states;
-    let e = &edges;
+    let mut stage = crate::printing::begin(book, &mut table, count);
+    let t = &table;
     while stage.more {
         let index = stage.index;
-        stage = crate::printing::step(h, s, e, &mut scratch, pool, stage, tokens[index], count);
+        stage = crate::printing::step(t, &mut scratch, pool, stage, tokens[index], count);
     }
     crate::printing::finish(&scratch, stage, out)
 }

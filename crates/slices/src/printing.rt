@@ -12,9 +12,9 @@ ghost use Prim.Native.Nat.{_+_, _*_, _^_, _<_, _≤_};
 ghost use lib.ListN.{length, take, drop};
 ghost use lib.Seq.{paste};
 ghost use Rattle.automaton.specs.Rule.{Rule};
-ghost use Rattle.book.specs.Contracts.{Fresh};
+ghost use Rattle.automaton.specs.Contracts.{Holds, Held};
 ghost use Rattle.book.specs.Limits.{maxText, maxTokens};
-ghost use Rattle.longest_match.specs.Contracts.{Holds, Held};
+ghost use Rattle.reader.specs.Contracts.{Lent};
 ghost use Rattle.token_list.specs.Faults.{faultOf};
 ghost use Rattle.slices.specs.Contracts.{going, done, refusedStage, movedOn, checked, Reads, Steps, Stepped};
 ghost use Rattle.slices.specs.Contracts.{begun, Begins, Finishes};
@@ -27,7 +27,6 @@ pub struct Stage {
     pub index: usize,
     pub at: usize,
     pub total: usize,
-    pub rules: usize,
     pub refused: bool,
     pub number: u8,
     pub place: usize,
@@ -42,8 +41,8 @@ impl Stage {
     pub const READ: u8 = 2;
 }
 
-fn go(pass: u8, index: usize, at: usize, total: usize, rules: usize) -> Stage
-    ensures { λ r. ⌜ r ≡ going pass index at total rules ⌝ }
+fn go(pass: u8, index: usize, at: usize, total: usize) -> Stage
+    ensures { λ r. ⌜ r ≡ going pass index at total ⌝ }
 {
     Stage {
         more: true,
@@ -51,7 +50,6 @@ fn go(pass: u8, index: usize, at: usize, total: usize, rules: usize) -> Stage
         index,
         at,
         total,
-        rules,
         refused: false,
         number: 0,
         place: 0,
@@ -67,7 +65,6 @@ fn end(total: usize) -> Stage
         index: 0,
         at: 0,
         total,
-        rules: 0,
         refused: false,
         number: 0,
         place: 0,
@@ -83,7 +80,6 @@ fn refuse(number: u8, place: usize) -> Stage
         index: 0,
         at: 0,
         total: 0,
-        rules: 0,
         refused: true,
         number,
         place,
@@ -98,37 +94,28 @@ fn move_on(stage: Stage, len: usize, count: usize) -> Stage
     let index = stage.index + 1;
     let at = stage.at + len;
     if index < count {
-        return go(stage.pass, index, at, stage.total, stage.rules);
+        return go(stage.pass, index, at, stage.total);
     }
     if stage.pass == Stage::CHECK {
         if Book::TEXT < at {
             return refuse(Refusal::OUTPUT_TOO_LONG, 0);
         }
-        return go(Stage::JOIN, 0, 0, at, stage.rules);
+        return go(Stage::JOIN, 0, 0, at);
     }
     if stage.pass == Stage::JOIN {
-        return go(Stage::READ, 0, 0, stage.total, stage.rules);
+        return go(Stage::READ, 0, 0, stage.total);
     }
     end(stage.total)
 }
 
-fn check(
-    headers: &[u64],
-    states: &[u16],
-    edges: &[u64],
-    pool: &[u8],
-    stage: Stage,
-    token: TokenRecord,
-    count: usize,
-) -> Stage
-    requires { ⌜ Held (now headers) (now states) (now edges) (stage .rules) ⌝ }
+fn check(table: &[u64], pool: &[u8], stage: Stage, token: TokenRecord, count: usize) -> Stage
+    requires { ⌜ Held (now table) ⌝ }
     requires { ⌜ (stage .index < maxTokens) × (stage .at ≤ stage .index * 4294967295) ⌝ }
-    ensures { λ r. ⌜ ((rs : List Rule) → Holds (now (headers .entry)) (now (states .entry)) (now (edges .entry)) (stage .rules) rs
+    ensures { λ r. ⌜ ((rs : List Rule) → Holds (now (table .entry)) rs
         → r ≡ checked (faultOf rs (now (pool .entry)) token) stage (token .len) count) ⌝ }
 {
     let len = token.len as usize;
-    let rules = stage.rules;
-    match token_list::faults::token_fault(headers, states, edges, rules, pool, token) {
+    match token_list::faults::token_fault(table, pool, token) {
         Fault::By(number) => refuse(number, stage.index),
         Fault::Nothing => move_on(stage, len, count),
     }
@@ -147,25 +134,14 @@ fn join(pool: &[u8], scratch: &mut [u8], stage: Stage, token: TokenRecord, count
     move_on(stage, len, count)
 }
 
-fn read_on(
-    headers: &[u64],
-    states: &[u16],
-    edges: &[u64],
-    scratch: &[u8],
-    stage: Stage,
-    len: usize,
-    count: usize,
-) -> Stage
-    requires { ⌜ Held (now headers) (now states) (now edges) (stage .rules) ⌝ }
+fn read_on(table: &[u64], scratch: &[u8], stage: Stage, len: usize, count: usize) -> Stage
+    requires { ⌜ Held (now table) ⌝ }
     requires { ⌜ (stage .at ≤ stage .total) × (stage .total ≤ maxText) × (length (now scratch) ≡ maxText) ⌝ }
     requires { ⌜ (len < 4294967296) × (stage .index < maxTokens) ⌝ }
-    ensures { λ r. ⌜ ((rs : List Rule) → Holds (now (headers .entry)) (now (states .entry)) (now (edges .entry)) (stage .rules) rs
+    ensures { λ r. ⌜ ((rs : List Rule) → Holds (now (table .entry)) rs
         → Reads rs (take (stage .total) (now (scratch .entry))) stage len count r) ⌝ }
 {
-    let rules = stage.rules;
-    let total = stage.total;
-    let at = stage.at;
-    let chosen = longest_match::choose(headers, states, edges, rules, scratch, at, total);
+    let chosen = longest_match::choose(table, scratch, stage.at, stage.total);
     if chosen.len != len {
         return refuse(Refusal::READ_ON, stage.index);
     }
@@ -173,79 +149,59 @@ fn read_on(
 }
 
 fn step_pass(
-    headers: &[u64],
-    states: &[u16],
-    edges: &[u64],
+    table: &[u64],
     scratch: &mut [u8],
     pool: &[u8],
     stage: Stage,
     token: TokenRecord,
     count: usize,
 ) -> Stage
-    requires { ⌜ Steps (now headers) (now states) (now edges) (now scratch) (now pool) stage token ⌝ }
-    ensures { λ r. ⌜ Stepped (now (headers .entry)) (now (states .entry)) (now (edges .entry))
-        (now (scratch .entry)) (now (scratch .exit)) (now (pool .entry)) stage token count r ⌝ }
+    requires { ⌜ Steps (now table) (now scratch) (now pool) stage token ⌝ }
+    ensures { λ r. ⌜ Stepped (now (table .entry)) (now (scratch .entry)) (now (scratch .exit)) (now (pool .entry)) stage token count r ⌝ }
 {
     if stage.pass == Stage::CHECK {
-        return check(headers, states, edges, pool, stage, token, count);
+        return check(table, pool, stage, token, count);
     }
     if stage.pass == Stage::JOIN {
         return join(pool, scratch, stage, token, count);
     }
-    read_on(
-        headers,
-        states,
-        edges,
-        scratch,
-        stage,
-        token.len as usize,
-        count,
-    )
+    read_on(table, scratch, stage, token.len as usize, count)
 }
 
 // The stage after token number `stage.index` of `count`.
 pub fn step(
-    headers: &[u64; Book::RULES],
-    states: &[u16; Book::CELLS],
-    edges: &[u64; Book::EDGES],
+    table: &[u64; Book::TABLE],
     scratch: &mut [u8; Book::TEXT],
     pool: &[u8],
     stage: Stage,
     token: TokenRecord,
     count: usize,
 ) -> Stage
-    requires { ⌜ Steps (now headers) (now states) (now edges) (now scratch) (now pool) stage token ⌝ }
-    ensures { λ r. ⌜ Stepped (now (headers .entry)) (now (states .entry)) (now (edges .entry))
-        (now (scratch .entry)) (now (scratch .exit)) (now (pool .entry)) stage token count r ⌝ }
+    requires { ⌜ Steps (now table) (now scratch) (now pool) stage token ⌝ }
+    ensures { λ r. ⌜ Stepped (now (table .entry)) (now (scratch .entry)) (now (scratch .exit)) (now (pool .entry)) stage token count r ⌝ }
 {
-    step_pass(headers, states, edges, scratch, pool, stage, token, count)
+    step_pass(table, scratch, pool, stage, token, count)
 }
 
-fn begin_rules(rules: usize, count: usize) -> Stage
-    ensures { λ r. ⌜ r ≡ begun rules count ⌝ }
+fn begin_count(count: usize) -> Stage
+    ensures { λ r. ⌜ r ≡ begun count ⌝ }
 {
     if Book::TOKENS < count {
         refuse(Refusal::TOO_MANY_TOKENS, 0)
     } else if count == 0 {
         end(0)
     } else {
-        go(Stage::CHECK, 0, 0, 0, rules)
+        go(Stage::CHECK, 0, 0, 0)
     }
 }
 
-// The first stage of printing `count` tokens by a book; the tables are lent fresh, and hold the book's rules afterwards.
-pub fn begin(
-    book: &[u8],
-    headers: &mut [u64; Book::RULES],
-    states: &mut [u16; Book::CELLS],
-    edges: &mut [u64; Book::EDGES],
-    count: usize,
-) -> Stage
-    requires { ⌜ Fresh (now headers) (now states) (now edges) ⌝ }
-    ensures { λ r. ⌜ Begins (now (book .entry)) count (now (headers .exit)) (now (states .exit)) (now (edges .exit)) r ⌝ }
+// The first stage of printing `count` tokens by a book; the table is lent empty, and holds the book's rules afterwards.
+pub fn begin(book: &[u8], table: &mut [u64; Book::TABLE], count: usize) -> Stage
+    requires { ⌜ Lent (length (now book)) (now table) ⌝ }
+    ensures { λ r. ⌜ Begins (now (book .entry)) count (now (table .exit)) r ⌝ }
 {
-    match reader::load_arrays(book, headers, states, edges) {
-        BookAnswer::Accepted(rules) => begin_rules(rules, count),
+    match reader::load(book, table) {
+        BookAnswer::Accepted(_) => begin_count(count),
         BookAnswer::Refused(refusal) => refuse(refusal.number, refusal.place),
     }
 }

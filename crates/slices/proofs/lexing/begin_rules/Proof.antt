@@ -7,8 +7,8 @@ use lib.ListN.{length}
 use borrow.Author.Needs.{needs}
 use denote.Ref.{now}
 use Rattle.automaton.specs.Rule.{Rule}
+use Rattle.automaton.specs.Contracts.{Holds}
 use Rattle.longest_match.specs.Lexer.{lex}
-use Rattle.longest_match.specs.Contracts.{Holds}
 use Rattle.longest_match.proofs.Lexing.{lex-few}
 use Rattle.slices.proofs.Opening.{opens-long, opens-few, opens-pending}
 use Rattle.slices.proofs.lexing.begin_rules.Statement.{statement}
@@ -16,11 +16,10 @@ use Rattle.slices.proofs.lexing.begin_rules.Tie as tie
 
 -- the call, from where there is room
 abbrev call : tie.Joined2 → tie.Start
-call c = c .before .before .before .before .before .before
+call c = c .before .before .before .before
 
 -- there is room for the tokens, counted or not
-fits : (c : tie.Joined2) (rs : List Rule)
-    → Holds (now (call c .args .headers)) (now (call c .args .states)) (now (call c .args .edges)) (call c .args .rules) rs
+fits : (c : tie.Joined2) (rs : List Rule) → Holds (now (call c .args .table)) rs
     → length ((lex rs (now (call c .args .text))) .tokens) ≤ call c .args .room
 fits c rs h =
     ⊎-elim (λ w. omega (arith, w .1 .ensures rs h .tokens-are, w .3 .left))
