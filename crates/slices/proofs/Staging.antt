@@ -15,12 +15,13 @@ use Rattle.answer.specs.declared.BookAnswer.{BookAnswer}
 use Rattle.answer.specs.declared.PrintAnswer.{PrintAnswer}
 use Rattle.automaton.specs.Choice.{if}
 use Rattle.automaton.specs.Rule.{Rule}
+use Rattle.automaton.specs.Contracts.{Holds}
 use Rattle.automaton.proofs.Tests.{clash}
 use Rattle.book.specs.Limits.{maxText, maxTokens}
 use Rattle.reader.specs.Reading.{readBook, accepted}
 use Rattle.reader.specs.Contracts.{Loaded}
 use Rattle.longest_match.specs.Lexer.{join}
-use Rattle.longest_match.specs.Contracts.{Holds, Chooses}
+use Rattle.longest_match.specs.Contracts.{Chooses}
 use Rattle.longest_match.proofs.Held.{held-empty}
 use Rattle.record.specs.Records.{recordCount}
 use Rattle.record.specs.declared.TokenRecord.{TokenRecord}
@@ -45,38 +46,38 @@ use Rattle.answer.specs.declared.PrintAnswer.the-variants as print
 
 -- ---- the first stage
 
-module _ {bytes hs ss es : List ℕ} {count : ℕ} {b : BookAnswer} {r : Stage} (l : Loaded bytes b hs ss es) where
+module _ {bytes tb : List ℕ} {count : ℕ} {b : BookAnswer} {r : Stage} (l : Loaded bytes b tb) where
   refused : (number place : ℕ) → r ≡ refusedStage number place
       → ((records pool out : List ℕ) → recordCount records ≡ count
       → PrintAnswered (printOutcome bytes records pool out) (print.Refused (record { number = number; place = place })) out)
-      → Begins bytes count hs ss es r
+      → Begins bytes count tb r
   refused number place e f =
-      subst (Begins bytes count hs ss es) (sym e) (record { refuses = λ _. (refl, f); starts = λ p. clash refl p })
+      subst (Begins bytes count tb) (sym e) (record { refuses = λ _. (refl, f); starts = λ p. clash refl p })
 
   module _ {n : ℕ} (a : b ≡ book.Accepted n) where
-    many : maxTokens < count → r ≡ refusedStage 16 0 → Begins bytes count hs ss es r
+    many : maxTokens < count → r ≡ refusedStage 16 0 → Begins bytes count tb r
     many m e =
         refused 16 0 e
         (λ records pool out q. answered-book l a records pool out out _
         (λ rules h. answered-many rules records pool out (subst (λ (k : ℕ). maxTokens < k) (sym q) m) refl))
 
-    started : count ≤ maxTokens → r .refused ≡ false → r ≡ firstStage n count → Begins bytes count hs ss es r
+    started : count ≤ maxTokens → r .refused ≡ false → r ≡ firstStage count → Begins bytes count tb r
     started m f e =
         let w = loaded-rules l a in
-        record { refuses = λ p. clash p f; starts = λ _. (w .0, (n, (w .1 .0, (w .1 .1, (m, e))))) }
+        record { refuses = λ p. clash p f; starts = λ _. (w .0, (w .1 .0, (w .1 .1, (m, e)))) }
 
-    first : count ≤ maxTokens → (t : Bool) → eqb count 0 ≡ t → r ≡ if t (done 0) (going 0 0 0 0 n) → Begins bytes count hs ss es r
+    first : count ≤ maxTokens → (t : Bool) → eqb count 0 ≡ t → r ≡ if t (done 0) (going 0 0 0 0) → Begins bytes count tb r
     first m true z e = started m (ap (λ (s : Stage). s .refused) e) (rw z e)
     first m false z e = started m (ap (λ (s : Stage). s .refused) e) (rw z e)
 
-    pub begins-book : r ≡ begun n count → Begins bytes count hs ss es r
+    pub begins-book : r ≡ begun count → Begins bytes count tb r
     begins-book e = go (ltb maxTokens count) refl e
       where
-        go : (t : Bool) → ltb maxTokens count ≡ t → r ≡ if t (refusedStage 16 0) (firstStage n count) → Begins bytes count hs ss es r
+        go : (t : Bool) → ltb maxTokens count ≡ t → r ≡ if t (refusedStage 16 0) (firstStage count) → Begins bytes count tb r
         go true z q = many (ltb-true _ _ z) q
         go false z q = first (ltb-false _ _ z) (eqb count 0) refl q
 
-  pub begins-refused : {f : Refusal} → b ≡ book.Refused f → r ≡ refusedStage (f .number) (f .place) → Begins bytes count hs ss es r
+  pub begins-refused : {f : Refusal} → b ≡ book.Refused f → r ≡ refusedStage (f .number) (f .place) → Begins bytes count tb r
   begins-refused {f} a e = refused (f .number) (f .place) e (λ records pool out q. answered-refused l a records pool out)
 
 -- ---- the loop
@@ -87,28 +88,28 @@ pub record Counted (rules : List Rule) (records pool : List ℕ) (total : ℕ) :
   pub spanned : Spanned records pool total
 
 -- a stage of a list that is not refused yet; at most `left` steps follow
-pub data Phase (rules : List Rule) (n : ℕ) (records pool scratch : List ℕ) (left : ℕ) (s : Stage) : Type 0 where
-  checking : (k at : ℕ) → s ≡ going 0 k at 0 n → k < recordCount records → 3 * recordCount records ≤ left + k
-      → Measuring rules records pool at k → Phase rules n records pool scratch left s
-  joining : (k at total : ℕ) (entry : List ℕ) → s ≡ going 1 k at total n → k < recordCount records → 2 * recordCount records ≤ left + k
+pub data Phase (rules : List Rule) (records pool scratch : List ℕ) (left : ℕ) (s : Stage) : Type 0 where
+  checking : (k at : ℕ) → s ≡ going 0 k at 0 → k < recordCount records → 3 * recordCount records ≤ left + k
+      → Measuring rules records pool at k → Phase rules records pool scratch left s
+  joining : (k at total : ℕ) (entry : List ℕ) → s ≡ going 1 k at total → k < recordCount records → 2 * recordCount records ≤ left + k
       → Counted rules records pool total → length entry ≡ maxText → Joining records pool entry scratch at k
-      → Phase rules n records pool scratch left s
-  reading : (k at total : ℕ) → s ≡ going 2 k at total n → k < recordCount records → recordCount records ≤ left + k
+      → Phase rules records pool scratch left s
+  reading : (k at total : ℕ) → s ≡ going 2 k at total → k < recordCount records → recordCount records ≤ left + k
       → Counted rules records pool total → take total scratch ≡ join (tokensOf records pool)
-      → Extending rules records pool (take total scratch) at k → Phase rules n records pool scratch left s
-  over : (total : ℕ) → s ≡ done total → Clean rules records pool scratch total → Phase rules n records pool scratch left s
+      → Extending rules records pool (take total scratch) at k → Phase rules records pool scratch left s
+  over : (total : ℕ) → s ≡ done total → Clean rules records pool scratch total → Phase rules records pool scratch left s
 
-pub data Going (book hs ss es records pool scratch : List ℕ) (left : ℕ) (s : Stage) : Type 0 where
+pub data Going (book tb records pool scratch : List ℕ) (left : ℕ) (s : Stage) : Type 0 where
   refuses : (number place : ℕ) → s ≡ refusedStage number place
       → ((out : List ℕ)
       → PrintAnswered (printOutcome book records pool out) (print.Refused (record { number = number; place = place })) out)
-      → Going book hs ss es records pool scratch left s
-  stands : (rules : List Rule) (n : ℕ) → readBook book ≡ accepted rules → Holds hs ss es n rules → recordCount records ≤ maxTokens
-      → Phase rules n records pool scratch left s → Going book hs ss es records pool scratch left s
+      → Going book tb records pool scratch left s
+  stands : (rules : List Rule) → readBook book ≡ accepted rules → Holds tb rules → recordCount records ≤ maxTokens
+      → Phase rules records pool scratch left s → Going book tb records pool scratch left s
 
--- the three passes, in a book's rules that the tables hold
-module _ (book hs ss es records pool : List ℕ) (rules : List Rule) (n : ℕ) (accepts : readBook book ≡ accepted rules)
-    (holds : Holds hs ss es n rules) (few : recordCount records ≤ maxTokens) where
+-- the three passes, by a book's rules that the table holds
+module _ (book tb records pool : List ℕ) (rules : List Rule) (accepts : readBook book ≡ accepted rules)
+    (holds : Holds tb rules) (few : recordCount records ≤ maxTokens) where
   outcome : (out exit : List ℕ) (a : PrintAnswer) → PrintAnswered (printRules rules records pool out) a exit
       → PrintAnswered (printOutcome book records pool out) a exit
   unfolding printOutcome
@@ -123,23 +124,23 @@ module _ (book hs ss es records pool : List ℕ) (rules : List Rule) (n : ℕ) (
     module _ (k at : ℕ) (more : k < recordCount records) (bound : 3 * recordCount records ≤ left + k)
         (w : Measuring rules records pool at k) (e : t ≡ recordAt records k) where
       check-refused : {number : ℕ} → faultOf rules pool t ≡ some number → r ≡ refusedStage number k
-          → Going book hs ss es records pool scratch (left - 1) r
+          → Going book tb records pool scratch (left - 1) r
       check-refused f q =
           refuses _ _ q (λ out. outcome out out _ (answered-fault rules records pool out few (measuring-refused w more e f)))
 
       check-passed : faultOf rules pool t ≡ none → (b : Bool) → ltb (k + 1) (recordCount records) ≡ b
-          → r ≡ if b (going 0 (k + 1) (at + t .len) 0 n) (passOver 0 (at + t .len) 0 n)
-          → Going book hs ss es records pool scratch (left - 1) r
+          → r ≡ if b (going 0 (k + 1) (at + t .len) 0) (passOver 0 (at + t .len) 0)
+          → Going book tb records pool scratch (left - 1) r
       check-passed z true l q =
-          stands rules n accepts holds few
+          stands rules accepts holds few
           (checking (k + 1) (at + t .len) q (ltb-true _ _ l) (omega arith) (measuring-next w more e z (small .len)))
       check-passed z false l q = go (ltb maxText (at + t .len)) refl q
         where
           m : Faultless rules records pool × (at + t .len ≡ length (join (tokensOf records pool)))
           m = measuring-end (measuring-next w more e z (small .len)) (ltb-false _ _ l)
 
-          go : (b : Bool) → ltb maxText (at + t .len) ≡ b → r ≡ if b (refusedStage 20 0) (going 1 0 0 (at + t .len) n)
-              → Going book hs ss es records pool scratch (left - 1) r
+          go : (b : Bool) → ltb maxText (at + t .len) ≡ b → r ≡ if b (refusedStage 20 0) (going 1 0 0 (at + t .len))
+              → Going book tb records pool scratch (left - 1) r
           go true y q₁ =
               refuses 20 0 q₁
               (λ out. counted-outcome out out _ (m .0) (answered-long rules (tokensOf records pool) out (m .1) (ltb-true _ _ y) refl))
@@ -147,12 +148,12 @@ module _ (book hs ss es records pool : List ℕ) (rules : List Rule) (n : ℕ) (
               let s : Spanned records pool (at + t .len) =
               record { each = faultless-pool rules pool (recordsOf records) 0 (m .0); bytes = m .1; short = ltb-false _ _ y } in
               let d : recordCount records ≤ k + 1 = ltb-false _ _ l in
-              stands rules n accepts holds few
+              stands rules accepts holds few
               (joining 0 0 (at + t .len) scratch q₁ (omega arith) (omega (arith, bound)) (record { faultless = m .0; spanned = s }) sized
-              (joining-start records pool scratch (spanned-fitting s sized)))
+              (joining-start records pool scratch (spanned-fitting s (omega (arith, s .short, sized)))))
 
-      check-next : (o : Option ℕ) → faultOf rules pool t ≡ o → r ≡ checked o (going 0 k at 0 n) (t .len) (recordCount records)
-          → Going book hs ss es records pool scratch (left - 1) r
+      check-next : (o : Option ℕ) → faultOf rules pool t ≡ o → r ≡ checked o (going 0 k at 0) (t .len) (recordCount records)
+          → Going book tb records pool scratch (left - 1) r
       check-next none z q = check-passed z (ltb (k + 1) (recordCount records)) refl q
       check-next (some number) z q = check-refused z q
 
@@ -161,15 +162,15 @@ module _ (book hs ss es records pool : List ℕ) (rules : List Rule) (n : ℕ) (
         (c : Counted rules records pool total) (long : length entry ≡ maxText) (w : Joining records pool entry scratch at k)
         (e : t ≡ recordAt records k) (after : List ℕ) (p : after ≡ paste scratch at (drop (t .place) pool) (t .len)) where
       join-next : (b : Bool) → ltb (k + 1) (recordCount records) ≡ b
-          → r ≡ if b (going 1 (k + 1) (at + t .len) total n) (passOver 1 (at + t .len) total n)
-          → Going book hs ss es records pool after (left - 1) r
+          → r ≡ if b (going 1 (k + 1) (at + t .len) total) (passOver 1 (at + t .len) total)
+          → Going book tb records pool after (left - 1) r
       join-next true l q =
-          stands rules n accepts holds few
+          stands rules accepts holds few
           (joining (k + 1) (at + t .len) total entry q (ltb-true _ _ l) (omega arith) c long (joining-next w more e p))
       join-next false l q =
           let d : recordCount records ≤ k + 1 = ltb-false _ _ l in
           let x = spanned-laid (c .spanned) (joining-end (joining-next w more e p) d) in
-          stands rules n accepts holds few
+          stands rules accepts holds few
           (reading 0 0 total q (omega arith) (omega (arith, bound)) c x (extending-start (c .faultless) x))
 
       join-sized : length after ≡ maxText
@@ -181,19 +182,19 @@ module _ (book hs ss es records pool : List ℕ) (rules : List Rule) (n : ℕ) (
         (w : Extending rules records pool (take total scratch) at k) (e : t ≡ recordAt records k)
         {rule most : ℕ} (h : Chooses rules (drop at (take total scratch)) rule most) where
       read-passed : most ≡ t .len → (b : Bool) → ltb (k + 1) (recordCount records) ≡ b
-          → r ≡ if b (going 2 (k + 1) (at + t .len) total n) (passOver 2 (at + t .len) total n)
-          → Going book hs ss es records pool scratch (left - 1) r
+          → r ≡ if b (going 2 (k + 1) (at + t .len) total) (passOver 2 (at + t .len) total)
+          → Going book tb records pool scratch (left - 1) r
       read-passed z true l q =
-          stands rules n accepts holds few
+          stands rules accepts holds few
           (reading (k + 1) (at + t .len) total q (ltb-true _ _ l) (omega arith) c x (extending-next w (held-empty holds) more e h z))
       read-passed z false l q =
           let a = extending-end (extending-next w (held-empty holds) more e h z) (ltb-false _ _ l) in
-          stands rules n accepts holds few
+          stands rules accepts holds few
           (over total q (record { settled = record { faultless = c .faultless; apart = a }; spanned = c .spanned; laid = x }))
 
       read-next : (b : Bool) → eqb most (t .len) ≡ b
-          → r ≡ if b (movedOn (going 2 k at total n) (t .len) (recordCount records)) (refusedStage 21 k)
-          → Going book hs ss es records pool scratch (left - 1) r
+          → r ≡ if b (movedOn (going 2 k at total) (t .len) (recordCount records)) (refusedStage 21 k)
+          → Going book tb records pool scratch (left - 1) r
       read-next true z q = read-passed (eqb-true _ _ z) (ltb (k + 1) (recordCount records)) refl q
       read-next false z q =
           refuses 21 k q (λ out. counted-outcome out out _ (c .faultless)
@@ -214,49 +215,49 @@ halts m e f = clash m (ap (λ (z : Stage). z .more) e ∙ f)
 goes : {A : Type 0} {s s₁ : Stage} → s .more ≡ false → s ≡ s₁ → s₁ .more ≡ true → A
 goes m e f = clash (ap (λ (z : Stage). z .more) e ∙ f) m
 
-module _ {book hs ss es records pool : List ℕ} where
-  pub going-start : {count : ℕ} {r : Stage} (scratch : List ℕ) → Begins book count hs ss es r → recordCount records ≡ count
-      → Going book hs ss es records pool scratch (3 * recordCount records) r
+module _ {book tb records pool : List ℕ} where
+  pub going-start : {count : ℕ} {r : Stage} (scratch : List ℕ) → Begins book count tb r → recordCount records ≡ count
+      → Going book tb records pool scratch (3 * recordCount records) r
   going-start {count} {r} scratch b q = go (r .refused) refl
     where
-      first : (rules : List Rule) (n : ℕ) → readBook book ≡ accepted rules → Holds hs ss es n rules → recordCount records ≤ maxTokens
-          → (z : Bool) → eqb count 0 ≡ z → r ≡ if z (done 0) (going 0 0 0 0 n)
-          → Going book hs ss es records pool scratch (3 * recordCount records) r
-      first rules n a h m true z e =
+      first : (rules : List Rule) → readBook book ≡ accepted rules → Holds tb rules → recordCount records ≤ maxTokens
+          → (z : Bool) → eqb count 0 ≡ z → r ≡ if z (done 0) (going 0 0 0 0)
+          → Going book tb records pool scratch (3 * recordCount records) r
+      first rules a h m true z e =
           let none-left : recordCount records ≤ 0 = omega (arith, q, eqb-true count 0 z) in
           let c = measuring-end (measuring-start rules records pool) none-left in
           let x : take 0 scratch ≡ join (tokensOf records pool) = empty (join (tokensOf records pool)) (c .1) in
           let s : Spanned records pool 0 =
           record { each = faultless-pool rules pool (recordsOf records) 0 (c .0); bytes = c .1; short = omega arith } in
           let p = extending-end (extending-start (c .0) x) none-left in
-          stands rules n a h m
+          stands rules a h m
           (over 0 e (record { settled = record { faultless = c .0; apart = p }; spanned = s; laid = x }))
-      first rules n a h m false z e =
+      first rules a h m false z e =
           let some-left : 0 < recordCount records = pos (recordCount records) (λ w. eqb-false count 0 z (sym q ∙ w)) in
-          stands rules n a h m (checking 0 0 e some-left (omega arith) (measuring-start rules records pool))
+          stands rules a h m (checking 0 0 e some-left (omega arith) (measuring-start rules records pool))
 
-      go : (f : Bool) → r .refused ≡ f → Going book hs ss es records pool scratch (3 * recordCount records) r
+      go : (f : Bool) → r .refused ≡ f → Going book tb records pool scratch (3 * recordCount records) r
       go true e = refuses (r .number) (r .place) (b .refuses e .0) (λ out. b .refuses e .1 records pool out q)
       go false e =
           let w = b .starts e in
-          first (w .0) (w .1 .0) (w .1 .1 .0) (w .1 .1 .1 .0) (omega (arith, q, w .1 .1 .1 .1 .0)) (eqb count 0) refl (w .1 .1 .1 .1 .1)
+          first (w .0) (w .1 .0) (w .1 .1 .0) (omega (arith, q, w .1 .1 .1 .0)) (eqb count 0) refl (w .1 .1 .1 .1)
 
   module _ {scratch : List ℕ} {left : ℕ} {s : Stage} where
-    pub going-index : Going book hs ss es records pool scratch left s → s .more ≡ true → (s .index < recordCount records) × (0 < left)
+    pub going-index : Going book tb records pool scratch left s → s .more ≡ true → (s .index < recordCount records) × (0 < left)
     going-index (refuses number place e f) m = halts m e refl
-    going-index (stands rules n a h few (checking k at e l b w)) m = let i = ap (λ (z : Stage). z .index) e in (omega arith, omega arith)
-    going-index (stands rules n a h few (joining k at total entry e l b c d w)) m = let i = ap (λ (z : Stage). z .index) e in
+    going-index (stands rules a h few (checking k at e l b w)) m = let i = ap (λ (z : Stage). z .index) e in (omega arith, omega arith)
+    going-index (stands rules a h few (joining k at total entry e l b c d w)) m = let i = ap (λ (z : Stage). z .index) e in
         (omega arith, omega arith)
-    going-index (stands rules n a h few (reading k at total e l b c y w)) m = let i = ap (λ (z : Stage). z .index) e in
+    going-index (stands rules a h few (reading k at total e l b c y w)) m = let i = ap (λ (z : Stage). z .index) e in
         (omega arith, omega arith)
-    going-index (stands rules n a h few (over total e c)) m = halts m e refl
+    going-index (stands rules a h few (over total e c)) m = halts m e refl
 
     module _ {t : TokenRecord} (sized : length scratch ≡ maxText) (small : Fits t) where
-      pub going-steps : Going book hs ss es records pool scratch left s → s .more ≡ true → t ≡ recordAt records (s .index)
-          → Steps hs ss es scratch pool s t
+      pub going-steps : Going book tb records pool scratch left s → s .more ≡ true → t ≡ recordAt records (s .index)
+          → Steps tb scratch pool s t
       going-steps (refuses number place e f) m t-is = halts m e refl
-      going-steps (stands rules n a h few (checking k at e l b w)) m t-is =
-          subst (λ (z : Stage). Steps hs ss es scratch pool z t) (sym e) (record {
+      going-steps (stands rules a h few (checking k at e l b w)) m t-is =
+          subst (λ (z : Stage). Steps tb scratch pool z t) (sym e) (record {
             held = record { rules = rules; holds = h };
             sized = sized;
             few = omega arith;
@@ -264,9 +265,9 @@ module _ {book hs ss es records pool : List ℕ} where
             joins = λ p. absurd (omega (arith, p));
             reads = λ z _. absurd (z refl);
           })
-      going-steps (stands rules n a h few (joining k at total entry e l b c d w)) m t-is =
+      going-steps (stands rules a h few (joining k at total entry e l b c d w)) m t-is =
           let i : t ≡ recordAt records k = t-is ∙ ap (λ (z : Stage). recordAt records (z .index)) e in
-          subst (λ (z : Stage). Steps hs ss es scratch pool z t) (sym e) (record {
+          subst (λ (z : Stage). Steps tb scratch pool z t) (sym e) (record {
             held = record { rules = rules; holds = h };
             sized = sized;
             few = omega arith;
@@ -274,8 +275,8 @@ module _ {book hs ss es records pool : List ℕ} where
             joins = λ _. (joining-pool w l i, joining-room w l i);
             reads = λ _ z. absurd (z refl);
           })
-      going-steps (stands rules n a h few (reading k at total e l b c y w)) m t-is =
-          subst (λ (z : Stage). Steps hs ss es scratch pool z t) (sym e) (record {
+      going-steps (stands rules a h few (reading k at total e l b c y w)) m t-is =
+          subst (λ (z : Stage). Steps tb scratch pool z t) (sym e) (record {
             held = record { rules = rules; holds = h };
             sized = sized;
             few = omega arith;
@@ -286,57 +287,57 @@ module _ {book hs ss es records pool : List ℕ} where
               c .spanned .short,
             );
           })
-      going-steps (stands rules n a h few (over total e c)) m t-is = halts m e refl
+      going-steps (stands rules a h few (over total e c)) m t-is = halts m e refl
 
       -- t is the token at the stage's number, and r the stage after it
-      pub going-next : {after : List ℕ} {r : Stage} → Going book hs ss es records pool scratch left s → s .more ≡ true
+      pub going-next : {after : List ℕ} {r : Stage} → Going book tb records pool scratch left s → s .more ≡ true
           → t ≡ recordAt records (s .index)
-          → Stepped hs ss es scratch after pool s t (recordCount records) r
-          → Going book hs ss es records pool after (left - 1) r × (length after ≡ maxText)
+          → Stepped tb scratch after pool s t (recordCount records) r
+          → Going book tb records pool after (left - 1) r × (length after ≡ maxText)
       going-next {after} {r} (refuses number place e f) m t-is st = halts m e refl
-      going-next {after} {r} (stands rules n a h few (checking k at e l b w)) m t-is st =
+      going-next {after} {r} (stands rules a h few (checking k at e l b w)) m t-is st =
           let i : t ≡ recordAt records k = t-is ∙ ap (λ (z : Stage). recordAt records (z .index)) e in
-          let g = (subst (λ (z : Stage). Stepped hs ss es scratch after pool z t (recordCount records) r) e st) .checks refl in
-          subst (λ (z : List ℕ). Going book hs ss es records pool z (left - 1) r × (length z ≡ maxText)) (sym (g .0)) (
-            check-next book hs ss es records pool rules n a h few t small scratch sized left r k at l b w i (faultOf rules pool t)
+          let g = (subst (λ (z : Stage). Stepped tb scratch after pool z t (recordCount records) r) e st) .checks refl in
+          subst (λ (z : List ℕ). Going book tb records pool z (left - 1) r × (length z ≡ maxText)) (sym (g .0)) (
+            check-next book tb records pool rules a h few t small scratch sized left r k at l b w i (faultOf rules pool t)
                 refl (g .1 rules h),
             sized,
           )
-      going-next {after} {r} (stands rules n a h few (joining k at total entry e l b c d w)) m t-is st =
+      going-next {after} {r} (stands rules a h few (joining k at total entry e l b c d w)) m t-is st =
           let i : t ≡ recordAt records k = t-is ∙ ap (λ (z : Stage). recordAt records (z .index)) e in
-          let g = (subst (λ (z : Stage). Stepped hs ss es scratch after pool z t (recordCount records) r) e st) .joins refl in (
-            join-next book hs ss es records pool rules n a h few t small scratch sized left r k at total entry l b c d w i after (g .0)
+          let g = (subst (λ (z : Stage). Stepped tb scratch after pool z t (recordCount records) r) e st) .joins refl in (
+            join-next book tb records pool rules a h few t small scratch sized left r k at total entry l b c d w i after (g .0)
                 (ltb (k + 1) (recordCount records)) refl (g .1),
-            join-sized book hs ss es records pool rules n a h few t small scratch sized left r k at total entry l b c d w i after (g .0),
+            join-sized book tb records pool rules a h few t small scratch sized left r k at total entry l b c d w i after (g .0),
           )
-      going-next {after} {r} (stands rules n a h few (reading k at total e l b c y w)) m t-is st =
+      going-next {after} {r} (stands rules a h few (reading k at total e l b c y w)) m t-is st =
           let i : t ≡ recordAt records k = t-is ∙ ap (λ (z : Stage). recordAt records (z .index)) e in
-          let g = (subst (λ (z : Stage). Stepped hs ss es scratch after pool z t (recordCount records) r) e st) .reads
+          let g = (subst (λ (z : Stage). Stepped tb scratch after pool z t (recordCount records) r) e st) .reads
           (λ p. absurd (omega (arith, p))) (λ p. absurd (omega (arith, p))) in
           let d = g .1 rules h in
-          subst (λ (z : List ℕ). Going book hs ss es records pool z (left - 1) r × (length z ≡ maxText)) (sym (g .0)) (
-            read-next book hs ss es records pool rules n a h few t small scratch sized left r k at total l b c y w i (d .chooses)
+          subst (λ (z : List ℕ). Going book tb records pool z (left - 1) r × (length z ≡ maxText)) (sym (g .0)) (
+            read-next book tb records pool rules a h few t small scratch sized left r k at total l b c y w i (d .chooses)
                 (eqb (d .most) (t .len)) refl (d .result),
             sized,
           )
-      going-next {after} {r} (stands rules n a h few (over total e c)) m t-is st = halts m e refl
+      going-next {after} {r} (stands rules a h few (over total e c)) m t-is st = halts m e refl
 
-    pub going-total : Going book hs ss es records pool scratch left s → s .more ≡ false → s .total ≤ maxText
+    pub going-total : Going book tb records pool scratch left s → s .more ≡ false → s .total ≤ maxText
     going-total (refuses number place e f) m = let i = ap (λ (z : Stage). z .total) e in omega arith
-    going-total (stands rules n a h few (checking k at e l b w)) m = goes m e refl
-    going-total (stands rules n a h few (joining k at total entry e l b c d w)) m = goes m e refl
-    going-total (stands rules n a h few (reading k at total e l b c y w)) m = goes m e refl
-    going-total (stands rules n a h few (over total e c)) m = let i = ap (λ (z : Stage). z .total) e in omega (arith, c .spanned .short)
+    going-total (stands rules a h few (checking k at e l b w)) m = goes m e refl
+    going-total (stands rules a h few (joining k at total entry e l b c d w)) m = goes m e refl
+    going-total (stands rules a h few (reading k at total e l b c y w)) m = goes m e refl
+    going-total (stands rules a h few (over total e c)) m = let i = ap (λ (z : Stage). z .total) e in omega (arith, c .spanned .short)
 
-    pub going-finish : {out exit : List ℕ} {r : PrintAnswer} → Going book hs ss es records pool scratch left s → s .more ≡ false
+    pub going-finish : {out exit : List ℕ} {r : PrintAnswer} → Going book tb records pool scratch left s → s .more ≡ false
         → Finishes scratch s out r exit
         → PrintAnswered (printOutcome book records pool out) r exit
     going-finish {out} {exit} {r} (refuses number place e f) m h =
         let g = (subst (λ (z : Stage). Finishes scratch z out r exit) e h) .refuses refl in
         record { answer = g .0 ∙ f out .answer; out = g .1 ∙ f out .out }
-    going-finish (stands rules n a h few (checking k at e l b w)) m fin = goes m e refl
-    going-finish (stands rules n a h few (joining k at total entry e l b c d w)) m fin = goes m e refl
-    going-finish (stands rules n a h few (reading k at total e l b c y w)) m fin = goes m e refl
-    going-finish {out} {exit} {r} (stands rules n a h few (over total e c)) m fin =
+    going-finish (stands rules a h few (checking k at e l b w)) m fin = goes m e refl
+    going-finish (stands rules a h few (joining k at total entry e l b c d w)) m fin = goes m e refl
+    going-finish (stands rules a h few (reading k at total e l b c y w)) m fin = goes m e refl
+    going-finish {out} {exit} {r} (stands rules a h few (over total e c)) m fin =
         let g = (subst (λ (z : Stage). Finishes scratch z out r exit) e fin) .writes refl in
-        outcome book hs ss es records pool rules n a h few out exit r (clean-written rules records pool out few c g)
+        outcome book tb records pool rules a h few out exit r (clean-written rules records pool out few c g)

@@ -7,7 +7,7 @@ use Rattle.slices.proofs.printing.step_pass.Tie as tie
 
 -- the call, from behind the first test, and the first test, from behind the second
 abbrev call : tie.After-struct-known → tie.Start
-call c = c .before .before .before .before .before .before
+call c = c .before .before .before .before
 
 abbrev first : tie.Else2 → tie.Else1
 first c = c .before .before

@@ -1,8 +1,8 @@
--- `begin_rules`: each return is one case of `begun`. Assumes nothing.
+-- `begin_count`: each return is one case of `begun`. Assumes nothing.
 use borrow.Author.Tests.{lt-ltb, le-ltb, eq-eqb, ne-eqb}
 use borrow.Author.Needs.{needs}
-use Rattle.slices.proofs.printing.begin_rules.Statement.{statement}
-use Rattle.slices.proofs.printing.begin_rules.Tie as tie
+use Rattle.slices.proofs.printing.begin_count.Statement.{statement}
+use Rattle.slices.proofs.printing.begin_count.Tie as tie
 
 refuse-requires : tie.Need-refuse-requires
 refuse-requires c κs = search needs
@@ -22,5 +22,5 @@ returns-2 c = rw (le-ltb _ _ (c .before .before .if1 .left), eq-eqb _ _ (c .befo
 returns-3 : tie.Need-returns-3
 returns-3 c = rw (le-ltb _ _ (c .before .before .if1 .left), ne-eqb _ _ (c .before .if2 .left)) (c .go .ensures)
 
-pub begin-rules-spec : {M : Type 1} → statement M
-begin-rules-spec = tie.close (tie.spec refuse-requires end-requires go-requires returns returns-2 returns-3)
+pub begin-count-spec : {M : Type 1} → statement M
+begin-count-spec = tie.close (tie.spec refuse-requires end-requires go-requires returns returns-2 returns-3)
