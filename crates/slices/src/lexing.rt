@@ -27,7 +27,7 @@ pub struct Pending {
 }
 
 // What is pending in a refused call.
-pub fn refuse(number: u8, place: usize) -> Pending
+fn refuse(number: u8, place: usize) -> Pending
     ensures { λ r. ⌜ r ≡ refusedPending number place ⌝ }
 {
     Pending {
@@ -86,7 +86,7 @@ fn pending_at(table: &[u64], text: &[u8], index: usize, at: usize) -> Pending
 }
 
 // What is pending first in lexing `text` by the rules of the table into `room` tokens.
-pub fn begin_rules(table: &[u64], text: &[u8], room: usize) -> Pending
+fn begin_rules(table: &[u64], text: &[u8], room: usize) -> Pending
     requires { ⌜ Held (now table) ⌝ }
     ensures { λ r. ⌜ ((rs : List Rule) → Holds (now (table .entry)) rs → Opens rs (now (text .entry)) room r) ⌝ }
 {

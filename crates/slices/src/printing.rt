@@ -148,9 +148,10 @@ fn read_on(table: &[u64], scratch: &[u8], stage: Stage, len: usize, count: usize
     move_on(stage, len, count)
 }
 
-fn step_pass(
-    table: &[u64],
-    scratch: &mut [u8],
+// The stage after token number `stage.index` of `count`.
+pub fn step(
+    table: &[u64; Book::TABLE],
+    scratch: &mut [u8; Book::TEXT],
     pool: &[u8],
     stage: Stage,
     token: TokenRecord,
@@ -166,21 +167,6 @@ fn step_pass(
         return join(pool, scratch, stage, token, count);
     }
     read_on(table, scratch, stage, token.len as usize, count)
-}
-
-// The stage after token number `stage.index` of `count`.
-pub fn step(
-    table: &[u64; Book::TABLE],
-    scratch: &mut [u8; Book::TEXT],
-    pool: &[u8],
-    stage: Stage,
-    token: TokenRecord,
-    count: usize,
-) -> Stage
-    requires { ⌜ Steps (now table) (now scratch) (now pool) stage token ⌝ }
-    ensures { λ r. ⌜ Stepped (now (table .entry)) (now (scratch .entry)) (now (scratch .exit)) (now (pool .entry)) stage token count r ⌝ }
-{
-    step_pass(table, scratch, pool, stage, token, count)
 }
 
 fn begin_count(count: usize) -> Stage
@@ -206,7 +192,8 @@ pub fn begin(book: &[u8], table: &mut [u64; Book::TABLE], count: usize) -> Stage
     }
 }
 
-fn finish_scratch(scratch: &[u8], stage: Stage, out: &mut [u8]) -> PrintAnswer
+// What is answered when there is no token to be read: the joined bytes are written, or the call is refused.
+pub fn finish(scratch: &[u8; Book::TEXT], stage: Stage, out: &mut [u8]) -> PrintAnswer
     requires { ⌜ stage .total ≤ length (now scratch) ⌝ }
     ensures { λ r. ⌜ Finishes (now (scratch .entry)) stage (now (out .entry)) r (now (out .exit)) ⌝ }
 {
@@ -217,12 +204,4 @@ fn finish_scratch(scratch: &[u8], stage: Stage, out: &mut [u8]) -> PrintAnswer
         });
     }
     output::write(scratch, 0, stage.total, out)
-}
-
-// What is answered when there is no token to be read: the joined bytes are written, or the call is refused.
-pub fn finish(scratch: &[u8; Book::TEXT], stage: Stage, out: &mut [u8]) -> PrintAnswer
-    requires { ⌜ stage .total ≤ length (now scratch) ⌝ }
-    ensures { λ r. ⌜ Finishes (now (scratch .entry)) stage (now (out .entry)) r (now (out .exit)) ⌝ }
-{
-    finish_scratch(scratch, stage, out)
 }

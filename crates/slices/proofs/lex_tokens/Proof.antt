@@ -66,7 +66,7 @@ use Rattle.slices.specs.Contracts.{answerOf, PendingAt, Ready, Begun}
 use Rattle.slices.specs.declared.lexing.Pending.{Pending}
 use Rattle.slices.proofs.Storing.{Going, going-start, going-stop, going-room, going-ready, going-left, going-next}
 use Rattle.slices.proofs.Tests.{is-true, is-false, behind, tests}
-use Rattle.slices.proofs.Tables.{word, lent, shared, PassedOn, passed-on-twice}
+use Rattle.slices.proofs.Table.{word, lent, shared, PassedOn, passed-on-twice}
 use Rattle.slices.proofs.Locals.{frees-tail}
 use Rattle.slices.proofs.Arrays.{Words, words, ref-at, fills, lends-lying, takes-back, shares-lying, gives-up}
 use Rattle.slices.proofs.lexing.begin.Symbol.{name as #lexing·begin}

@@ -66,7 +66,7 @@ use Rattle.slices.specs.Contracts.{Steps, Stepped, Begins, Finishes}
 use Rattle.slices.specs.declared.printing.Stage.{Stage}
 use Rattle.slices.proofs.Staging.{Going, going-start, going-index, going-steps, going-next, going-total, going-finish}
 use Rattle.slices.proofs.Tests.{is-true, is-false, behind, tests}
-use Rattle.slices.proofs.Tables.{word, lent, shared, PassedOn, passed-on-twice}
+use Rattle.slices.proofs.Table.{word, lent, shared, PassedOn, passed-on-twice}
 use Rattle.slices.proofs.Locals.{frees-tail}
 use Rattle.slices.proofs.Arrays.{Words, words, ref-at, fills, lends-lying, takes-back, shares-lying, gives-up}
 use Rattle.slices.proofs.printing.begin.Symbol.{name as #printing·begin}

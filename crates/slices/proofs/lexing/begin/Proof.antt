@@ -21,7 +21,9 @@ refuse-requires : tie.Need-refuse-requires
 refuse-requires c κs = search needs
 
 returns : tie.Need-returns
-returns c = begun-book (c .before .before .before .before .before .load .ensures) (c .before .before .before .enum-told .given .1) (c .begin-rules .ensures)
+returns c =
+    begun-book (c .before .before .before .before .before .load .ensures) (c .before .before .before .enum-told .given .1)
+    (c .begin-rules .ensures)
 
 returns-2 : tie.Need-returns-2
 returns-2 c = begun-refused (c .before .before .before .before .load .ensures) (c .before .before .refusal .given .1) (c .refuse .ensures)

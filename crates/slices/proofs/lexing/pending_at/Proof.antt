@@ -1,5 +1,5 @@
 -- `pending_at`: no token, or the one that is chosen. Assumes nothing.
-use mathlib.Core.Path.{refl, _∙_, ap}
+use mathlib.Core.Path.{refl, ap}
 use mathlib.Core.List.{List}
 use Prim.Native.Nat.{ℕ, _+_, _%_, _≤_}
 use native.Mathlib.Omega.{arith}
@@ -63,7 +63,7 @@ returns-2 c = λ rs h.
     let chooses = chosen (c .before .before) rs h in
     record {
       plain = refl;
-          stored = refl;
+      stored = refl;
       stops = λ p. clash refl p;
       goes = λ _. record {
         rule = c .before .before .choose .result .rule;

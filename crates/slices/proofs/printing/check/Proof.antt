@@ -29,13 +29,13 @@ returns : tie.Need-returns
 returns c = λ rs h.
     let a = c .before .before .before .before .before .before .before .before .args in
     c .refuse .ensures ∙ rw (by-number (faultOf rs (now (a .pool)) (a .token))
-        (sym (c .before .before .number .given .1) ∙ c .before .before .before .before .token-fault .ensures rs h))
+    (sym (c .before .before .number .given .1) ∙ c .before .before .before .before .token-fault .ensures rs h))
 
 returns-2 : tie.Need-returns-2
 returns-2 c = λ rs h.
     let a = c .before .before .before .before .before .before .before .args in
     c .move-on .ensures ∙ rw (by-none (faultOf rs (now (a .pool)) (a .token))
-        (sym (c .before .enum-told .given .1) ∙ c .before .before .before .token-fault .ensures rs h))
+    (sym (c .before .enum-told .given .1) ∙ c .before .before .before .token-fault .ensures rs h))
 
 pub check-spec : {M : Type 1} → statement M
 check-spec =
