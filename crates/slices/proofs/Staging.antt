@@ -129,8 +129,7 @@ module _ (book tb records pool : List ℕ) (rules : List Rule) (accepts : readBo
           refuses _ _ q (λ out. outcome out out _ (answered-fault rules records pool out few (measuring-refused w more e f)))
 
       check-passed : faultOf rules pool t ≡ none → (b : Bool) → ltb (k + 1) (recordCount records) ≡ b
-          → r ≡ if b (going 0 (k + 1) (at + t .len) 0) (passOver 0 (at + t .len) 0)
-          → Going book tb records pool scratch (left - 1) r
+          → r ≡ if b (going 0 (k + 1) (at + t .len) 0) (passOver 0 (at + t .len) 0) → Going book tb records pool scratch (left - 1) r
       check-passed z true l q =
           stands rules accepts holds few
           (checking (k + 1) (at + t .len) q (ltb-true _ _ l) (omega arith) (measuring-next w more e z (small .len)))
@@ -162,16 +161,14 @@ module _ (book tb records pool : List ℕ) (rules : List Rule) (accepts : readBo
         (c : Counted rules records pool total) (long : length entry ≡ maxText) (w : Joining records pool entry scratch at k)
         (e : t ≡ recordAt records k) (after : List ℕ) (p : after ≡ paste scratch at (drop (t .place) pool) (t .len)) where
       join-next : (b : Bool) → ltb (k + 1) (recordCount records) ≡ b
-          → r ≡ if b (going 1 (k + 1) (at + t .len) total) (passOver 1 (at + t .len) total)
-          → Going book tb records pool after (left - 1) r
+          → r ≡ if b (going 1 (k + 1) (at + t .len) total) (passOver 1 (at + t .len) total) → Going book tb records pool after (left - 1) r
       join-next true l q =
           stands rules accepts holds few
           (joining (k + 1) (at + t .len) total entry q (ltb-true _ _ l) (omega arith) c long (joining-next w more e p))
       join-next false l q =
           let d : recordCount records ≤ k + 1 = ltb-false _ _ l in
           let x = spanned-laid (c .spanned) (joining-end (joining-next w more e p) d) in
-          stands rules accepts holds few
-          (reading 0 0 total q (omega arith) (omega (arith, bound)) c x (extending-start (c .faultless) x))
+          stands rules accepts holds few (reading 0 0 total q (omega arith) (omega (arith, bound)) c x (extending-start (c .faultless) x))
 
       join-sized : length after ≡ maxText
       join-sized = joining-next w more e p .same ∙ long
@@ -230,8 +227,7 @@ module _ {book tb records pool : List ℕ} where
           let s : Spanned records pool 0 =
           record { each = faultless-pool rules pool (recordsOf records) 0 (c .0); bytes = c .1; short = omega arith } in
           let p = extending-end (extending-start (c .0) x) none-left in
-          stands rules a h m
-          (over 0 e (record { settled = record { faultless = c .0; apart = p }; spanned = s; laid = x }))
+          stands rules a h m (over 0 e (record { settled = record { faultless = c .0; apart = p }; spanned = s; laid = x }))
       first rules a h m false z e =
           let some-left : 0 < recordCount records = pos (recordCount records) (λ w. eqb-false count 0 z (sym q ∙ w)) in
           stands rules a h m (checking 0 0 e some-left (omega arith) (measuring-start rules records pool))
@@ -291,8 +287,7 @@ module _ {book tb records pool : List ℕ} where
 
       -- t is the token at the stage's number, and r the stage after it
       pub going-next : {after : List ℕ} {r : Stage} → Going book tb records pool scratch left s → s .more ≡ true
-          → t ≡ recordAt records (s .index)
-          → Stepped tb scratch after pool s t (recordCount records) r
+          → t ≡ recordAt records (s .index) → Stepped tb scratch after pool s t (recordCount records) r
           → Going book tb records pool after (left - 1) r × (length after ≡ maxText)
       going-next {after} {r} (refuses number place e f) m t-is st = halts m e refl
       going-next {after} {r} (stands rules a h few (checking k at e l b w)) m t-is st =

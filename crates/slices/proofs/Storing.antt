@@ -118,8 +118,7 @@ module _ {book text entry tb : List ℕ} where
       -- the token is stored, and r is pending behind t
       pub going-next : {after : List ℕ} {r : Pending}
           → after ≡ take (10 * t .index) records ++ tenBytes (t .token) ++ drop (10 * t .index + 10) records
-          → ((rs : List Rule) → Holds tb rs → PendingAt rs text (t .index + 1) (t .next) r)
-          → Going book text entry tb after (left - 1) r
+          → ((rs : List Rule) → Holds tb rs → PendingAt rs text (t .index + 1) (t .next) r) → Going book text entry tb after (left - 1) r
       going-next {after} {r} e f =
           let u = f rules (s .holds) in
           record {

@@ -87,8 +87,7 @@ pub record Begun (book text : List ℕ) (room : ℕ) (tb : List ℕ) (p : Pendin
   pub idle : p .refused ≡ true → p .more ≡ false
   pub refuses : p .refused ≡ true → (records : List ℕ) → recordCount records ≡ room
       → LexAnswered (lexOutcome book text records) (answer.Refused (pendingRefusal p)) records
-  pub starts : p .refused ≡ false
-      → (rules : List Rule) × ((readBook book ≡ accepted rules) × (Holds tb rules × Started rules text room p))
+  pub starts : p .refused ≡ false → (rules : List Rule) × ((readBook book ≡ accepted rules) × (Holds tb rules × Started rules text room p))
 
 -- ==== Module printing: the stages.
 
@@ -120,8 +119,7 @@ passOver pass at total =
 -- the stage after a token of `len` bytes
 abbrev pub movedOn : Stage → ℕ → ℕ → Stage
 movedOn s len count =
-    if (ltb (s .index + 1) count) (going (s .pass) (s .index + 1) (s .at + len) (s .total))
-    (passOver (s .pass) (s .at + len) (s .total))
+    if (ltb (s .index + 1) count) (going (s .pass) (s .index + 1) (s .at + len) (s .total)) (passOver (s .pass) (s .at + len) (s .total))
 
 -- the first pass: the token's fault, if it has one
 abbrev pub checked : Option ℕ → Stage → ℕ → ℕ → Stage

@@ -543,8 +543,7 @@ module _ {M : Type 1} (𝓤 : URA M) (H : Heap 𝓤) (A : Atoms 𝓤) (W : Given
             ∷ ‵ (fdies word l₇) ∷ ‵ (fdies (words w8 65536) l₆) ∷ ‵ (fdies (words w64 largeTable) l₅)
             ∷ ‵ (fat fullShare outs l₄ 0 (w (length os))) ∷ ‵ (fdies outs l₄) ∷ ‵ (fat fullShare pools l₃ 0 v) ∷ ‵ (fdies pools l₃)
             ∷ ‵ (fat fullShare tokens l₂ 0 s) ∷ ‵ (fdies tokens l₂) ∷ ‵ (fat fullShare books l₁ 0 vb) ∷ ‵ (fdies books l₁)
-            ∷ ‵ (froom L′.mir l₀ 0) ∷ ‵ (fdies L′.mir l₀) ∷ [])
-            (runs (𝓣 .C) (𝓣 .Λ) Env₀ body.t-6 (atRet Env₀ Post))
+            ∷ ‵ (froom L′.mir l₀ 0) ∷ ‵ (fdies L′.mir l₀) ∷ []) (runs (𝓣 .C) (𝓣 .Λ) Env₀ body.t-6 (atRet Env₀ Post))
         shared-out =
             assigns ! (addr ! (from ! (stop !))) (from ! (stop !)) (init ! 30 refl (tt, tt)) $ forget ! 26 refl $
             shares-lying ! tt (named 0) w64 largeTable l₅ tb (λ ν δ.
