@@ -1,11 +1,16 @@
 use mathlib.Core.Path.{refl}
-use Prim.Native.Nat.{_*_, _≤_}
+use Prim.Native.Nat.{_*_, _/_, _≤_}
+use native.Mathlib.Nat.{mul-le-mul-right}
 use native.Mathlib.Omega.{arith}
+use lib.ListN.{length}
 use borrow.Author.Needs.{needs}
 use borrow.Author.Tests.{leb-true}
 use Rattle.automaton.proofs.Tests.{clash}
 use Rattle.separated.proofs.is_short.Statement.{statement}
 use Rattle.separated.proofs.is_short.Tie as tie
+
+product : (c : tie.After-struct-known) → length (c .before .before .before .before .before .before .before .before .args .records .now) / 10 * c .before .before .before .before .before .before .before .before .args .separator .len ≤ 2048 * c .before .before .before .before .before .before .before .before .args .separator .len
+product c = mul-le-mul-right (c .before .before .before .before .before .before .before .before .args .separator .len) (c .before .before .before .before .before .if1 .left)
 
 returns : tie.Need-returns
 returns c = λ e. clash e refl
@@ -20,10 +25,10 @@ cast-result : tie.Need-cast-result
 cast-result c = search needs
 
 mul-result : tie.Need-mul-result
-mul-result c = omega (arith, product c)
+mul-result c = omega (arith, product c, c .struct-known .given)
 
 add-result : tie.Need-add-result
-add-result c = omega (arith, product c, c .measure .ensures .fits _ (c .total .given .1) .short)
+add-result c = omega (arith, product c, c .struct-known .given, c .before .before .before .before .measure .ensures .fits _ (c .before .before .total .given .1) .short)
 
 enum-told : tie.Need-enum-told
 enum-told c = search needs
