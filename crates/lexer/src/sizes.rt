@@ -3,18 +3,18 @@
 use answer::LexAnswer;
 use answer::Refusal;
 use book::Book;
-ghost use Prim.Native.Nat.{_≤_};
+ghost use Prim.Native.Nat.{_≤_, _<_};
 ghost use lib.ListN.{length};
+ghost use Rattle.book.specs.Limits.{maxBytes};
 ghost use Rattle.lexer.specs.Outcome.{lexOutcome};
 ghost use Rattle.lexer.specs.Contracts.{LexAnswered};
 
-// A book that is too long needs no table.
 pub fn lex_sized(book: &[u8], text: &[u8], records: &mut [u8]) -> LexAnswer
     ensures { λ r. ⌜ LexAnswered (lexOutcome (now (book .entry)) (now (text .entry)) (now (records .entry))) r (now (records .exit)) ⌝ }
 {
     let len = book.len();
     if Book::BYTES < len {
-        return LexAnswer::refused(Refusal::BOOK_TOO_LONG, 0);
+        return refuse_long(book, text, records);
     }
     if len <= 1024 {
         return lex_1k(book, text, records);
@@ -32,6 +32,14 @@ pub fn lex_sized(book: &[u8], text: &[u8], records: &mut [u8]) -> LexAnswer
         return lex_16k(book, text, records);
     }
     lex_32k(book, text, records)
+}
+
+// A book that is too long needs no table.
+fn refuse_long(book: &[u8], text: &[u8], records: &[u8]) -> LexAnswer
+    requires { ⌜ maxBytes < length (now book) ⌝ }
+    ensures { λ r. ⌜ LexAnswered (lexOutcome (now (book .entry)) (now (text .entry)) (now (records .entry))) r (now (records .entry)) ⌝ }
+{
+    LexAnswer::refused(Refusal::BOOK_TOO_LONG, 0)
 }
 
 fn lex_1k(book: &[u8], text: &[u8], records: &mut [u8]) -> LexAnswer

@@ -1,5 +1,7 @@
-// The reader of rule books: `read` answers the number of rules or the refusal; `load` fills a table too, for the crates that use
-// the rules.
+// The reader of rule books: `read` answers the number of rules or the refusal, with a table of the size that the book needs (`sizes`);
+// `load` fills a lent table, for the crates that use the rules.
+pub mod sizes;
+
 use answer::BookAnswer;
 use answer::Refusal;
 use automaton::STATES;
@@ -8,11 +10,10 @@ use book::Progress;
 use command::Cursor;
 use command::Decoded;
 ghost use mathlib.Core.Path.{_≡_};
-ghost use Prim.Native.Nat.{_≤_};
 ghost use lib.ListN.{length};
 ghost use Rattle.book.specs.Contracts.{Fresh};
 ghost use Rattle.reader.specs.Reading.{readBook, answer};
-ghost use Rattle.reader.specs.Contracts.{Lent, Loaded, smallBook};
+ghost use Rattle.reader.specs.Contracts.{Lent, Loaded};
 
 // Checks a book and fills the table with its rules; where the book is refused, what it holds is of no account.
 pub fn load(book: &[u8], table: &mut [u64]) -> BookAnswer
@@ -64,24 +65,5 @@ fn load_rows(book: &[u8], table: &mut [u64], rows: &mut [u32]) -> BookAnswer
 pub fn read(book: &[u8]) -> BookAnswer
     ensures { λ r. ⌜ r ≡ answer (readBook (now (book .entry))) ⌝ }
 {
-    if book.len() <= Book::SMALL {
-        read_small(book)
-    } else {
-        read_large(book)
-    }
-}
-
-fn read_small(book: &[u8]) -> BookAnswer
-    requires { ⌜ length (now book) ≤ smallBook ⌝ }
-    ensures { λ r. ⌜ r ≡ answer (readBook (now (book .entry))) ⌝ }
-{
-    let mut table = [0u64; Book::SMALL_TABLE];
-    load(book, &mut table)
-}
-
-fn read_large(book: &[u8]) -> BookAnswer
-    ensures { λ r. ⌜ r ≡ answer (readBook (now (book .entry))) ⌝ }
-{
-    let mut table = [0u64; Book::TABLE];
-    load(book, &mut table)
+    crate::sizes::read_sized(book)
 }

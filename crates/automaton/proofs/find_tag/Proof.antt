@@ -24,9 +24,6 @@ here : (c : tie.In-loop Inv-loop μ-loop) (rs : List Rule) (h : Holds (now (c .b
     → Table (now (c .before .before .before .before .args .table)) (c .before .loop .k) (ruleAt rs (c .before .loop .k))
 here c rs h = h .each (c .before .loop .k) (more c rs h)
 
-count-of-requires : tie.Need-count-of-requires Inv-loop μ-loop
-count-of-requires c κs = search needs
-
 loop-holds : tie.Need-loop-holds Inv-loop μ-loop
 loop-holds c = λ rs h. ranking-start rs _
 
@@ -53,4 +50,4 @@ returns-2 c = λ rs h. ranking-end (c .before .loop .inv rs h) (omega (arith, c 
 
 pub find-tag-spec : {M : Type 1} → statement M
 find-tag-spec =
-    tie.close (tie.spec Inv-loop μ-loop count-of-requires loop-holds tag-of-requires returns add-k loop-less loop-again returns-2)
+    tie.close (tie.spec Inv-loop μ-loop (λ c κs. search needs) loop-holds tag-of-requires returns add-k loop-less loop-again returns-2)

@@ -6,18 +6,6 @@ use borrow.Author.Needs.{needs}
 use Rattle.big_endian.proofs.put_four.Statement.{statement}
 use Rattle.big_endian.proofs.put_four.Tie as tie
 
-put-two-requires : tie.Need-put-two-requires
-put-two-requires c κs = search needs
-
-add-put-two : tie.Need-add-put-two
-add-put-two c = search needs
-
-put-two-requires-2 : tie.Need-put-two-requires-2
-put-two-requires-2 c κs = search needs
-
-same-length : tie.Need-same-length
-same-length c = search needs
-
 returns : tie.Need-returns
 returns c =
     let a = c .before .before .before .before .before .before .before .before .before .args in
@@ -25,4 +13,4 @@ returns c =
         (four-stored (now (a .bytes)) (a .at) (a .n))
 
 pub put-four-spec : {M : Type 1} → statement M
-put-four-spec = tie.close (tie.spec put-two-requires add-put-two put-two-requires-2 same-length returns)
+put-four-spec = tie.close (tie.spec (λ c κs. search needs) (λ c. search needs) (λ c κs. search needs) (λ c. search needs) returns)

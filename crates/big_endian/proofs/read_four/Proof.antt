@@ -5,27 +5,6 @@ use borrow.Author.Needs.{needs}
 use Rattle.big_endian.proofs.read_four.Statement.{statement}
 use Rattle.big_endian.proofs.read_four.Tie as tie
 
-read-two-requires : tie.Need-read-two-requires
-read-two-requires c κs = search needs
-
-cast-result : tie.Need-cast-result
-cast-result c = search needs
-
-mul-result : tie.Need-mul-result
-mul-result c = search needs
-
-add-read-two : tie.Need-add-read-two
-add-read-two c = search needs
-
-read-two-requires-2 : tie.Need-read-two-requires-2
-read-two-requires-2 c κs = search needs
-
-cast-result-2 : tie.Need-cast-result-2
-cast-result-2 c = search needs
-
-add-result : tie.Need-add-result
-add-result c = search needs
-
 returns : tie.Need-returns
 returns c =
     let a = c .before .before .before .args in
@@ -33,4 +12,5 @@ returns c =
 
 pub read-four-spec : {M : Type 1} → statement M
 read-four-spec =
-    tie.close (tie.spec read-two-requires cast-result mul-result add-read-two read-two-requires-2 cast-result-2 add-result returns)
+    tie.close (tie.spec (λ c κs. search needs) (λ c. search needs) (λ c. search needs) (λ c. search needs) (λ c κs. search needs)
+    (λ c. search needs) (λ c. search needs) returns)

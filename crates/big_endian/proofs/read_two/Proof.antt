@@ -5,20 +5,11 @@ use borrow.Author.Needs.{needs}
 use Rattle.big_endian.proofs.read_two.Statement.{statement}
 use Rattle.big_endian.proofs.read_two.Tie as tie
 
-shared-slice-read-result : tie.Need-shared-slice-read-result
-shared-slice-read-result c = search needs
-
 cast-result : tie.Need-cast-result
 cast-result c = omega (arith, c .shared-slice-known .given (c .before .args .at))
 
 mul-result : tie.Need-mul-result
 mul-result c = omega (arith, c .shared-slice-known .given (c .before .args .at))
-
-add-result : tie.Need-add-result
-add-result c = search needs
-
-shared-slice-read-result-2 : tie.Need-shared-slice-read-result-2
-shared-slice-read-result-2 c = search needs
 
 cast-result-2 : tie.Need-cast-result-2
 cast-result-2 c = omega (arith, c .shared-slice-known2 .given (c .before .before .args .at + 1))
@@ -27,10 +18,7 @@ add-result-2 : tie.Need-add-result-2
 add-result-2 c = omega (arith, c .shared-slice-known2 .given (c .before .before .args .at + 1), c .before .shared-slice-known .given
     (c .before .before .args .at))
 
-returns : tie.Need-returns
-returns c = search needs
-
 pub read-two-spec : {M : Type 1} → statement M
 read-two-spec =
-    tie.close (tie.spec shared-slice-read-result cast-result mul-result add-result shared-slice-read-result-2 cast-result-2 add-result-2
-    returns)
+    tie.close (tie.spec (λ c. search needs) cast-result mul-result (λ c. search needs) (λ c. search needs) cast-result-2 add-result-2
+    (λ c. search needs))

@@ -61,5 +61,4 @@ returns-2 : tie.Need-returns-2 Inv-loop μ-loop
 returns-2 c = cutting-stop (c .before .loop .inv) (lex-end builtinRules _ _ (ended c))
 
 pub count-spec : {M : Type 1} → statement M
-count-spec =
-    tie.close (tie.spec Inv-loop μ-loop loop-holds scan-at-requires returns add-tokens add-at loop-less loop-again returns-2)
+count-spec = tie.close (tie.spec Inv-loop μ-loop loop-holds scan-at-requires returns add-tokens add-at loop-less loop-again returns-2)

@@ -25,17 +25,8 @@ fits c =
     (λ w. enough builtinRules _ (now (call c .args .records)) (w .left))
     (c .if2 .came)
 
-refused-requires : tie.Need-refused-requires
-refused-requires c κs = search needs
-
 returns : tie.Need-returns
 returns c = let a = answered-long builtinRules _ _ (c .before .if1 .taken) in (c .refused .ensures ∙ a .answer, a .records)
-
-count-requires : tie.Need-count-requires
-count-requires c κs = search needs
-
-refused-requires-2 : tie.Need-refused-requires-2
-refused-requires-2 c κs = search needs
 
 returns-2 : tie.Need-returns-2
 returns-2 c =
@@ -46,9 +37,6 @@ returns-2 c =
 fill-requires : tie.Need-fill-requires
 fill-requires c κs = (call (c .before) .pre, omega (arith, fits (c .before)))
 
-same-length : tie.Need-same-length
-same-length c = search needs
-
 returns-3 : tie.Need-returns-3
 returns-3 c =
     let filled = c .before .before in
@@ -58,4 +46,5 @@ returns-3 c =
 
 pub lex-lent-spec : {M : Type 1} → statement M
 lex-lent-spec =
-    tie.close (tie.spec refused-requires returns count-requires refused-requires-2 returns-2 fill-requires same-length returns-3)
+    tie.close (tie.spec (λ c κs. search needs) returns (λ c κs. search needs) (λ c κs. search needs) returns-2 fill-requires
+    (λ c. search needs) returns-3)

@@ -4,43 +4,16 @@ use Rattle.lexer.proofs.Outcomes.{loaded-held, answered-book, answered-
 use Rattle.lexer.proofs.lex_with.Statement.{statement}
 use Rattle.lexer.proofs.lex_with.Tie as tie
 
-load-requires : tie.Need-load-requires
-load-requires c κs = search needs
-
-enum-told : tie.Need-enum-told
-enum-told c = search needs
-
 lex-rules-requires : tie.Need-lex-rules-requires
 lex-rules-requires c κs = loaded-held (c .before .before .before .before .before .before .load .ensures) (c .before .before .enum-told .given .1)
 
-enum-known-refusal : tie.Need-enum-known-refusal
-enum-known-refusal c = search needs
-
-same-length : tie.Need-same-length
-same-length c = search needs
-
-same-length-2 : tie.Need-same-length-2
-same-length-2 c = search needs
-
 returns : tie.Need-returns
 returns c = answered-book (c .before .before .before .before .before .before .before .before .before .load .ensures) (c .before .before .before .before .before .enum-told .given .1) _ _ _ _ (c .before .before .lex-rules .ensures)
-
-same-length-3 : tie.Need-same-length-3
-same-length-3 c = search needs
 
 returns-2 : tie.Need-returns-2
 returns-2 c = answered-refused (c .before .before .before .before .before .load .ensures) (c .before .refusal .given .1) _ _
 
 pub lex-with-spec : {M : Type 1} → statement M
 lex-with-spec =
-    tie.close
-    (tie.spec
-    load-requires
-    enum-told
-    lex-rules-requires
-    enum-known-refusal
-    same-length
-    same-length-2
-    returns
-    same-length-3
-    returns-2)
+    tie.close (tie.spec (λ c κs. search needs) (λ c. search needs) lex-rules-requires (λ c. search needs) (λ c. search needs)
+    (λ c. search needs) returns (λ c. search needs) returns-2)

@@ -18,5 +18,4 @@ returns c =
     (z .0, (l .lex .ensures .1, z .1))
 
 pub list-spec : {M : Type 1} → statement M
-list-spec =
-    tie.close (tie.spec (λ c κs. search needs) put-lines-requires (λ c. search needs) (λ c. search needs) returns)
+list-spec = tie.close (tie.spec (λ c κs. search needs) put-lines-requires (λ c. search needs) (λ c. search needs) returns)

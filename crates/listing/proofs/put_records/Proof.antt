@@ -36,5 +36,4 @@ returns c = going-end (c .before .loop .inv) (c .before .before .before .before 
 
 pub put-records-spec : {M : Type 1} → statement M
 put-records-spec =
-    tie.close (tie.spec Inv-loop μ-loop loop-holds put-record-requires (λ c. omega arith) (λ c. omega arith) loop-again same-length
-    returns)
+    tie.close (tie.spec Inv-loop μ-loop loop-holds put-record-requires (λ c. omega arith) (λ c. omega arith) loop-again same-length returns)

@@ -7,22 +7,10 @@ use Rattle.longest_match.specs.Contracts.{part, Chooses}
 use Rattle.longest_match.proofs.choose.Statement.{statement}
 use Rattle.longest_match.proofs.choose.Tie as tie
 
-sub-choose-of : tie.Need-sub-choose-of
-sub-choose-of c = search needs
-
-part-choose-of-start : tie.Need-part-choose-of-start
-part-choose-of-start c = search needs
-
-part-choose-of-end : tie.Need-part-choose-of-end
-part-choose-of-end c = search needs
-
-choose-of-requires : tie.Need-choose-of-requires
-choose-of-requires c κs = search needs
-
 returns : tie.Need-returns
 unfolding part
 returns c = λ rs t h e.
     subst (λ (x : List ℕ). Chooses rs x (c .choose-of .result .rule) (c .choose-of .result .len)) e (c .choose-of .ensures rs h)
 
 pub choose-spec : {M : Type 1} → statement M
-choose-spec = tie.close (tie.spec sub-choose-of part-choose-of-start part-choose-of-end choose-of-requires returns)
+choose-spec = tie.close (tie.spec (λ c. search needs) (λ c. search needs) (λ c. search needs) (λ c κs. search needs) returns)

@@ -22,9 +22,6 @@ here : (c : tie.In-loop Inv-loop μ-loop) (rs : List Rule) (h : Holds (now (c .b
     → Table (now (c .before .before .before .before .before .args .table)) (c .before .loop .next) (ruleAt rs (c .before .loop .next))
 here c rs h = h .each (c .before .loop .next) (omega (arith, c .loop-test .taken, c .before .before .count-of .ensures rs h))
 
-count-of-requires : tie.Need-count-of-requires Inv-loop μ-loop
-count-of-requires c κs = search needs
-
 loop-holds : tie.Need-loop-holds Inv-loop μ-loop
 loop-holds c = (omega arith, λ rs h. best-start rs _)
 
@@ -59,5 +56,5 @@ returns c = λ rs h.
 
 pub choose-of-spec : {M : Type 1} → statement M
 choose-of-spec =
-    tie.close (tie.spec Inv-loop μ-loop count-of-requires loop-holds add-next longest-prefix-requires loop-less loop-again loop-less-2
-        loop-again-2 returns)
+    tie.close (tie.spec Inv-loop μ-loop (λ c κs. search needs) loop-holds add-next longest-prefix-requires loop-less loop-again loop-less-2
+    loop-again-2 returns)

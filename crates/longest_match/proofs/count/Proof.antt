@@ -62,5 +62,4 @@ returns-2 : tie.Need-returns-2 Inv-loop μ-loop
 returns-2 c = λ rs h. cutting-stop (c .before .loop .inv rs h) (lex-end rs _ _ (ended c))
 
 pub count-spec : {M : Type 1} → statement M
-count-spec =
-    tie.close (tie.spec Inv-loop μ-loop loop-holds choose-requires returns add-tokens add-at loop-less loop-again returns-2)
+count-spec = tie.close (tie.spec Inv-loop μ-loop loop-holds choose-requires returns add-tokens add-at loop-less loop-again returns-2)

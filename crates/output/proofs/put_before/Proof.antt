@@ -13,13 +13,10 @@ copy-requires c κs =
     let start = c .before .before .before .before in
     (start .pre .0, omega (arith, start .pre .1, c .before .if1 .left))
 
-same-length : tie.Need-same-length
-same-length c = search needs
-
 returns-2 : tie.Need-returns-2
 returns-2 c =
     let start = c .before .before .before .before .before .before .before in
     before-put _ _ _ _ _ (start .pre .0) (start .pre .1) (c .before .before .before .before .if1 .left) (c .before .before .copy .ensures)
 
 pub put-before-spec : {M : Type 1} → statement M
-put-before-spec = tie.close (tie.spec returns copy-requires same-length returns-2)
+put-before-spec = tie.close (tie.spec returns copy-requires (λ c. search needs) returns-2)

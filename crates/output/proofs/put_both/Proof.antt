@@ -11,18 +11,9 @@ use Rattle.output.proofs.put_both.Tie as tie
 put-token-requires : tie.Need-put-token-requires
 put-token-requires c κs = (c .before .before .before .pre .1 .0, c .before .before .before .pre .1 .1)
 
-enum-known-start : tie.Need-enum-known-start
-enum-known-start c = search needs
-
 put-token-requires-2 : tie.Need-put-token-requires-2
 put-token-requires-2 c κs = (c .before .before .before .before .before .before .before .before .before .before .pre .0,
     c .before .before .before .before .before .before .put-token .ensures .at _ (c .before .before .start .given .1) .within)
-
-enum-told : tie.Need-enum-told
-enum-told c = search needs
-
-same-length : tie.Need-same-length
-same-length c = search needs
 
 returns : tie.Need-returns
 returns c =
@@ -31,9 +22,6 @@ returns c =
         (bytesIn (now (start′ .args .pool)) (start′ .args .separator) ++ drop (start′ .args .at) (now (start′ .args .scratch)))
         (c .before .before .before .before .before .before .before .before .before .put-token .ensures .at _
         (c .before .before .before .before .before .start .given .1)) (c .before .before .put-token2 .ensures)
-
-same-length-2 : tie.Need-same-length-2
-same-length-2 c = search needs
 
 returns-2 : tie.Need-returns-2
 returns-2 c =
@@ -44,4 +32,5 @@ returns-2 c =
 
 pub put-both-spec : {M : Type 1} → statement M
 put-both-spec =
-    tie.close (tie.spec put-token-requires enum-known-start put-token-requires-2 enum-told same-length returns same-length-2 returns-2)
+    tie.close (tie.spec put-token-requires (λ c. search needs) put-token-requires-2 (λ c. search needs) (λ c. search needs) returns
+    (λ c. search needs) returns-2)

@@ -48,29 +48,14 @@ falls n a b l m = omega arith
 cells : (c : tie.At-loop Inv-loop μ-loop) → length (c .loop .rows) ≡ length (now (c .before .before .before .before .before .before .before .args .rows))
 cells c = c .loop .inv .0 .holds .stored .built .cells ∙ sym (c .before .before .before .before .before .before .before .pre .1 .cells)
 
-refused-requires : tie.Need-refused-requires Inv-loop μ-loop
-refused-requires c κs = search needs
-
 returns : tie.Need-returns Inv-loop μ-loop
 returns c = loaded-refused (read-too-long _ (c .before .if1 .taken)) (c .refused .ensures)
-
-new-requires : tie.Need-new-requires Inv-loop μ-loop
-new-requires c κs = search needs
-
-new-requires-2 : tie.Need-new-requires-2 Inv-loop μ-loop
-new-requires-2 c κs = search needs
 
 loop-holds : tie.Need-loop-holds Inv-loop μ-loop
 loop-holds c = (going-start (c .before .before .before .before .before .before .pre .0) (c .before .before .before .before .before .before .pre .1) (c .before .before .if1 .left) (c .new2 .ensures) (c .before .new .ensures), refl)
 
 command-requires : tie.Need-command-requires Inv-loop μ-loop
 command-requires c κs = c .if2 .taken
-
-enum-told : tie.Need-enum-told Inv-loop μ-loop
-enum-told c = search needs
-
-refused-requires-2 : tie.Need-refused-requires-2 Inv-loop μ-loop
-refused-requires-2 c κs = search needs
 
 same-length : tie.Need-same-length Inv-loop μ-loop
 same-length c = c .before .before .before .before .before .before .loop .inv .1
@@ -83,12 +68,6 @@ returns-2 c =
     let e = sym (c .before .enum-told .given .1) ∙ c .before .before .before .command .ensures in
     loaded-refused (going-takes (c .before .before .before .before .before .before .loop .inv .0) (c .before .before .before .before .if2 .taken) _ e .same) (c .refused2 .ensures)
 
-enum-told-2 : tie.Need-enum-told-2 Inv-loop μ-loop
-enum-told-2 c = search needs
-
-refused-requires-3 : tie.Need-refused-requires-3 Inv-loop μ-loop
-refused-requires-3 c κs = search needs
-
 same-length-3 : tie.Need-same-length-3 Inv-loop μ-loop
 same-length-3 c = c .before .before .before .before .before .before .loop .inv .1
 
@@ -100,16 +79,10 @@ returns-3 c =
     let e = sym (c .before .enum-told2 .given .1) ∙ c .before .before .before .command .ensures in
     loaded-refused (going-takes (c .before .before .before .before .before .before .loop .inv .0) (c .before .before .before .before .if2 .taken) _ e .same) (c .refused3 .ensures)
 
-enum-known-command : tie.Need-enum-known-command Inv-loop μ-loop
-enum-known-command c = search needs
-
 apply-requires : tie.Need-apply-requires Inv-loop μ-loop
 apply-requires c κs =
     let k = here (c .before .before) in
     (record { draft = k .going .draft; holds = k .going .holds }, (sym (commanded k .stands), room-left k, edges-left k, k .more))
-
-enum-known-on : tie.Need-enum-known-on Inv-loop μ-loop
-enum-known-on c = search needs
 
 loop-less : tie.Need-loop-less Inv-loop μ-loop
 loop-less c = let k = here (told (c .before .before .before)) in falls _ _ _ (k .more) (commanded k .further)
@@ -118,9 +91,6 @@ loop-again : tie.Need-loop-again Inv-loop μ-loop
 loop-again c =
     let k = c .before .before .before in
     (taken-in (here (told k)) _ _ (kept k) (c .before .before .before .before .before .before .before .apply .ensures) (c .before .on .given .1), kept k ∙ c .before .before .before .before .before .before .before .before .before .before .before .before .before .before .before .before .loop .inv .1)
-
-enum-known-rules : tie.Need-enum-known-rules Inv-loop μ-loop
-enum-known-rules c = search needs
 
 same-length-5 : tie.Need-same-length-5 Inv-loop μ-loop
 same-length-5 c = kept (c .before .before .before) ∙ c .before .before .before .before .before .before .before .before .before .before .before .before .before .before .before .before .loop .inv .1
@@ -133,9 +103,6 @@ returns-4 c =
     let k = c .before .before .before in
     taken-in (here (told k)) _ _ (kept k) (c .before .before .before .before .before .before .before .apply .ensures) (c .before .rules .given .1)
 
-enum-known-refusal : tie.Need-enum-known-refusal Inv-loop μ-loop
-enum-known-refusal c = search needs
-
 same-length-7 : tie.Need-same-length-7 Inv-loop μ-loop
 same-length-7 c = kept (c .before .before .before) ∙ c .before .before .before .before .before .before .before .before .before .before .before .before .before .before .before .before .loop .inv .1
 
@@ -146,9 +113,6 @@ returns-5 : tie.Need-returns-5 Inv-loop μ-loop
 returns-5 c =
     let k = c .before .before .before in
     taken-in (here (told k)) _ _ (kept k) (c .before .before .before .before .before .before .before .apply .ensures) (c .before .refusal .given .1)
-
-refused-requires-4 : tie.Need-refused-requires-4 Inv-loop μ-loop
-refused-requires-4 c κs = search needs
 
 same-length-9 : tie.Need-same-length-9 Inv-loop μ-loop
 same-length-9 c = c .before .before .before .loop .inv .1
@@ -161,7 +125,8 @@ returns-6 c = loaded-refused (going-stops (c .before .before .before .loop .inv 
 
 pub load-rows-spec : {M : Type 1} → statement M
 load-rows-spec =
-    tie.close (tie.spec Inv-loop μ-loop refused-requires returns new-requires new-requires-2 loop-holds command-requires enum-told
-    refused-requires-2 same-length same-length-2 returns-2 enum-told-2 refused-requires-3 same-length-3 same-length-4 returns-3
-    enum-known-command apply-requires enum-known-on loop-less loop-again enum-known-rules same-length-5 same-length-6 returns-4
-    enum-known-refusal same-length-7 same-length-8 returns-5 refused-requires-4 same-length-9 same-length-10 returns-6)
+    tie.close (tie.spec Inv-loop μ-loop (λ c κs. search needs) returns (λ c κs. search needs) (λ c κs. search needs) loop-holds
+    command-requires (λ c. search needs) (λ c κs. search needs) same-length same-length-2 returns-2 (λ c. search needs)
+    (λ c κs. search needs) same-length-3 same-length-4 returns-3 (λ c. search needs) apply-requires (λ c. search needs) loop-less loop-again
+    (λ c. search needs) same-length-5 same-length-6 returns-4 (λ c. search needs) same-length-7 same-length-8 returns-5
+    (λ c κs. search needs) same-length-9 same-length-10 returns-6)

@@ -15,23 +15,11 @@ product c = mul-le-mul-right (c .before .before .before .before .before .before 
 returns : tie.Need-returns
 returns c = λ e. clash e refl
 
-measure-requires : tie.Need-measure-requires
-measure-requires c κs = search needs
-
-enum-known-total : tie.Need-enum-known-total
-enum-known-total c = search needs
-
-cast-result : tie.Need-cast-result
-cast-result c = search needs
-
 mul-result : tie.Need-mul-result
 mul-result c = omega (arith, product c, c .struct-known .given)
 
 add-result : tie.Need-add-result
 add-result c = omega (arith, product c, c .struct-known .given, c .before .before .before .before .measure .ensures .fits _ (c .before .before .total .given .1) .short)
-
-enum-told : tie.Need-enum-told
-enum-told c = search needs
 
 returns-2 : tie.Need-returns-2
 returns-2 c = λ e.
@@ -42,14 +30,5 @@ returns-3 c = λ e. clash e refl
 
 pub is-short-spec : {M : Type 1} → statement M
 is-short-spec =
-    tie.close
-    (tie.spec
-    returns
-    measure-requires
-    enum-known-total
-    cast-result
-    mul-result
-    add-result
-    enum-told
-    returns-2
-    returns-3)
+    tie.close (tie.spec returns (λ c κs. search needs) (λ c. search needs) (λ c. search needs) mul-result add-result (λ c. search needs)
+    returns-2 returns-3)

@@ -10,9 +10,6 @@ use Rattle.separated.proofs.print_passed.Tie as tie
 put-list-requires : tie.Need-put-list-requires
 put-list-requires c κs = passed-spaceable (c .before .before .before .before .before .before .pre .0)
 
-enum-known-at : tie.Need-enum-known-at
-enum-known-at c = search needs
-
 write-from-requires : tie.Need-write-from-requires
 write-from-requires c κs =
     let at-put-list = c .before .before .before .before .before .before .before in
@@ -20,18 +17,6 @@ write-from-requires c κs =
     (at-put-list .put-list .ensures (start .pre .0 .held .rules) (start .pre .0 .held .holds) .at _
         (c .before .before .before .at .given .1) .within,
     omega (arith, at-put-list .put-list .kept .1 .1 .1 .1 .1 .0, start .pre .1 .short))
-
-enum-told : tie.Need-enum-told
-enum-told c = search needs
-
-refused-requires : tie.Need-refused-requires
-refused-requires c κs = search needs
-
-same-length : tie.Need-same-length
-same-length c = search needs
-
-same-length-2 : tie.Need-same-length-2
-same-length-2 c = search needs
 
 returns : tie.Need-returns
 returns c =
@@ -42,9 +27,6 @@ returns c =
         (now (start .args .out)) (at-put-list .put-list .ensures rs h) (c .before .before .before .before .before .before .at .given .1)
         (c .before .before .write-from .ensures)
 
-same-length-3 : tie.Need-same-length-3
-same-length-3 c = search needs
-
 returns-2 : tie.Need-returns-2
 returns-2 c =
     let at-put-list = c .before .before .before .before .before in
@@ -54,5 +36,5 @@ returns-2 c =
 
 pub print-passed-spec : {M : Type 1} → statement M
 print-passed-spec =
-    tie.close (tie.spec put-list-requires enum-known-at write-from-requires enum-told refused-requires same-length same-length-2
-    returns same-length-3 returns-2)
+    tie.close (tie.spec put-list-requires (λ c. search needs) write-from-requires (λ c. search needs) (λ c κs. search needs)
+    (λ c. search needs) (λ c. search needs) returns (λ c. search needs) returns-2)

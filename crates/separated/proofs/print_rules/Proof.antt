@@ -6,27 +6,12 @@ use Rattle.separated.proofs.Answering.{unrefused, answered-fault, answe
 use Rattle.separated.proofs.print_rules.Statement.{statement}
 use Rattle.separated.proofs.print_rules.Tie as tie
 
-check-call-requires : tie.Need-check-call-requires
-check-call-requires c κs = search needs
-
-enum-told : tie.Need-enum-told
-enum-told c = search needs
-
 print-passed-requires : tie.Need-print-passed-requires
 print-passed-requires c κs =
     let start = c .before .before .before .before .before .before .before .before .before .before in
     (record { held = start .pre .0; unrefused = λ rs h. unrefused rs (start .args .separator) (start .args .mode)
         (now (start .args .records)) (now (start .args .pool))
         (sym (c .before .before .enum-told .given .1) ∙ c .before .before .before .before .check-call .ensures rs h) }, start .pre .1)
-
-enum-known-refusal : tie.Need-enum-known-refusal
-enum-known-refusal c = search needs
-
-same-length : tie.Need-same-length
-same-length c = search needs
-
-same-length-2 : tie.Need-same-length-2
-same-length-2 c = search needs
 
 returns : tie.Need-returns
 returns c =
@@ -45,5 +30,5 @@ returns-2 c =
 
 pub print-rules-spec : {M : Type 1} → statement M
 print-rules-spec =
-    tie.close (tie.spec check-call-requires enum-told print-passed-requires enum-known-refusal same-length same-length-2 returns
-    returns-2)
+    tie.close (tie.spec (λ c κs. search needs) (λ c. search needs) print-passed-requires (λ c. search needs) (λ c. search needs)
+    (λ c. search needs) returns returns-2)

@@ -8,15 +8,6 @@ use Rattle.separated.proofs.Answering.{answered-written}
 use Rattle.separated.proofs.write_from.Statement.{statement}
 use Rattle.separated.proofs.write_from.Tie as tie
 
-sub-write : tie.Need-sub-write
-sub-write c = search needs
-
-write-requires : tie.Need-write-requires
-write-requires c κs = search needs
-
-same-length : tie.Need-same-length
-same-length c = search needs
-
 returns : tie.Need-returns
 returns c =
     let start = c .before .before .before .before .before .before in
@@ -24,4 +15,4 @@ returns c =
         (omega (arith, start .pre .1)) (c .before .before .write .ensures)
 
 pub write-from-spec : {M : Type 1} → statement M
-write-from-spec = tie.close (tie.spec sub-write write-requires same-length returns)
+write-from-spec = tie.close (tie.spec (λ c. search needs) (λ c κs. search needs) (λ c. search needs) returns)

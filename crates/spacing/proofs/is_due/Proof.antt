@@ -11,9 +11,6 @@ use Rattle.spacing.proofs.is_due.Tie as tie
 returns : tie.Need-returns
 returns c = λ rs h t us a. due-last _ a (c .if1 .taken)
 
-meaning-of-requires : tie.Need-meaning-of-requires
-meaning-of-requires c κs = search needs
-
 returns-2 : tie.Need-returns-2
 returns-2 c = λ rs h t us a. due-always _ a (c .before .before .if1 .left) (sym (c .before .meaning-of .ensures) ∙ c .if2 .taken)
 
@@ -33,4 +30,4 @@ returns-4 c = λ rs h t us a. due-no _ a (c .before .before .before .before .bef
     (c .before .before .choose .ensures rs _ h (part-end _ _)) (c .if3 .left)
 
 pub is-due-spec : {M : Type 1} → statement M
-is-due-spec = tie.close (tie.spec returns meaning-of-requires returns-2 choose-requires returns-3 returns-4)
+is-due-spec = tie.close (tie.spec returns (λ c κs. search needs) returns-2 choose-requires returns-3 returns-4)

@@ -19,12 +19,6 @@ loop-holds c = joining-start _ _ _ (c .before .before .before .pre)
 read-record-requires : tie.Need-read-record-requires Inv-loop μ-loop
 read-record-requires c κs = omega (arith, c .loop-test .taken)
 
-cast-len : tie.Need-cast-len Inv-loop μ-loop
-cast-len c = search needs
-
-cast-copy : tie.Need-cast-copy Inv-loop μ-loop
-cast-copy c = search needs
-
 copy-requires : tie.Need-copy-requires Inv-loop μ-loop
 copy-requires c κs =
     let at-read-record = c .before .before .before in
@@ -60,5 +54,5 @@ returns c = joining-end (c .before .loop .inv) (c .loop-test .left)
 
 pub join-tokens-spec : {M : Type 1} → statement M
 join-tokens-spec =
-    tie.close (tie.spec Inv-loop μ-loop loop-holds read-record-requires cast-len cast-copy copy-requires add-at add-k loop-less loop-again
-    same-length returns)
+    tie.close (tie.spec Inv-loop μ-loop loop-holds read-record-requires (λ c. search needs) (λ c. search needs) copy-requires add-at add-k
+    loop-less loop-again same-length returns)

@@ -18,18 +18,6 @@ Inv-loop table rule error first at₀ set₀ at set =
 abbrev μ-loop : tie.MeasureT-loop
 μ-loop table rule error first at₀ set₀ at set = at
 
-error-of-requires : tie.Need-error-of-requires Inv-loop μ-loop
-error-of-requires c κs = search needs
-
-first-of-requires : tie.Need-first-of-requires Inv-loop μ-loop
-first-of-requires c κs = search needs
-
-end-of-requires : tie.Need-end-of-requires Inv-loop μ-loop
-end-of-requires c κs = search needs
-
-empty-requires : tie.Need-empty-requires Inv-loop μ-loop
-empty-requires c κs = search needs
-
 loop-holds : tie.Need-loop-holds Inv-loop μ-loop
 loop-holds c = (
   search needs,
@@ -50,18 +38,6 @@ mul-e c = omega (arith, room c, c .before .before .before .before .before .befor
 
 shared-slice-read-e : tie.Need-shared-slice-read-e Inv-loop μ-loop
 shared-slice-read-e c = room (c .before)
-
-spot-requires : tie.Need-spot-requires Inv-loop μ-loop
-spot-requires c κs = search needs
-
-state-requires : tie.Need-state-requires Inv-loop μ-loop
-state-requires c κs = search needs
-
-low-requires : tie.Need-low-requires Inv-loop μ-loop
-low-requires c κs = search needs
-
-high-requires : tie.Need-high-requires Inv-loop μ-loop
-high-requires c κs = search needs
 
 mark-range-requires : tie.Need-mark-range-requires Inv-loop μ-loop
 mark-range-requires c κs = (
@@ -102,6 +78,6 @@ returns c = λ m t b l. gathering-end (c .before .loop .inv .1 m t) (c .loop-tes
 
 pub used-by-spec : {M : Type 1} → statement M
 used-by-spec =
-    tie.close (tie.spec Inv-loop μ-loop error-of-requires first-of-requires end-of-requires empty-requires loop-holds sub-at mul-e
-    shared-slice-read-e spot-requires state-requires low-requires high-requires mark-range-requires loop-less loop-again loop-less-2
-    loop-again-2 returns)
+    tie.close (tie.spec Inv-loop μ-loop (λ c κs. search needs) (λ c κs. search needs) (λ c κs. search needs) (λ c κs. search needs)
+    loop-holds sub-at mul-e shared-slice-read-e (λ c κs. search needs) (λ c κs. search needs) (λ c κs. search needs) (λ c κs. search needs)
+    mark-range-requires loop-less loop-again loop-less-2 loop-again-2 returns)

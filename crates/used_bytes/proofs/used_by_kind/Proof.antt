@@ -18,12 +18,6 @@ Inv-loop table kind rules set₀ next₀ set next = (rs : List Rule) → Holds t
 abbrev μ-loop : tie.MeasureT-loop
 μ-loop table kind rules set₀ next₀ set next = rules - next
 
-count-of-requires : tie.Need-count-of-requires Inv-loop μ-loop
-count-of-requires c κs = search needs
-
-empty-requires : tie.Need-empty-requires Inv-loop μ-loop
-empty-requires c κs = search needs
-
 loop-holds : tie.Need-loop-holds Inv-loop μ-loop
 loop-holds c = λ rs h. kinds-start rs _ _ (c .empty .ensures)
 
@@ -47,9 +41,6 @@ kind-of-requires c κs = tabled c
 
 used-by-requires : tie.Need-used-by-requires Inv-loop μ-loop
 used-by-requires c κs = tabled (c .before .before)
-
-joined-requires : tie.Need-joined-requires Inv-loop μ-loop
-joined-requires c κs = search needs
 
 loop-less : tie.Need-loop-less Inv-loop μ-loop
 loop-less c = omega (arith, c .before .before .before .before .loop-test .taken)
@@ -75,5 +66,5 @@ returns c = λ rs h. kinds-end (c .before .loop .inv rs h)
 
 pub used-by-kind-spec : {M : Type 1} → statement M
 used-by-kind-spec =
-    tie.close (tie.spec Inv-loop μ-loop count-of-requires empty-requires loop-holds add-next kind-of-requires used-by-requires
-    joined-requires loop-less loop-again loop-less-2 loop-again-2 returns)
+    tie.close (tie.spec Inv-loop μ-loop (λ c κs. search needs) (λ c κs. search needs) loop-holds add-next kind-of-requires used-by-requires
+    (λ c κs. search needs) loop-less loop-again loop-less-2 loop-again-2 returns)

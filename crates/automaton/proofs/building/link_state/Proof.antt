@@ -3,36 +3,10 @@ use borrow.Author.Needs.{needs}
 use Rattle.automaton.proofs.building.link_state.Statement.{statement}
 use Rattle.automaton.proofs.building.link_state.Tie as tie
 
-cell-requires : tie.Need-cell-requires
-cell-requires c κs = search needs
-
-mul-rows : tie.Need-mul-rows
-mul-rows c = search needs
-
-cast-rows : tie.Need-cast-rows
-cast-rows c = search needs
-
-mul-rows-2 : tie.Need-mul-rows-2
-mul-rows-2 c = search needs
-
-add-rows : tie.Need-add-rows
-add-rows c = search needs
-
-add-rows-2 : tie.Need-add-rows-2
-add-rows-2 c = search needs
-
-mul-rows-3 : tie.Need-mul-rows-3
-mul-rows-3 c = search needs
-
-slice-write-rows : tie.Need-slice-write-rows
-slice-write-rows c = search needs
-
-same-length : tie.Need-same-length
-same-length c = search needs
-
 returns : tie.Need-returns
 returns c = rw (c .cell .ensures)
 
 pub link-state-spec : {M : Type 1} → statement M
 link-state-spec =
-    tie.close (tie.spec cell-requires mul-rows cast-rows mul-rows-2 add-rows add-rows-2 mul-rows-3 slice-write-rows same-length returns)
+    tie.close (tie.spec (λ c κs. search needs) (λ c. search needs) (λ c. search needs) (λ c. search needs) (λ c. search needs)
+    (λ c. search needs) (λ c. search needs) (λ c. search needs) (λ c. search needs) returns)

@@ -35,12 +35,8 @@ loop-again c =
     settling-next w (c .before .before .before .before .loop-test .taken) (omega (arith, c .before .before .before .before .loop-test .taken, c .before .before .before .before .before .before .before .before .pre .0 .1, w .settles .same-length))
     (c .before .before .settle-one .ensures)
 
-same-length : tie.Need-same-length Inv-loop μ-loop
-same-length c = search needs
-
 returns : tie.Need-returns Inv-loop μ-loop
 returns c = settling-end (c .before .loop .inv) (c .loop-test .left)
 
 pub settle-spec : {M : Type 1} → statement M
-settle-spec =
-    tie.close (tie.spec Inv-loop μ-loop loop-holds settle-one-requires add-i loop-less loop-again same-length returns)
+settle-spec = tie.close (tie.spec Inv-loop μ-loop loop-holds settle-one-requires add-i loop-less loop-again (λ c. search needs) returns)

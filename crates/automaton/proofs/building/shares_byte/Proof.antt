@@ -28,19 +28,10 @@ mul-e c = omega (arith, inside c .link .edge .room, c .before .before .before .g
 shared-slice-read-e : tie.Need-shared-slice-read-e Inv-loop μ-loop
 shared-slice-read-e c = inside (c .before) .link .edge .room
 
-high-requires : tie.Need-high-requires Inv-loop μ-loop
-high-requires c κs = search needs
-
-low-requires : tie.Need-low-requires Inv-loop μ-loop
-low-requires c κs = search needs
-
 returns : tie.Need-returns Inv-loop μ-loop
 returns c =
     along-hit (c .before .before .before .before .before .before .loop .inv) (omega arith)
     (λ t us l. share-hit _ _ us l (omega (arith, c .before .before .if1 .taken, c .before .before .before .high .ensures)) (omega (arith, c .if2 .taken, c .before .low .ensures)))
-
-next-requires : tie.Need-next-requires Inv-loop μ-loop
-next-requires c κs = search needs
 
 loop-less : tie.Need-loop-less Inv-loop μ-loop
 loop-less c = rw (c .next .ensures) (inside (c .before .before .before .before) .link .back)
@@ -57,5 +48,5 @@ returns-2 c = along-end (c .before .loop .inv) (c .loop-test .left) refl
 
 pub shares-byte-spec : {M : Type 1} → statement M
 shares-byte-spec =
-    tie.close (tie.spec Inv-loop μ-loop loop-holds mul-e shared-slice-read-e high-requires low-requires returns next-requires loop-less
-    loop-again returns-2)
+    tie.close (tie.spec Inv-loop μ-loop loop-holds mul-e shared-slice-read-e (λ c κs. search needs) (λ c κs. search needs) returns
+    (λ c κs. search needs) loop-less loop-again returns-2)

@@ -25,14 +25,8 @@ mul-e c = omega (arith, inside c .link .edge .room, c .before .before .before .g
 shared-slice-read-e : tie.Need-shared-slice-read-e Inv-loop μ-loop
 shared-slice-read-e c = inside (c .before) .link .edge .room
 
-covers-requires : tie.Need-covers-requires Inv-loop μ-loop
-covers-requires c κs = search needs
-
 returns : tie.Need-returns Inv-loop μ-loop
 returns c = finding-hit (c .before .before .before .before .loop .inv) (omega arith) (sym (c .before .covers .ensures) ∙ c .if1 .taken)
-
-next-requires : tie.Need-next-requires Inv-loop μ-loop
-next-requires c κs = search needs
 
 loop-less : tie.Need-loop-less Inv-loop μ-loop
 loop-less c = rw (c .next .ensures) (inside (c .before .before .before .before) .link .back)
@@ -47,5 +41,5 @@ returns-2 c = finding-end (c .before .loop .inv) (c .loop-test .left)
 
 pub find-spec : {M : Type 1} → statement M
 find-spec =
-    tie.close (tie.spec Inv-loop μ-loop loop-holds mul-e shared-slice-read-e covers-requires returns next-requires loop-less loop-again
-    returns-2)
+    tie.close (tie.spec Inv-loop μ-loop loop-holds mul-e shared-slice-read-e (λ c κs. search needs) returns (λ c κs. search needs) loop-less
+    loop-again returns-2)

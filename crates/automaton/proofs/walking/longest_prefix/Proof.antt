@@ -39,12 +39,6 @@ start-of-requires c κs = c .before .before .before .pre
 loop-holds : tie.Need-loop-holds Inv-loop μ-loop
 loop-holds c = λ m t. walk-start t _ (c .start-of .ensures)
 
-head-requires : tie.Need-head-requires Inv-loop μ-loop
-head-requires c κs = search needs
-
-shared-slice-read-find : tie.Need-shared-slice-read-find Inv-loop μ-loop
-shared-slice-read-find c = search needs
-
 cast-find : tie.Need-cast-find Inv-loop μ-loop
 cast-find c = omega (arith, c .shared-slice-known3 .given (c .before .before .before .loop .i))
 
@@ -60,12 +54,6 @@ mul-spot c = omega (arith, below c, c .before .before .before .before .before .b
 shared-slice-read-spot : tie.Need-shared-slice-read-spot Inv-loop μ-loop
 shared-slice-read-spot c = omega (arith, below (c .before), c .before .before .before .before .before .before .before .before .before .before .before .pre .table .body .room)
 
-spot-requires : tie.Need-spot-requires Inv-loop μ-loop
-spot-requires c κs = search needs
-
-state-requires : tie.Need-state-requires Inv-loop μ-loop
-state-requires c κs = search needs
-
 returns-2 : tie.Need-returns-2 Inv-loop μ-loop
 returns-2 c = λ m t.
     walk-error t (c .before .before .before .before .before .before .before .before .before .loop .inv m t) (c .before .before .before .before .before .before .before .before .loop-test .taken) (found (c .before .before .before .before .before)) (c .before .before .before .before .if1 .left)
@@ -73,9 +61,6 @@ returns-2 c = λ m t.
 
 add-i : tie.Need-add-i Inv-loop μ-loop
 add-i c = omega (arith, c .before .before .before .before .before .before .before .before .loop-test .taken)
-
-is-final-requires : tie.Need-is-final-requires Inv-loop μ-loop
-is-final-requires c κs = search needs
 
 loop-less : tie.Need-loop-less Inv-loop μ-loop
 loop-less c = omega (arith, c .before .before .before .before .before .before .before .before .before .before .loop-test .taken)
@@ -98,6 +83,6 @@ returns-3 c = λ m t. walk-end t (c .before .loop .inv m t) (c .loop-test .left)
 
 pub longest-prefix-spec : {M : Type 1} → statement M
 longest-prefix-spec =
-    tie.close (tie.spec Inv-loop μ-loop error-of-requires start-of-requires loop-holds head-requires shared-slice-read-find cast-find
-    find-requires returns mul-spot shared-slice-read-spot spot-requires state-requires returns-2 add-i is-final-requires loop-less
-    loop-again loop-less-2 loop-again-2 returns-3)
+    tie.close (tie.spec Inv-loop μ-loop error-of-requires start-of-requires loop-holds (λ c κs. search needs) (λ c. search needs) cast-find
+    find-requires returns mul-spot shared-slice-read-spot (λ c κs. search needs) (λ c κs. search needs) returns-2 add-i
+    (λ c κs. search needs) loop-less loop-again loop-less-2 loop-again-2 returns-3)

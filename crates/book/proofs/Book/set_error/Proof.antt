@@ -8,9 +8,6 @@ use Rattle.book.proofs.Steps.{erring-is, given-again, given}
 use Rattle.book.proofs.Book.set_error.Statement.{statement}
 use Rattle.book.proofs.Book.set_error.Tie as tie
 
-refused-requires : tie.Need-refused-requires
-refused-requires c κs = search needs
-
 returns : tie.Need-returns
 unfolding apply
 returns c = λ tb rows len d h i.
@@ -23,4 +20,4 @@ returns-2 c = λ tb rows len d h i.
     given tb rows _ _ (withError d _) (erring-is h) (c .if1 .left) g (h .stored) (rw (h .same)) (omega arith)
 
 pub set-error-spec : {M : Type 1} → statement M
-set-error-spec = tie.close (tie.spec refused-requires returns returns-2)
+set-error-spec = tie.close (tie.spec (λ c κs. search needs) returns returns-2)

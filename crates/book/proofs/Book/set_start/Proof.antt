@@ -8,9 +8,6 @@ use Rattle.book.proofs.Steps.{started-is, given-again, given}
 use Rattle.book.proofs.Book.set_start.Statement.{statement}
 use Rattle.book.proofs.Book.set_start.Tie as tie
 
-refused-requires : tie.Need-refused-requires
-refused-requires c κs = search needs
-
 returns : tie.Need-returns
 unfolding apply
 returns c = λ tb rows len d h i.
@@ -23,4 +20,4 @@ returns-2 c = λ tb rows len d h i.
     given tb rows _ _ (withStart d _) (started-is h) (c .if1 .left) g (h .stored) (rw (h .same)) (omega arith)
 
 pub set-start-spec : {M : Type 1} → statement M
-set-start-spec = tie.close (tie.spec refused-requires returns returns-2)
+set-start-spec = tie.close (tie.spec (λ c κs. search needs) returns returns-2)

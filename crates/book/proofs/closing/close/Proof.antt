@@ -8,36 +8,15 @@ use Rattle.book.proofs.Steps.{close-error-final, close-start-final, clo
 use Rattle.book.proofs.closing.close.Statement.{statement}
 use Rattle.book.proofs.closing.close.Tie as tie
 
-refused-requires : tie.Need-refused-requires
-refused-requires c κs = search needs
-
 returns : tie.Need-returns
 returns c = λ len d h i. rw (c .refused .ensures) (close-no-start h _ len _ (not-true _ (c .before .if1 .taken)))
-
-refused-requires-2 : tie.Need-refused-requires-2
-refused-requires-2 c κs = search needs
 
 returns-2 : tie.Need-returns-2
 returns-2 c = λ len d h i. rw (c .refused2 .ensures) (close-no-error h _ len _ (not-true _ (c .before .if2 .taken)))
 
-refused-requires-3 : tie.Need-refused-requires-3
-refused-requires-3 c κs = search needs
-
 returns-3 : tie.Need-returns-3
 returns-3 c = λ len d h i.
     rw (c .refused3 .ensures) (close-overlap h _ len _ (not-false _ (c .before .before .before .before .if1 .left)) (not-false _ (c .before .before .if2 .left)) (c .before .if3 .taken))
-
-stamp-requires : tie.Need-stamp-requires
-stamp-requires c κs = search needs
-
-cast-head : tie.Need-cast-head
-cast-head c = search needs
-
-head-requires : tie.Need-head-requires
-head-requires c κs = search needs
-
-refused-requires-4 : tie.Need-refused-requires-4
-refused-requires-4 c κs = search needs
 
 returns-4 : tie.Need-returns-4
 returns-4 c = λ len d h i.
@@ -45,29 +24,11 @@ returns-4 c = λ len d h i.
     (close-leaves h _ len _ (not-false _ (c .before .before .before .before .before .before .before .before .if1 .left)) (not-false _ (c .before .before .before .before .before .before .if2 .left)) i (c .before .before .before .before .before .if3 .left)
     (rw (c .before .before .head .ensures, c .before .before .before .before .stamp .ensures) at (c .before .if4 .taken)))
 
-cast-is-final : tie.Need-cast-is-final
-cast-is-final c = search needs
-
-is-final-requires : tie.Need-is-final-requires
-is-final-requires c κs = search needs
-
-refused-requires-5 : tie.Need-refused-requires-5
-refused-requires-5 c κs = search needs
-
 returns-5 : tie.Need-returns-5
 returns-5 c = λ len d h i.
     rw (c .refused5 .ensures)
     (close-error-final h _ len _ (not-false _ (c .before .before .before .before .before .before .before .before .before .before .before .if1 .left)) (not-false _ (c .before .before .before .before .before .before .before .before .before .if2 .left)) i (c .before .before .before .before .before .before .before .before .if3 .left)
     (rw (c .before .before .before .before .before .head .ensures, c .before .before .before .before .before .before .before .stamp .ensures) at (c .before .before .before .before .if4 .left)) (rw (c .before .before .is-final .ensures, c .before .before .before .before .before .before .before .stamp .ensures) at (c .before .if5 .taken)))
-
-cast-is-final-2 : tie.Need-cast-is-final-2
-cast-is-final-2 c = search needs
-
-is-final-requires-2 : tie.Need-is-final-requires-2
-is-final-requires-2 c κs = search needs
-
-refused-requires-6 : tie.Need-refused-requires-6
-refused-requires-6 c κs = search needs
 
 returns-6 : tie.Need-returns-6
 returns-6 c = λ len d h i.
@@ -75,18 +36,6 @@ returns-6 c = λ len d h i.
     (close-start-final h _ len _ (not-false _ (c .before .before .before .before .before .before .before .before .before .before .before .before .before .before .if1 .left)) (not-false _ (c .before .before .before .before .before .before .before .before .before .before .before .before .if2 .left)) i (c .before .before .before .before .before .before .before .before .before .before .before .if3 .left)
     (rw (c .before .before .before .before .before .before .before .before .head .ensures, c .before .before .before .before .before .before .before .before .before .before .stamp .ensures) at (c .before .before .before .before .before .before .before .if4 .left)) (rw (c .before .before .before .before .before .is-final .ensures, c .before .before .before .before .before .before .before .before .before .before .stamp .ensures) at (c .before .before .before .before .if5 .left))
     (rw (c .before .before .is-final2 .ensures, c .before .before .before .before .before .before .before .before .before .before .stamp .ensures) at (c .before .if6 .taken)))
-
-store-rule-requires : tie.Need-store-rule-requires
-store-rule-requires c κs = search needs
-
-add-between : tie.Need-add-between
-add-between c = search needs
-
-between-requires : tie.Need-between-requires
-between-requires c κs = search needs
-
-same-length : tie.Need-same-length
-same-length c = search needs
 
 returns-7 : tie.Need-returns-7
 returns-7 c = λ len d h i.
@@ -97,6 +46,7 @@ returns-7 c = λ len d h i.
 
 pub close-spec : {M : Type 1} → statement M
 close-spec =
-    tie.close (tie.spec refused-requires returns refused-requires-2 returns-2 refused-requires-3 returns-3 stamp-requires cast-head
-    head-requires refused-requires-4 returns-4 cast-is-final is-final-requires refused-requires-5 returns-5 cast-is-final-2
-    is-final-requires-2 refused-requires-6 returns-6 store-rule-requires add-between between-requires same-length returns-7)
+    tie.close (tie.spec (λ c κs. search needs) returns (λ c κs. search needs) returns-2 (λ c κs. search needs) returns-3
+    (λ c κs. search needs) (λ c. search needs) (λ c κs. search needs) (λ c κs. search needs) returns-4 (λ c. search needs)
+    (λ c κs. search needs) (λ c κs. search needs) returns-5 (λ c. search needs) (λ c κs. search needs) (λ c κs. search needs) returns-6
+    (λ c κs. search needs) (λ c. search needs) (λ c κs. search needs) (λ c. search needs) returns-7)

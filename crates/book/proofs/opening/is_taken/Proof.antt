@@ -4,14 +4,8 @@ use Rattle.book.proofs.Ranking.{ranks-taken}
 use Rattle.book.proofs.opening.is_taken.Statement.{statement}
 use Rattle.book.proofs.opening.is_taken.Tie as tie
 
-find-tag-requires : tie.Need-find-tag-requires
-find-tag-requires c κs = search needs
-
-count-of-requires : tie.Need-count-of-requires
-count-of-requires c κs = search needs
-
 returns : tie.Need-returns
 returns c = λ rs h. ranks-taken (c .before .find-tag .ensures rs h) (c .count-of .ensures rs h)
 
 pub is-taken-spec : {M : Type 1} → statement M
-is-taken-spec = tie.close (tie.spec find-tag-requires count-of-requires returns)
+is-taken-spec = tie.close (tie.spec (λ c κs. search needs) (λ c κs. search needs) returns)

@@ -5,32 +5,17 @@ use Rattle.book.proofs.Steps.{rule-too-many, rule-tag-zero, rule-kind, 
 use Rattle.book.proofs.opening.open_rule.Statement.{statement}
 use Rattle.book.proofs.opening.open_rule.Tie as tie
 
-refused-requires : tie.Need-refused-requires
-refused-requires c κs = search needs
-
 returns : tie.Need-returns
 returns c = λ rows len d h i. rw (c .refused .ensures) (rule-too-many h _ _ _ len _ (c .before .if1 .taken))
-
-refused-requires-2 : tie.Need-refused-requires-2
-refused-requires-2 c κs = search needs
 
 returns-2 : tie.Need-returns-2
 returns-2 c = λ rows len d h i.
     rw (c .refused2 .ensures) (rule-tag-zero h _ _ _ len _ (c .before .before .if1 .left) (c .before .if2 .taken))
 
-refused-requires-3 : tie.Need-refused-requires-3
-refused-requires-3 c κs = search needs
-
 returns-3 : tie.Need-returns-3
 returns-3 c = λ rows len d h i.
     let k = c .before .before in
     rw (c .refused3 .ensures) (rule-kind h _ _ _ len _ (k .before .if1 .left) (k .if2 .left) (c .before .if3 .taken))
-
-is-taken-requires : tie.Need-is-taken-requires
-is-taken-requires c κs = search needs
-
-refused-requires-4 : tie.Need-refused-requires-4
-refused-requires-4 c κs = search needs
 
 returns-4 : tie.Need-returns-4
 returns-4 c = λ rows len d h i.
@@ -39,9 +24,6 @@ returns-4 c = λ rows len d h i.
     rw (c .refused4 .ensures)
     (rule-taken h _ _ _ len _ (k .before .before .before .if1 .left) (k .before .before .if2 .left) (k .before .if3 .left) seen
     (c .before .if4 .taken))
-
-between-requires : tie.Need-between-requires
-between-requires c κs = search needs
 
 returns-5 : tie.Need-returns-5
 unfolding overlaps
@@ -54,5 +36,5 @@ returns-5 c = λ rows len d h i.
 
 pub open-rule-spec : {M : Type 1} → statement M
 open-rule-spec =
-    tie.close (tie.spec refused-requires returns refused-requires-2 returns-2 refused-requires-3 returns-3 is-taken-requires
-    refused-requires-4 returns-4 between-requires returns-5)
+    tie.close (tie.spec (λ c κs. search needs) returns (λ c κs. search needs) returns-2 (λ c κs. search needs) returns-3
+    (λ c κs. search needs) (λ c κs. search needs) returns-4 (λ c κs. search needs) returns-5)

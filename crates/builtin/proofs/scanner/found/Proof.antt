@@ -9,9 +9,6 @@ use Rattle.builtin.proofs.Joined.{tag-below}
 use Rattle.builtin.proofs.scanner.found.Statement.{statement}
 use Rattle.builtin.proofs.scanner.found.Tie as tie
 
-element-copy-out-tag : tie.Need-element-copy-out-tag
-element-copy-out-tag c = search needs
-
 cast-t9 : tie.Need-cast-t9
 cast-t9 c =
     let h : getD (now (c .before .args .tags)) (c .before .args .s / 16) 0 < 256 =
@@ -22,4 +19,4 @@ returns : tie.Need-returns
 returns c = (rw (c .before .pre .0), refl)
 
 pub found-spec : {M : Type 1} → statement M
-found-spec = tie.close (tie.spec element-copy-out-tag cast-t9 returns)
+found-spec = tie.close (tie.spec (λ c. search needs) cast-t9 returns)

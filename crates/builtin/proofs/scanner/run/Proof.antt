@@ -44,5 +44,4 @@ returns-2 : tie.Need-returns-2 Inv-loop μ-loop
 returns-2 c = c .before .loop .inv
 
 pub run-spec : {M : Type 1} → statement M
-run-spec =
-    tie.close (tie.spec Inv-loop μ-loop loop-holds shared-slice-read-step step-requires returns add-i loop-less loop-again returns-2)
+run-spec = tie.close (tie.spec Inv-loop μ-loop loop-holds shared-slice-read-step step-requires returns add-i loop-less loop-again returns-2)

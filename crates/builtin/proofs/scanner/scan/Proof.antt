@@ -89,5 +89,5 @@ returns-2 c =
 
 pub scan-spec : {M : Type 1} → statement M
 scan-spec =
-    tie.close (tie.spec Inv-loop μ-loop loop-holds shared-slice-read-step step-requires found-requires returns add-i run-requires
-    loop-less loop-again loop-less-2 loop-again-2 found-requires-2 returns-2)
+    tie.close (tie.spec Inv-loop μ-loop loop-holds shared-slice-read-step step-requires found-requires returns add-i run-requires loop-less
+    loop-again loop-less-2 loop-again-2 found-requires-2 returns-2)

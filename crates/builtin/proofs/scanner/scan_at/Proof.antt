@@ -11,18 +11,6 @@ use Rattle.builtin.specs.Contracts.{Scanned}
 use Rattle.builtin.proofs.scanner.scan_at.Statement.{statement}
 use Rattle.builtin.proofs.scanner.scan_at.Tie as tie
 
-sub-scan : tie.Need-sub-scan
-sub-scan c = search needs
-
-part-scan-start : tie.Need-part-scan-start
-part-scan-start c = search needs
-
-part-scan-end : tie.Need-part-scan-end
-part-scan-end c = search needs
-
-scan-requires : tie.Need-scan-requires
-scan-requires c κs = search needs
-
 returns : tie.Need-returns
 returns c = let a = c .before .before .before .args in
     let t = drop (a .at) (now (a .text)) in
@@ -30,4 +18,4 @@ returns c = let a = c .before .before .before .args in
     subst (λ (x : List ℕ). Scanned x (c .scan .result .tag) (c .scan .result .len)) (take-all _ t l) (c .scan .ensures)
 
 pub scan-at-spec : {M : Type 1} → statement M
-scan-at-spec = tie.close (tie.spec sub-scan part-scan-start part-scan-end scan-requires returns)
+scan-at-spec = tie.close (tie.spec (λ c. search needs) (λ c. search needs) (λ c. search needs) (λ c κs. search needs) returns)

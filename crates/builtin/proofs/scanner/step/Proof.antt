@@ -19,9 +19,6 @@ next-is : (c : tie.Start) → getD (now (c .args .next)) (c .args .s + getD (now
     ≡ nextState (c .args .s) (c .args .byte)
 next-is c = rw (c .pre .0, c .pre .1)
 
-element-copy-out-class : tie.Need-element-copy-out-class
-element-copy-out-class c = search needs
-
 cast-result : tie.Need-cast-result
 cast-result c = let h = class-small (c .before) in omega arith
 
@@ -40,5 +37,4 @@ returns : tie.Need-returns
 returns c = next-is (c .before .before)
 
 pub step-spec : {M : Type 1} → statement M
-step-spec =
-    tie.close (tie.spec element-copy-out-class cast-result add-result element-copy-out-result cast-result-2 returns)
+step-spec = tie.close (tie.spec (λ c. search needs) cast-result add-result element-copy-out-result cast-result-2 returns)

@@ -9,21 +9,9 @@ use Rattle.command.proofs.Commands.{operands-le}
 use Rattle.command.proofs.Cursor.command.Statement.{statement}
 use Rattle.command.proofs.Cursor.command.Tie as tie
 
-shared-slice-read-code : tie.Need-shared-slice-read-code
-shared-slice-read-code c = search needs
-
-is-placed-requires : tie.Need-is-placed-requires
-is-placed-requires c κs = search needs
-
 returns : tie.Need-returns
 unfolding commandAt
 returns c = rw (sym (c .before .is-placed .ensures) ∙ not-true _ (c .if1 .taken))
-
-add-next : tie.Need-add-next
-add-next c = search needs
-
-operands-requires : tie.Need-operands-requires
-operands-requires c κs = search needs
 
 add-next-2 : tie.Need-add-next-2
 add-next-2 c =
@@ -35,9 +23,6 @@ unfolding commandAt
 returns-2 c = let h : _ ≡ _ = c .before .operands .ensures in rw
     (sym (c .before .before .before .is-placed .ensures) ∙ not-false _ (c .before .before .if1 .left), ← h, lt-leb _ _ (c .if2 .taken))
 
-command-of-requires : tie.Need-command-of-requires
-command-of-requires c κs = search needs
-
 returns-3 : tie.Need-returns-3
 unfolding commandAt
 returns-3 c = let h : _ ≡ _ = c .before .before .operands .ensures in rw
@@ -46,5 +31,5 @@ returns-3 c = let h : _ ≡ _ = c .before .before .operands .ensures in rw
 
 pub command-spec : {M : Type 1} → statement M
 command-spec =
-    tie.close (tie.spec shared-slice-read-code is-placed-requires returns add-next operands-requires add-next-2 returns-2
-    command-of-requires returns-3)
+    tie.close (tie.spec (λ c. search needs) (λ c κs. search needs) returns (λ c. search needs) (λ c κs. search needs) add-next-2 returns-2
+    (λ c κs. search needs) returns-3)

@@ -25,17 +25,8 @@ fits c rs h =
     ⊎-elim (λ w. omega (arith, w .1 .ensures rs h .tokens-are, w .3 .left)) (λ w. enough rs _ (now (call c .args .records)) (w .left))
     (c .if2 .came)
 
-refused-requires : tie.Need-refused-requires
-refused-requires c κs = search needs
-
 returns : tie.Need-returns
 returns c = λ rs h. rw (c .refused .ensures) (answered-long rs _ _ (c .before .if1 .taken))
-
-count-requires : tie.Need-count-requires
-count-requires c κs = search needs
-
-refused-requires-2 : tie.Need-refused-requires-2
-refused-requires-2 c κs = search needs
 
 returns-2 : tie.Need-returns-2
 returns-2 c = λ rs h.
@@ -46,9 +37,6 @@ returns-2 c = λ rs h.
 fill-requires : tie.Need-fill-requires
 fill-requires c κs = room-of (call (c .before) .pre) (fits (c .before))
 
-same-length : tie.Need-same-length
-same-length c = search needs
-
 returns-3 : tie.Need-returns-3
 returns-3 c = λ rs h.
     let filled = c .before .before in
@@ -57,4 +45,5 @@ returns-3 c = λ rs h.
 
 pub lex-rules-spec : {M : Type 1} → statement M
 lex-rules-spec =
-    tie.close (tie.spec refused-requires returns count-requires refused-requires-2 returns-2 fill-requires same-length returns-3)
+    tie.close (tie.spec (λ c κs. search needs) returns (λ c κs. search needs) (λ c κs. search needs) returns-2 fill-requires
+    (λ c. search needs) returns-3)

@@ -35,5 +35,4 @@ returns c =
     puts-then (puts-then (f .put-field .ensures) (g .put-field2 .ensures) (room-first _ r)) (l .put-last-two .ensures) r
 
 pub put-token-spec : {M : Type 1} → statement M
-put-token-spec =
-    tie.close (tie.spec put-field-requires put-field-requires-2 put-last-two-requires (λ c. search needs) returns)
+put-token-spec = tie.close (tie.spec put-field-requires put-field-requires-2 put-last-two-requires (λ c. search needs) returns)

@@ -5,17 +5,8 @@ use borrow.Author.Needs.{needs}
 use Rattle.printer.proofs.by_rules.print_rules.Statement.{statement}
 use Rattle.printer.proofs.by_rules.print_rules.Tie as tie
 
-refused-requires : tie.Need-refused-requires
-refused-requires c κs = search needs
-
 returns : tie.Need-returns
 returns c = λ rs h. answered-many rs _ _ _ (c .before .if1 .taken) (c .refused .ensures)
-
-rehearse-requires : tie.Need-rehearse-requires
-rehearse-requires c κs = search needs
-
-enum-known-total : tie.Need-enum-known-total
-enum-known-total c = search needs
 
 write-requires : tie.Need-write-requires
 write-requires c κs =
@@ -24,20 +15,11 @@ write-requires c κs =
     let clean = rehearsed .rehearse .ensures (start .0 .rules) (start .0 .holds) .clean _ (c .before .before .before .total .given .1) in
     omega (arith, start .1 .room _ (clean .spanned), rehearsed .rehearse .kept)
 
-enum-known-found : tie.Need-enum-known-found
-enum-known-found c = search needs
-
 find-refusal-requires : tie.Need-find-refusal-requires
 find-refusal-requires c κs =
     let rehearsed = c .before .before .before .before .before in
     let held = rehearsed .before .before .before .before .before .before .before .before .pre .0 in
     record { held = held; suspected = λ rs h. rehearsed .rehearse .ensures rs h .wrong _ (c .before .found .given .1) }
-
-same-length : tie.Need-same-length
-same-length c = search needs
-
-same-length-2 : tie.Need-same-length-2
-same-length-2 c = search needs
 
 returns-2 : tie.Need-returns-2
 returns-2 c = λ rs h. clean-written rs _ _ _
@@ -45,14 +27,11 @@ returns-2 c = λ rs h. clean-written rs _ _ _
     (c .before .before .before .before .before .before .before .before .before .before .rehearse .ensures rs h .clean _
     (c .before .before .before .before .before .before .total .given .1)) (c .before .before .write .ensures)
 
-same-length-3 : tie.Need-same-length-3
-same-length-3 c = search needs
-
 returns-3 : tie.Need-returns-3
 returns-3 c = λ rs h. answered-troubled rs _ _ _ (c .before .before .before .before .before .before .before .before .if1 .left)
     (c .find-refusal .ensures rs h)
 
 pub print-rules-spec : {M : Type 1} → statement M
 print-rules-spec =
-    tie.close (tie.spec refused-requires returns rehearse-requires enum-known-total write-requires enum-known-found find-refusal-requires
-    same-length same-length-2 returns-2 same-length-3 returns-3)
+    tie.close (tie.spec (λ c κs. search needs) returns (λ c κs. search needs) (λ c. search needs) write-requires (λ c. search needs)
+    find-refusal-requires (λ c. search needs) (λ c. search needs) returns-2 (λ c. search needs) returns-3)

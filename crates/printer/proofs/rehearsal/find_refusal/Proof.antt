@@ -5,15 +5,6 @@ use borrow.Author.Needs.{needs}
 use Rattle.printer.proofs.rehearsal.find_refusal.Statement.{statement}
 use Rattle.printer.proofs.rehearsal.find_refusal.Tie as tie
 
-check-tokens-requires : tie.Need-check-tokens-requires
-check-tokens-requires c κs = search needs
-
-enum-told : tie.Need-enum-told
-enum-told c = search needs
-
-enum-known-refusal : tie.Need-enum-known-refusal
-enum-known-refusal c = search needs
-
 returns : tie.Need-returns
 returns c = λ rs h. c .before .before .before .before .before .before .pre .suspected rs h
     (passed-faultless rs _ _ (sym (c .enum-told .given .1) ∙ c .before .before .check-tokens .ensures rs h))
@@ -22,4 +13,4 @@ returns-2 : tie.Need-returns-2
 returns-2 c = λ rs h. trouble-fault rs _ _ (sym (c .before .refusal .given .1) ∙ c .before .before .before .check-tokens .ensures rs h)
 
 pub find-refusal-spec : {M : Type 1} → statement M
-find-refusal-spec = tie.close (tie.spec check-tokens-requires enum-told enum-known-refusal returns returns-2)
+find-refusal-spec = tie.close (tie.spec (λ c κs. search needs) (λ c. search needs) (λ c. search needs) returns returns-2)

@@ -14,21 +14,12 @@ read-back-requires c κs =
     let joined = c .before .before .before .join-tokens in
     (start .0, (omega (arith, joined .kept, start .1 .0), record { pool = _; spread = spanned-spread (start .1 .1) (joined .ensures) }))
 
-wrong-requires : tie.Need-wrong-requires
-wrong-requires c κs = search needs
-
-same-length : tie.Need-same-length
-same-length c = search needs
-
 returns : tie.Need-returns
 returns c = λ rs h.
     let spanned = c .before .before .before .before .before .before .before .before .before .before .before .before .pre .1 .1 in
     let joined = c .before .before .before .before .before .before .join-tokens .ensures in
     rehearses-on rs _ _ _ spanned (c .before .before .read-back .ensures rs _ h (spanned-spread spanned joined)) (c .before .if1 .taken)
     (c .wrong .ensures)
-
-same-length-2 : tie.Need-same-length-2
-same-length-2 c = search needs
 
 returns-2 : tie.Need-returns-2
 returns-2 c = λ rs h.
@@ -39,4 +30,5 @@ returns-2 c = λ rs h.
 
 pub rehearse-bytes-spec : {M : Type 1} → statement M
 rehearse-bytes-spec =
-    tie.close (tie.spec join-tokens-requires read-back-requires wrong-requires same-length returns same-length-2 returns-2)
+    tie.close (tie.spec join-tokens-requires read-back-requires (λ c κs. search needs) (λ c. search needs) returns (λ c. search needs)
+    returns-2)

@@ -5,35 +5,14 @@ use borrow.Author.Needs.{needs}
 use Rattle.separated.proofs.checks.check_list.Statement.{statement}
 use Rattle.separated.proofs.checks.check_list.Tie as tie
 
-refused-requires : tie.Need-refused-requires
-refused-requires c κs = search needs
-
 returns : tie.Need-returns
 returns c = λ rs h. list-mode rs _ _ _ _ (c .before .if1 .taken) (c .refused .ensures)
-
-fault-or-kind-requires : tie.Need-fault-or-kind-requires
-fault-or-kind-requires c κs = search needs
-
-enum-known-number : tie.Need-enum-known-number
-enum-known-number c = search needs
-
-refused-requires-2 : tie.Need-refused-requires-2
-refused-requires-2 c κs = search needs
-
-enum-told : tie.Need-enum-told
-enum-told c = search needs
-
-refused-requires-3 : tie.Need-refused-requires-3
-refused-requires-3 c κs = search needs
 
 returns-2 : tie.Need-returns-2
 returns-2 c = λ rs h.
     list-many rs _ _ _ _ (c .before .before .before .before .before .if1 .left)
         (separator-fault rs _ _ (sym (c .before .before .enum-told .given .1)
         ∙ c .before .before .before .before .fault-or-kind .ensures rs h)) (c .before .if2 .taken) (c .refused3 .ensures)
-
-check-tokens-requires : tie.Need-check-tokens-requires
-check-tokens-requires c κs = search needs
 
 returns-3 : tie.Need-returns-3
 returns-3 c = λ rs h.
@@ -49,5 +28,5 @@ returns-4 c = λ rs h.
 
 pub check-list-spec : {M : Type 1} → statement M
 check-list-spec =
-    tie.close (tie.spec refused-requires returns fault-or-kind-requires enum-known-number refused-requires-2 enum-told
-    refused-requires-3 returns-2 check-tokens-requires returns-3 returns-4)
+    tie.close (tie.spec (λ c κs. search needs) returns (λ c κs. search needs) (λ c. search needs) (λ c κs. search needs) (λ c. search needs)
+    (λ c κs. search needs) returns-2 (λ c κs. search needs) returns-3 returns-4)

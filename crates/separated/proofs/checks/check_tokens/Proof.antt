@@ -29,12 +29,6 @@ read-record-requires c κs = omega (arith, c .loop-test .taken)
 fault-or-kind-requires : tie.Need-fault-or-kind-requires Inv-loop μ-loop
 fault-or-kind-requires c κs = c .before .before .before .before .before .before .pre
 
-enum-known-number : tie.Need-enum-known-number Inv-loop μ-loop
-enum-known-number c = search needs
-
-refused-requires : tie.Need-refused-requires Inv-loop μ-loop
-refused-requires c κs = search needs
-
 returns : tie.Need-returns Inv-loop μ-loop
 returns c = λ rs h.
     passing-refused (c .before .before .before .before .before .before .before .loop .inv rs h)
@@ -42,9 +36,6 @@ returns c = λ rs h.
         (c .before .before .before .before .before .read-record .ensures)
     (plain-fault rs _ _ (sym (c .before .before .number .given .1) ∙ c .before .before .before .before .fault-or-kind .ensures rs h))
         (c .refused .ensures)
-
-enum-told : tie.Need-enum-told Inv-loop μ-loop
-enum-told c = search needs
 
 add-k : tie.Need-add-k Inv-loop μ-loop
 add-k c = omega (arith, c .before .before .before .before .loop-test .taken,
@@ -64,5 +55,5 @@ returns-2 c = λ rs h. passing-end (c .before .loop .inv rs h) (c .loop-test .le
 
 pub check-tokens-spec : {M : Type 1} → statement M
 check-tokens-spec =
-    tie.close (tie.spec Inv-loop μ-loop loop-holds read-record-requires fault-or-kind-requires enum-known-number refused-requires
-    returns enum-told add-k loop-less loop-again returns-2)
+    tie.close (tie.spec Inv-loop μ-loop loop-holds read-record-requires fault-or-kind-requires (λ c. search needs) (λ c κs. search needs)
+    returns (λ c. search needs) add-k loop-less loop-again returns-2)

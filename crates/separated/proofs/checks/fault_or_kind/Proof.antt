@@ -5,21 +5,6 @@ use Rattle.separated.proofs.Checking.{or-fault, or-kind}
 use Rattle.separated.proofs.checks.fault_or_kind.Statement.{statement}
 use Rattle.separated.proofs.checks.fault_or_kind.Tie as tie
 
-token-fault-requires : tie.Need-token-fault-requires
-token-fault-requires c κs = search needs
-
-enum-known-first : tie.Need-enum-known-first
-enum-known-first c = search needs
-
-enum-told : tie.Need-enum-told
-enum-told c = search needs
-
-cast-is-separator : tie.Need-cast-is-separator
-cast-is-separator c = search needs
-
-is-separator-requires : tie.Need-is-separator-requires
-is-separator-requires c κs = search needs
-
 returns : tie.Need-returns
 returns c = λ rs h.
     or-kind _ _ _ _ (sym (c .before .before .before .enum-told .given .1)
@@ -37,5 +22,5 @@ returns-3 c = λ rs h.
 
 pub fault-or-kind-spec : {M : Type 1} → statement M
 fault-or-kind-spec =
-    tie.close (tie.spec token-fault-requires enum-known-first enum-told cast-is-separator is-separator-requires returns returns-2
-    returns-3)
+    tie.close (tie.spec (λ c κs. search needs) (λ c. search needs) (λ c. search needs) (λ c. search needs) (λ c κs. search needs) returns
+    returns-2 returns-3)

@@ -30,9 +30,6 @@ here c rs h = h .each (c .before .loop .next) (more c rs h)
 tabled : (c : tie.In-loop Inv-loop μ-loop) → Tabled (now (c .before .before .before .before .args .table)) (c .before .loop .next)
 tabled c = record { rule = _; table = here c _ (c .before .before .before .before .pre .holds) }
 
-count-of-requires : tie.Need-count-of-requires Inv-loop μ-loop
-count-of-requires c κs = search needs
-
 loop-holds : tie.Need-loop-holds Inv-loop μ-loop
 loop-holds c = λ rs h. plainly-start rs _
 
@@ -73,5 +70,5 @@ returns-2 c = λ rs h. plainly-end (c .before .loop .inv rs h) (omega (arith, c 
 
 pub is-separator-spec : {M : Type 1} → statement M
 is-separator-spec =
-    tie.close (tie.spec Inv-loop μ-loop count-of-requires loop-holds add-next tag-of-requires kind-of-requires returns loop-less
+    tie.close (tie.spec Inv-loop μ-loop (λ c κs. search needs) loop-holds add-next tag-of-requires kind-of-requires returns loop-less
     loop-again loop-less-2 loop-again-2 returns-2)

@@ -26,29 +26,18 @@ fits c rs h =
     (λ w. omega (arith, w .left, lex-few rs (now (call c .args .text))))
     (c .if2 .came)
 
-refuse-requires : tie.Need-refuse-requires
-refuse-requires c κs = search needs
-
 returns : tie.Need-returns
 returns c = λ rs h. opens-long (c .before .if1 .taken) (c .refuse .ensures)
-
-count-requires : tie.Need-count-requires
-count-requires c κs = search needs
-
-refuse-requires-2 : tie.Need-refuse-requires-2
-refuse-requires-2 c κs = search needs
 
 returns-2 : tie.Need-returns-2
 returns-2 c = λ rs h.
     let counted = c .before .before .before in
     opens-few (counted .before .before .if1 .left) (counted .count .ensures rs h) (c .before .if3 .taken) (c .refuse2 .ensures)
 
-pending-at-requires : tie.Need-pending-at-requires
-pending-at-requires c κs = search needs
-
 returns-3 : tie.Need-returns-3
 returns-3 c = λ rs h. opens-pending (c .before .before .if1 .left) (fits (c .before) rs h) (c .pending-at .ensures rs h)
 
 pub begin-rules-spec : {M : Type 1} → statement M
 begin-rules-spec =
-    tie.close (tie.spec refuse-requires returns count-requires refuse-requires-2 returns-2 pending-at-requires returns-3)
+    tie.close (tie.spec (λ c κs. search needs) returns (λ c κs. search needs) (λ c κs. search needs) returns-2 (λ c κs. search needs)
+    returns-3)

@@ -31,9 +31,6 @@ module _ (c : tie.After-choose) where
   more : call c .args .at + c .choose .result .len ≤ length (now (call c .args .text))
   more = omega (arith, one .within, length-drop (call c .args .at) (now (call c .args .text)), call c .pre .1 .0)
 
-choose-requires : tie.Need-choose-requires
-choose-requires c κs = search needs
-
 returns : tie.Need-returns
 returns c = λ rs h. record {
   plain = refl;
@@ -45,12 +42,6 @@ returns c = λ rs h. record {
 tag-of-requires : tie.Need-tag-of-requires
 tag-of-requires c κs =
     record { rule = _; table = call (c .before) .pre .0 .holds .each _ (one (c .before) .known (omega arith)) }
-
-cast-t13 : tie.Need-cast-t13
-cast-t13 c = search needs
-
-cast-t14 : tie.Need-cast-t14
-cast-t14 c = search needs
 
 cast-t15 : tie.Need-cast-t15
 cast-t15 c = omega (arith, more (c .before .before), call (c .before .before) .pre .1 .1)
@@ -77,4 +68,4 @@ returns-2 c = λ rs h.
 
 pub pending-at-spec : {M : Type 1} → statement M
 pending-at-spec =
-    tie.close (tie.spec choose-requires returns tag-of-requires cast-t13 cast-t14 cast-t15 add-t9 returns-2)
+    tie.close (tie.spec (λ c κs. search needs) returns tag-of-requires (λ c. search needs) (λ c. search needs) cast-t15 add-t9 returns-2)

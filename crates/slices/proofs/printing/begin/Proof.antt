@@ -4,21 +4,6 @@ use Rattle.slices.proofs.Staging.{begins-book, begins-refused}
 use Rattle.slices.proofs.printing.begin.Statement.{statement}
 use Rattle.slices.proofs.printing.begin.Tie as tie
 
-load-requires : tie.Need-load-requires
-load-requires c κs = search needs
-
-enum-told : tie.Need-enum-told
-enum-told c = search needs
-
-begin-count-requires : tie.Need-begin-count-requires
-begin-count-requires c κs = search needs
-
-enum-known-refusal : tie.Need-enum-known-refusal
-enum-known-refusal c = search needs
-
-refuse-requires : tie.Need-refuse-requires
-refuse-requires c κs = search needs
-
 returns : tie.Need-returns
 returns c = begins-book (c .before .before .before .load .ensures) (c .before .enum-told .given .1) (c .begin-count .ensures)
 
@@ -26,4 +11,6 @@ returns-2 : tie.Need-returns-2
 returns-2 c = begins-refused (c .before .before .before .before .load .ensures) (c .before .before .refusal .given .1) (c .refuse .ensures)
 
 pub begin-spec : {M : Type 1} → statement M
-begin-spec = tie.close (tie.spec load-requires enum-told begin-count-requires enum-known-refusal refuse-requires returns returns-2)
+begin-spec =
+    tie.close (tie.spec (λ c κs. search needs) (λ c. search needs) (λ c κs. search needs) (λ c. search needs) (λ c κs. search needs) returns
+    returns-2)

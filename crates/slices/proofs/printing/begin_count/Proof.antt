@@ -4,15 +4,6 @@ use borrow.Author.Needs.{needs}
 use Rattle.slices.proofs.printing.begin_count.Statement.{statement}
 use Rattle.slices.proofs.printing.begin_count.Tie as tie
 
-refuse-requires : tie.Need-refuse-requires
-refuse-requires c κs = search needs
-
-end-requires : tie.Need-end-requires
-end-requires c κs = search needs
-
-go-requires : tie.Need-go-requires
-go-requires c κs = search needs
-
 returns : tie.Need-returns
 returns c = rw (lt-ltb _ _ (c .before .if1 .taken)) (c .refuse .ensures)
 
@@ -23,4 +14,4 @@ returns-3 : tie.Need-returns-3
 returns-3 c = rw (le-ltb _ _ (c .before .before .if1 .left), ne-eqb _ _ (c .before .if2 .left)) (c .go .ensures)
 
 pub begin-count-spec : {M : Type 1} → statement M
-begin-count-spec = tie.close (tie.spec refuse-requires end-requires go-requires returns returns-2 returns-3)
+begin-count-spec = tie.close (tie.spec (λ c κs. search needs) (λ c κs. search needs) (λ c κs. search needs) returns returns-2 returns-3)

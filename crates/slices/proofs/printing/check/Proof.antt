@@ -7,24 +7,6 @@ use Rattle.token_list.proofs.Passes.{by-number, by-none}
 use Rattle.slices.proofs.printing.check.Statement.{statement}
 use Rattle.slices.proofs.printing.check.Tie as tie
 
-cast-len : tie.Need-cast-len
-cast-len c = search needs
-
-token-fault-requires : tie.Need-token-fault-requires
-token-fault-requires c κs = search needs
-
-enum-known-number : tie.Need-enum-known-number
-enum-known-number c = search needs
-
-refuse-requires : tie.Need-refuse-requires
-refuse-requires c κs = search needs
-
-enum-told : tie.Need-enum-told
-enum-told c = search needs
-
-move-on-requires : tie.Need-move-on-requires
-move-on-requires c κs = search needs
-
 returns : tie.Need-returns
 returns c = λ rs h.
     let a = c .before .before .before .before .before .before .before .before .args in
@@ -39,4 +21,5 @@ returns-2 c = λ rs h.
 
 pub check-spec : {M : Type 1} → statement M
 check-spec =
-    tie.close (tie.spec cast-len token-fault-requires enum-known-number refuse-requires enum-told move-on-requires returns returns-2)
+    tie.close (tie.spec (λ c. search needs) (λ c κs. search needs) (λ c. search needs) (λ c κs. search needs) (λ c. search needs)
+    (λ c κs. search needs) returns returns-2)

@@ -8,12 +8,6 @@ use Rattle.slices.proofs.printing.finish.Tie as tie
 returns : tie.Need-returns
 returns c = record { refuses = λ _. (refl, refl); writes = λ p. clash (c .if1 .taken) p }
 
-write-requires : tie.Need-write-requires
-write-requires c κs = search needs
-
-same-length : tie.Need-same-length
-same-length c = search needs
-
 returns-2 : tie.Need-returns-2
 returns-2 c = record {
   refuses = λ p. clash p (c .before .before .before .before .before .if1 .left);
@@ -21,4 +15,4 @@ returns-2 c = record {
 }
 
 pub finish-spec : {M : Type 1} → statement M
-finish-spec = tie.close (tie.spec returns write-requires same-length returns-2)
+finish-spec = tie.close (tie.spec returns (λ c κs. search needs) (λ c. search needs) returns-2)

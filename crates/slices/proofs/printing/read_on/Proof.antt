@@ -5,12 +5,6 @@ use Rattle.longest_match.proofs.Parts.{part-front}
 use Rattle.slices.proofs.printing.read_on.Statement.{statement}
 use Rattle.slices.proofs.printing.read_on.Tie as tie
 
-choose-requires : tie.Need-choose-requires
-choose-requires c κs = search needs
-
-refuse-requires : tie.Need-refuse-requires
-refuse-requires c κs = search needs
-
 returns : tie.Need-returns
 returns c = λ rs h. record {
   rule = c .before .before .before .choose .result .rule;
@@ -18,9 +12,6 @@ returns c = λ rs h. record {
   chooses = c .before .before .before .choose .ensures rs _ h (part-front _ _ _);
   result = rw (ne-eqb _ _ (c .before .if1 .taken)) (c .refuse .ensures);
 }
-
-move-on-requires : tie.Need-move-on-requires
-move-on-requires c κs = search needs
 
 returns-2 : tie.Need-returns-2
 returns-2 c = λ rs h. record {
@@ -31,4 +22,4 @@ returns-2 c = λ rs h. record {
 }
 
 pub read-on-spec : {M : Type 1} → statement M
-read-on-spec = tie.close (tie.spec choose-requires refuse-requires returns move-on-requires returns-2)
+read-on-spec = tie.close (tie.spec (λ c κs. search needs) (λ c κs. search needs) returns (λ c κs. search needs) returns-2)

@@ -25,9 +25,6 @@ returns-2 c = record {
   reads = λ _ n. absurd (n (c .before .before .if2 .taken));
 }
 
-cast-read-on : tie.Need-cast-read-on
-cast-read-on c = search needs
-
 read-on-requires : tie.Need-read-on-requires
 read-on-requires c κs =
     let w = c .before .before .before .before .before .before .before .before .before .pre in
@@ -42,4 +39,4 @@ returns-3 c = record {
 }
 
 pub step-spec : {M : Type 1} → statement M
-step-spec = tie.close (tie.spec check-requires returns join-requires returns-2 cast-read-on read-on-requires returns-3)
+step-spec = tie.close (tie.spec check-requires returns join-requires returns-2 (λ c. search needs) read-on-requires returns-3)

@@ -42,9 +42,6 @@ put-token-requires c κs =
         (c .before .read-record .ensures), (start .pre .separator,
         (head .loop .inv .1 (start .pre .held .rules) (start .pre .held .holds)) .within)))
 
-enum-known-start : tie.Need-enum-known-start Inv-loop μ-loop
-enum-known-start c = search needs
-
 loop-less : tie.Need-loop-less Inv-loop μ-loop
 loop-less c = omega (arith, c .before .before .before .before .before .before .before .before .loop-test .taken)
 
@@ -63,9 +60,6 @@ loop-again c =
         (from rs (start′ .args .separator) (start′ .args .mode) (now (start′ .args .records)) (now (start′ .args .pool)) (head .loop .k))
         (head .loop .inv .1 rs h .laid) (from-last rs (start′ .args .separator) (start′ .args .mode) (now (start′ .args .records))
         (now (start′ .args .pool)) (head .loop .k) (head .loop .inv .1 rs h .few))) (c .before .start .given .1))
-
-enum-told : tie.Need-enum-told Inv-loop μ-loop
-enum-told c = search needs
 
 same-length : tie.Need-same-length Inv-loop μ-loop
 same-length c = c .before .before .before .before .put-token .kept .1 .1 .1 .1 .1 .1 .0
@@ -97,5 +91,5 @@ returns-2 c =
 
 pub put-list-spec : {M : Type 1} → statement M
 put-list-spec =
-    tie.close (tie.spec Inv-loop μ-loop loop-holds sub-k read-record-requires put-token-requires enum-known-start loop-less loop-again
-    enum-told same-length returns same-length-2 returns-2)
+    tie.close (tie.spec Inv-loop μ-loop loop-holds sub-k read-record-requires put-token-requires (λ c. search needs) loop-less loop-again
+    (λ c. search needs) same-length returns same-length-2 returns-2)

@@ -15,12 +15,6 @@ put-token-requires c κs =
     let start = c .before .before .before .before in
     (start .pre .1 .0, start .pre .1 .1 .1)
 
-enum-known-start : tie.Need-enum-known-start
-enum-known-start c = search needs
-
-cast-is-due : tie.Need-cast-is-due
-cast-is-due c = search needs
-
 is-due-requires : tie.Need-is-due-requires
 is-due-requires c κs =
     (c .before .before .before .before .before .before .before .before .before .before .before .before .pre .0,
@@ -32,9 +26,6 @@ put-both-requires c κs =
     let placed = c .before .before .before .before .before .before .before .before .before .before in
     let start = placed .before .before .before .before .before in
     (start .pre .1 .0, (start .pre .1 .1 .0, omega (arith, placed .put-token .kept, start .pre .1 .1 .1)))
-
-same-length : tie.Need-same-length
-same-length c = search needs
 
 returns : tie.Need-returns
 returns c =
@@ -51,12 +42,6 @@ returns c =
         (token-ahead rs (start′ .args .mode) (now (start′ .args .pool)) (start′ .args .token) (start′ .args .separator) us
         (drop (start′ .args .at) (now (start′ .args .scratch))) e a (start′ .pre .1 .0) l (s .laid))) (c .before .before .put-both .ensures)
 
-enum-told : tie.Need-enum-told
-enum-told c = search needs
-
-same-length-2 : tie.Need-same-length-2
-same-length-2 c = search needs
-
 returns-2 : tie.Need-returns-2
 returns-2 c =
     let at-start = c .before .before .before .before .before in
@@ -70,9 +55,6 @@ returns-2 c =
         (drop (start′ .args .at) (now (start′ .args .scratch))) e a (start′ .pre .1 .0) l (s .laid))) (at-start .start .given .1)
         (at-put-token .put-token .ensures)
 
-same-length-3 : tie.Need-same-length-3
-same-length-3 c = search needs
-
 returns-3 : tie.Need-returns-3
 returns-3 c =
     let start = c .before .before .before .before .before .before .before .before .before in
@@ -82,5 +64,5 @@ returns-3 c =
 
 pub put-token-spec : {M : Type 1} → statement M
 put-token-spec =
-    tie.close (tie.spec put-token-requires enum-known-start cast-is-due is-due-requires put-both-requires same-length returns enum-told
-    same-length-2 returns-2 same-length-3 returns-3)
+    tie.close (tie.spec put-token-requires (λ c. search needs) (λ c. search needs) is-due-requires put-both-requires (λ c. search needs)
+    returns (λ c. search needs) (λ c. search needs) returns-2 (λ c. search needs) returns-3)

@@ -7,33 +7,12 @@ use Rattle.token_list.proofs.Faulting.{checked-same}
 use Rattle.token_list.proofs.faults.token_fault.Statement.{statement}
 use Rattle.token_list.proofs.faults.token_fault.Tie as tie
 
-cast-place : tie.Need-cast-place
-cast-place c = search needs
-
-cast-len : tie.Need-cast-len
-cast-len c = search needs
-
-add-if1 : tie.Need-add-if1
-add-if1 c = search needs
-
 returns : tie.Need-returns
 returns c = λ rs h. checked-outside rs _ _ (omega arith)
-
-cast-find-tag : tie.Need-cast-find-tag
-cast-find-tag c = search needs
-
-find-tag-requires : tie.Need-find-tag-requires
-find-tag-requires c κs = search needs
-
-count-of-requires : tie.Need-count-of-requires
-count-of-requires c κs = search needs
 
 returns-2 : tie.Need-returns-2
 returns-2 c = λ rs h. checked-unknown h _ _ (omega (arith, c .before .before .before .before .if1 .left))
     (c .before .before .find-tag .ensures rs h) (c .before .count-of .ensures rs h) (c .if2 .taken)
-
-add-choose : tie.Need-add-choose
-add-choose c = search needs
 
 choose-requires : tie.Need-choose-requires
 choose-requires c κs = (c .before .before .before .before .before .before .before .before .before .pre, (omega arith, omega arith))
@@ -70,5 +49,5 @@ returns-6 c = λ rs h. checked-same h _ _
 
 pub token-fault-spec : {M : Type 1} → statement M
 token-fault-spec =
-    tie.close (tie.spec cast-place cast-len add-if1 returns cast-find-tag find-tag-requires count-of-requires returns-2 add-choose
-    choose-requires returns-3 returns-4 returns-5 returns-6)
+    tie.close (tie.spec (λ c. search needs) (λ c. search needs) (λ c. search needs) returns (λ c. search needs) (λ c κs. search needs)
+    (λ c κs. search needs) returns-2 (λ c. search needs) choose-requires returns-3 returns-4 returns-5 returns-6)

@@ -19,21 +19,9 @@ loop-holds c = spanning-start _ _
 read-record-requires : tie.Need-read-record-requires Inv-loop μ-loop
 read-record-requires c κs = omega (arith, c .loop-test .taken)
 
-cast-len : tie.Need-cast-len Inv-loop μ-loop
-cast-len c = search needs
-
-cast-if1 : tie.Need-cast-if1 Inv-loop μ-loop
-cast-if1 c = search needs
-
-add-if1 : tie.Need-add-if1 Inv-loop μ-loop
-add-if1 c = search needs
-
 returns : tie.Need-returns Inv-loop μ-loop
 returns c = spanning-outside (c .before .before .before .before .before .loop .inv) (c .before .before .before .before .loop-test .taken)
     (c .before .before .before .read-record .ensures) (c .if1 .taken)
-
-add-total : tie.Need-add-total Inv-loop μ-loop
-add-total c = search needs
 
 returns-2 : tie.Need-returns-2 Inv-loop μ-loop
 returns-2 c = spanning-long (c .before .before .before .before .before .before .loop .inv)
@@ -56,5 +44,5 @@ returns-3 c = spanning-end (c .before .loop .inv) (c .loop-test .left)
 
 pub measure-spec : {M : Type 1} → statement M
 measure-spec =
-    tie.close (tie.spec Inv-loop μ-loop loop-holds read-record-requires cast-len cast-if1 add-if1 returns add-total returns-2 add-k
-    loop-less loop-again returns-3)
+    tie.close (tie.spec Inv-loop μ-loop loop-holds read-record-requires (λ c. search needs) (λ c. search needs) (λ c. search needs) returns
+    (λ c. search needs) returns-2 add-k loop-less loop-again returns-3)

@@ -40,15 +40,6 @@ loop-holds c = λ rs pool h s. retracing-start s
 read-record-requires : tie.Need-read-record-requires Inv-loop μ-loop
 read-record-requires c κs = omega (arith, c .loop-test .taken)
 
-cast-len : tie.Need-cast-len Inv-loop μ-loop
-cast-len c = search needs
-
-cast-find-tag : tie.Need-cast-find-tag Inv-loop μ-loop
-cast-find-tag c = search needs
-
-find-tag-requires : tie.Need-find-tag-requires Inv-loop μ-loop
-find-tag-requires c κs = search needs
-
 choose-requires : tie.Need-choose-requires Inv-loop μ-loop
 choose-requires c κs =
     let start = c .before .before .before .before .before .before .before .before .before .pre in
@@ -109,5 +100,5 @@ returns-4 c = λ rs pool h s. retracing-end (c .before .loop .inv rs pool h s) (
 
 pub read-back-spec : {M : Type 1} → statement M
 read-back-spec =
-    tie.close (tie.spec Inv-loop μ-loop loop-holds read-record-requires cast-len cast-find-tag find-tag-requires choose-requires returns
-    returns-2 returns-3 add-at add-k loop-less loop-again returns-4)
+    tie.close (tie.spec Inv-loop μ-loop loop-holds read-record-requires (λ c. search needs) (λ c. search needs) (λ c κs. search needs)
+    choose-requires returns returns-2 returns-3 add-at add-k loop-less loop-again returns-4)

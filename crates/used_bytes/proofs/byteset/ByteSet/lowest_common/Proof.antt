@@ -48,5 +48,5 @@ returns-2 c = ap lowestOf (sym (seeking-end (c .before .loop .inv) (omega arith)
 
 pub lowest-common-spec : {M : Type 1} → statement M
 lowest-common-spec =
-    tie.close (tie.spec Inv-loop μ-loop loop-holds add-b element-copy-out-if1 element-copy-out-if2 returns loop-less loop-again
-    loop-less-2 loop-again-2 returns-2)
+    tie.close (tie.spec Inv-loop μ-loop loop-holds add-b element-copy-out-if1 element-copy-out-if2 returns loop-less loop-again loop-less-2
+    loop-again-2 returns-2)
