@@ -12,9 +12,10 @@ use lib.Dec.{eqb, leb}
 use borrow.Author.Tests.{eq-eqb, ne-eqb, eqb-true, eqb-false}
 use Rattle.automaton.specs.Choice.{if, All, any, among}
 use Rattle.automaton.specs.Rule.{Transition, Rule, meets, Ranged, stateCount}
-use Rattle.automaton.specs.Contracts.{edgeStart, lowOf, highOf, nextOf, toOf, spotOf, edgeWord, bareSpot, stateOf, headOf, isFinal}
-use Rattle.automaton.specs.Contracts.{edgeAt, nameAt, bodyAt, firstOf, endOf, Edge, Listed, Link, Chain, leaving, shares, Spot, Body, Table}
-use Rattle.automaton.specs.Contracts.{rowWord, cellAt, headIn, spotAt, settled, Built, Settles}
+use Rattle.automaton.specs.Contracts.{edgeStart, lowOf, highOf, nextOf, toOf, spotOf, edgeWord, bareSpot, stateOf, headOf}
+use Rattle.automaton.specs.Contracts.{edgeAt, nameAt, bodyAt, firstOf, endOf, Edge, Listed, Chain, leaving, shares}
+use Rattle.automaton.specs.Contracts.{Spot, Body, Table}
+use Rattle.automaton.specs.Contracts.{stampAt, rowWord, cellAt, headIn, spotAt, settled, Built, Settles}
 
 -- ---- words, taken apart
 
@@ -31,7 +32,7 @@ spot-state : (s c : ℕ) → c < 131072 → stateOf (s * 131072 + c) ≡ s
 spot-state s c l = omega arith
 
 pub cell-small : (rows : List ℕ) (stamp s : ℕ) → cellAt rows stamp s < 131072
-cell-small rows stamp s = go (eqb (getD rows s 0 / 131072) stamp)
+cell-small rows stamp s = go (eqb (stampAt rows s) stamp)
   where
     go : (c : Bool) → if c (getD rows s 0 % 131072) 0 < 131072
     go true = omega arith
@@ -249,7 +250,8 @@ module _ {tb rows : List ℕ} {stamp first end : ℕ} {fs : List ℕ} {ts : List
           );
           chains = stored₁ (λ s x. Chain (set tb end word₁) first (x / 2) (leaving s (t ∷ ts)))
               (rw (leaving-hit t.from t ts refl, h)
-              (chain-more tb first end (cell / 2) t room (omega arith) built-order pos lo hi (b .tops t.from f) (leaving t.from ts) (b .chains t.from f)))
+              (chain-more tb first end (cell / 2) t room (omega arith) built-order pos lo hi (b .tops t.from f) (leaving t.from ts)
+              (b .chains t.from f)))
               (λ s l ne. rw (leaving-miss s t ts ne)
               (chain-agrees (keeps-agrees same) (cellAt rows stamp s / 2) (leaving s ts) (b .tops s l) (b .chains s l)));
           tops = stored₁ (λ s x. x / 2 < end + 1) (omega arith) (λ s l ne. omega (arith, b .tops s l));
@@ -321,13 +323,14 @@ module _ {tb rows : List ℕ} {stamp first end : ℕ} {fs : List ℕ} {ts : List
           listed = listed-agrees settled-agrees end ts (omega arith) (b .listed);
           spots = λ i f l.
               let q : toOf (edgeAt tb₁ i) ≡ toOf (edgeAt tb i) = settled-agrees .to-same i f l in
-              let p : spotOf (edgeAt tb₁ i) ≡ spotAt rows stamp (toOf (edgeAt tb i)) = ap spotOf (w .inside i f l) ∙ (parts (edgeAt tb i)) .spot in
+              let p : spotOf (edgeAt tb₁ i) ≡ spotAt rows stamp (toOf (edgeAt tb i)) =
+              ap spotOf (w .inside i f l) ∙ (parts (edgeAt tb i)) .spot in
               rw (q, p) (built-spot (toOf (edgeAt tb i)) (listed-below tb first end ts r (b .listed) i f l));
         }
 
 -- cells that were written for other rules are those of a rule with nothing in it
 pub built-blank : (tb rows : List ℕ) (stamp first : ℕ) → edgeStart ≤ first → first ≤ length tb → first < 65536 → length rows ≡ stateCount
-    → ((s : ℕ) → s < stateCount → getD rows s 0 / 131072 ≡ stamp → ⊥) → Built tb rows stamp first first [] []
+    → ((s : ℕ) → s < stateCount → stampAt rows s ≡ stamp → ⊥) → Built tb rows stamp first first [] []
 unfolding leaving
 built-blank tb rows stamp first l r h n z =
     let q : (s : ℕ) → s < stateCount → cellAt rows stamp s ≡ 0 = λ s k. rw (ne-eqb _ _ (z s k)) in

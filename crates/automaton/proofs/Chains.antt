@@ -9,7 +9,8 @@ use borrow.Author.Tests.{le-leb, lt-leb}
 use Rattle.automaton.specs.Rule.{Transition, covers}
 use Rattle.automaton.specs.Choice.{any}
 use Rattle.automaton.proofs.Tests.{and-false-right}
-use Rattle.automaton.specs.Contracts.{lowOf, highOf, nextOf, toOf, edgeAt, coversWord, Edge, Link, Chain, Chained, pick, Finds, shares}
+use Rattle.automaton.specs.Contracts.{lowOf, highOf, nextOf, toOf, edgeAt, coversWord}
+use Rattle.automaton.specs.Contracts.{Edge, Link, Chain, Chained, pick, Finds, shares}
 
 -- a chain at link h for which f answers x
 pub record Left {A : Type 0} (tb : List ℕ) (first h : ℕ) (f : List Transition → A) (x : A) : Type 0 where

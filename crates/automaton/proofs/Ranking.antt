@@ -9,7 +9,7 @@ use lib.ListN.{length}
 use borrow.Author.Count.{below-more}
 use borrow.Author.Tests.{ne-eqb}
 use Rattle.automaton.specs.Rule.{Rule}
-use Rattle.automaton.specs.Contracts.{ruleAt, Holds, Ranks}
+use Rattle.automaton.specs.Contracts.{ruleAt, Ranks}
 
 -- no one of the first k rules has the tag
 pub record Ranking (rs : List Rule) (tag k : ℕ) : Type 0 where

@@ -3,7 +3,6 @@ use mathlib.Core.Path.{_≡_, refl}
 use mathlib.Core.Bool.{Bool, true, false, _&&_, _||_}
 use Prim.Native.Nat.{ℕ}
 use native.Mathlib.Omega.{arith}
-use Rattle.automaton.specs.Choice.{if}
 
 pub clash : {A : Type 0} {b : Bool} → b ≡ true → b ≡ false → A
 clash {b = b} p q = let z : _≡_ {A = ℕ} 0 1 = cc in absurd (omega arith)
@@ -27,7 +26,3 @@ and-true false y e = clash e refl
 pub and-false-right : (x : Bool) → x && false ≡ false
 and-false-right true = refl
 and-false-right false = refl
-
-pub if-or : (x y : Bool) → if x true y ≡ x || y
-if-or true y = refl
-if-or false y = refl

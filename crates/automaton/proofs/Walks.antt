@@ -10,9 +10,9 @@ use lib.ListN.{length, getD, take}
 use lib.Dec.{eqb}
 use Rattle.automaton.specs.Choice.{if, any, among}
 use Rattle.automaton.specs.Rule.{Transition, Rule, covers, target, step, walk, matches, longestWithin, longest}
-use Rattle.automaton.specs.Rule.{Sound, stateCount}
-use Rattle.automaton.specs.Contracts.{stateOf, headOf, isFinal, spotOf, toOf, edgeAt, errorOf, kindOf, tagOf, firstOf, endOf}
-use Rattle.automaton.specs.Contracts.{startOf, nameAt, bodyAt, leaving, pick, Chain, Finds, Spot, Table}
+use Rattle.automaton.specs.Rule.{Sound}
+use Rattle.automaton.specs.Contracts.{headOf, isFinal, spotOf, toOf, edgeAt, firstOf, endOf}
+use Rattle.automaton.specs.Contracts.{startOf, bodyAt, leaving, pick, Chain, Finds, Spot, Table}
 use Rattle.automaton.proofs.Tests.{or-false}
 
 -- the chain of a state leads where the rule does
@@ -76,18 +76,6 @@ module _ (r : Rule) where
     longest-done t n h e =
         let q : length t - n + n ≡ length t = omega arith in
         sym (longest-stays t n (length t - n) (omega arith) e) ∙ ap (λ (x : ℕ). longestWithin r t x) q
-
--- ---- a rule's name, taken apart
-
-module _ {tb : List ℕ} {k : ℕ} {r : Rule} (table : Table tb k r) where
-  pub name-error : errorOf (nameAt tb k) ≡ r.error
-  name-error = rw (table .name) (omega (arith, table .sound .error-below, table .kind))
-
-  pub name-kind : kindOf (nameAt tb k) ≡ r.kind
-  name-kind = rw (table .name) (omega (arith, table .sound .error-below, table .kind))
-
-  pub name-tag : tagOf (nameAt tb k) ≡ r.tag
-  name-tag = rw (table .name) (omega (arith, table .sound .error-below, table .kind))
 
 -- ---- the loop of `longest_prefix`
 

@@ -216,9 +216,12 @@ pub record Ranks (rules : List Rule) (tag k : ℕ) : Type 0 where
 abbrev pub rowWord : ℕ → ℕ → ℕ → ℕ
 rowWord stamp head final = stamp * 131072 + head * 2 + final
 
+abbrev pub stampAt : List ℕ → ℕ → ℕ
+stampAt rows s = getD rows s 0 / 131072
+
 -- the cell of state s in the rule with this stamp: twice the head, plus 1 where the state is final
 abbrev pub cellAt : List ℕ → ℕ → ℕ → ℕ
-cellAt rows stamp s = if (eqb (getD rows s 0 / 131072) stamp) (getD rows s 0 % 131072) 0
+cellAt rows stamp s = if (eqb (stampAt rows s) stamp) (getD rows s 0 % 131072) 0
 
 abbrev pub headIn : List ℕ → ℕ → ℕ → ℕ
 headIn rows stamp s = cellAt rows stamp s / 2

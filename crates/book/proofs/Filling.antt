@@ -1,31 +1,32 @@
 -- The table while a book is read: a final state more, a transition more, a rule closed. Assumes nothing.
-use mathlib.Core.Path.{_≡_, refl, sym, _∙_, ap, subst}
+use mathlib.Core.Path.{_≡_, refl, sym, _∙_}
 use mathlib.Core.Bool.{Bool, true, false}
-use mathlib.Core.Logic.{inl, inr}
+use mathlib.Core.Logic.{inl}
 use mathlib.Core.List.{List, [], _∷_, _++_}
-use Prim.Native.Nat.{ℕ, _+_, _*_, _/_, _%_, _<_, _≤_}
+use Prim.Native.Nat.{ℕ, _+_, _*_, _%_, _<_, _≤_}
 use native.Mathlib.Omega.{arith}
 use lib.Dec.{eqb}
-use lib.ListN.{length, getD, set, length-set, length-append, List·getD-append}
+use lib.ListN.{length, set, length-set, length-append, List·getD-append}
 use lib.Seq.{getD-set-same, getD-set-other, getD-at}
 use borrow.Author.Tests.{eqb-true, eqb-false}
 use borrow.Author.Count.{below-more}
 use Rattle.automaton.specs.Rule.{Transition, Rule, stateCount}
-use Rattle.automaton.specs.Contracts.{edgeStart, nameWord, bodyWord, startOf, firstOf, endOf, bareSpot, edgeWord, countAt, nameAt, bodyAt, edgeAt}
-use Rattle.automaton.specs.Contracts.{rowWord, headIn, cellAt, spotAt, blank, ruleAt, Table, Holds, Built, Settles}
+use Rattle.automaton.specs.Contracts.{edgeStart, nameWord, bodyWord, startOf, firstOf, endOf, bareSpot, edgeWord}
+use Rattle.automaton.specs.Contracts.{countAt, nameAt, bodyAt, edgeAt}
+use Rattle.automaton.specs.Contracts.{stampAt, rowWord, headIn, cellAt, spotAt, blank, ruleAt, Table, Settles}
 use Rattle.automaton.proofs.Built.{built-edge, built-final, built-blank, built-spot, built-body, built-order}
-use Rattle.automaton.proofs.Built.{Keeps, keeps-set, keeps-agrees, spot-agrees, body-keeps, table-keeps}
+use Rattle.automaton.proofs.Built.{Keeps, keeps-agrees, spot-agrees, body-keeps, table-keeps}
 use Rattle.book.specs.Limits.{maxRules}
 use Rattle.book.specs.Valid.{ValidRule}
 use Rattle.book.specs.Contracts.{Fresh, Stored}
 
 -- one cell stored: the bound of the stamps
 stamp-set : (rows : List ℕ) (stamp j head mark : ℕ) → j < length rows → head * 2 + mark < 131072
-    → ((s : ℕ) → s < stateCount → getD rows s 0 / 131072 ≤ stamp)
-    → (s : ℕ) → s < stateCount → getD (set rows j (rowWord stamp head mark)) s 0 / 131072 ≤ stamp
+    → ((s : ℕ) → s < stateCount → stampAt rows s ≤ stamp)
+    → (s : ℕ) → s < stateCount → stampAt (set rows j (rowWord stamp head mark)) s ≤ stamp
 stamp-set rows stamp j head mark r l h s k = go (eqb s j) refl
   where
-    go : (t : Bool) → eqb s j ≡ t → getD (set rows j (rowWord stamp head mark)) s 0 / 131072 ≤ stamp
+    go : (t : Bool) → eqb s j ≡ t → stampAt (set rows j (rowWord stamp head mark)) s ≤ stamp
     go true e = rw (eqb-true s j e, getD-set-same rows j (rowWord stamp head mark) 0 r) (omega arith)
     go false e = rw (getD-set-other rows j s (rowWord stamp head mark) 0 (eqb-false s j e)) (h s k)
 
@@ -83,7 +84,8 @@ module _ {first end : ℕ} {tb rows : List ℕ} {rules : List Rule} {fs : List �
                 (before (2 * k + 1) (omega arith)) (before (2 * k + 2) (omega arith));
           };
           apart = λ k l. rw (before (2 * k + 2) (omega arith)) (st .apart k l);
-          stamps = stamp-set rows stamp t.from end (cellAt rows stamp t.from % 2) (omega (arith, st .built .cells)) (omega arith) (st .stamps);
+          stamps = stamp-set rows stamp t.from end (cellAt rows stamp t.from % 2) (omega (arith, st .built .cells)) (omega arith)
+              (st .stamps);
           built = built-edge (st .built) t more short f lo hi;
         }
 

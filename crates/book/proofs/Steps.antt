@@ -21,7 +21,8 @@ use Rattle.book.specs.declared.Progress.{Progress}
 use Rattle.book.specs.declared.Progress.the-variants.{On, Done, Refused}
 use Rattle.book.specs.Limits.{maxRules, maxTransitions}
 use Rattle.book.specs.Draft.{Draft, opened, isSet, isUnset, stateOf, ruleOf, goes, check, tagged, isEmpty, move, apply}
-use Rattle.book.specs.Contracts.{Fine, bookOf, idle, edgeLimit, Stored, Represents, Represented, Inside, Closes, Follows, standsInside}
+use Rattle.book.specs.Contracts.{Fine, bookOf, idle, edgeLimit, Stored, Represents, Represented, Inside, Closes, Follows}
+use Rattle.book.specs.Contracts.{standsInside}
 use Rattle.book.proofs.Fine.{Good, apply-good, move-good, state-below, closed-rule}
 use Rattle.book.proofs.Filling.{stored-final, stored-edge, stored-closed}
 
@@ -278,7 +279,8 @@ module _ {b : Book} {tb rows : List ℕ} {d : Draft} (h : Represents b tb rows d
               let w = rw (rules-are h) at (q .settles) in
               let st = stored-closed (h .stored) (ruleOf d) v refl refl (o .room) w in
               rw (both-set, no-overlap, none-leaves, error-not-final, z)
-              (on _ {f = b .edges} {m = b .edges} f (rw (q .stored, h .same) st) (rw (rules-are h, length-append d.rules (ruleOf d ∷ []))) m)
+              (on _ {f = b .edges} {m = b .edges} f (rw (q .stored, h .same) st)
+              (rw (rules-are h, length-append d.rules (ruleOf d ∷ []))) m)
 
 -- ---- what the functions ask
 

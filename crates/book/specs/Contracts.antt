@@ -3,12 +3,12 @@ use mathlib.Core.Path.{_≡_}
 use mathlib.Core.Bool.{Bool, true, false}
 use mathlib.Core.List.{List, []}
 use mathlib.Core.Option.{Option, none, some}
-use Prim.Native.Nat.{ℕ, _+_, _*_, _/_, _<_, _≤_}
+use Prim.Native.Nat.{ℕ, _+_, _*_, _<_, _≤_}
 use lib.ListN.{length, getD, set}
 use Rattle.automaton.specs.Choice.{All}
 use Rattle.automaton.specs.Rule.{Transition, Rule, overlaps, Ranged, stateCount}
 use Rattle.automaton.specs.Contracts.{edgeStart, countAt, bodyAt, firstOf, endOf, edgeAt, toOf, nameWord, bodyWord}
-use Rattle.automaton.specs.Contracts.{headIn, spotAt, Chained, Holds, Built, Settles}
+use Rattle.automaton.specs.Contracts.{stampAt, headIn, spotAt, Chained, Holds, Built, Settles}
 use Rattle.command.specs.declared.Command.{Command}
 use Rattle.command.specs.declared.Command.the-variants.{Rule as RULE, Start, Error, Final, Step, Span, Close, End}
 use Rattle.book.specs.declared.Book.{Book}
@@ -61,7 +61,7 @@ pub record Fresh (tb rows : List ℕ) : Type 0 where
 pub record Stored (first end : ℕ) (tb rows : List ℕ) (rules : List Rule) (fs : List ℕ) (ts : List Transition) : Type 0 where
   pub holds : Holds tb rules
   pub apart : (k : ℕ) → k < length rules → (edgeStart ≤ firstOf (bodyAt tb k)) × (endOf (bodyAt tb k) ≤ first)
-  pub stamps : (s : ℕ) → s < stateCount → getD rows s 0 / 131072 ≤ length rules + 1
+  pub stamps : (s : ℕ) → s < stateCount → stampAt rows s ≤ length rules + 1
   pub built : Built tb rows (length rules + 1) first end fs ts
 
 -- ---- How the code's `Book` holds a draft.

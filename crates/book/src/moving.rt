@@ -29,7 +29,8 @@ pub fn add_transition(
     requires { ⌜ Inside book (now table) (now rows) ⌝ }
     requires { ⌜ (book .edges < length (now table)) × (book .edges < edgeLimit) ⌝ }
     ensures { λ r. ⌜ ((d : Draft) → Represents book (now (table .entry)) (now (rows .entry)) d → d .inside ≡ true
-        → Follows (move d at (step .from) (step .low) (step .high) (step .to)) r (now (table .exit)) (now (rows .exit)) (book .edges + 1)) ⌝ }
+        → Follows (move d at (step .from) (step .low) (step .high) (step .to)) r
+        (now (table .exit)) (now (rows .exit)) (book .edges + 1)) ⌝ }
 {
     let end = book.edges;
     if Book::TRANSITIONS <= end - book.first {

@@ -17,7 +17,8 @@ Inv-loop table tag rules k₀ k = (rs : List Rule) → Holds table rs → Rankin
 abbrev μ-loop : tie.MeasureT-loop
 μ-loop table tag rules k₀ k = rules - k
 
-more : (c : tie.In-loop Inv-loop μ-loop) (rs : List Rule) → Holds (now (c .before .before .before .before .args .table)) rs → c .before .loop .k < length rs
+more : (c : tie.In-loop Inv-loop μ-loop) (rs : List Rule) → Holds (now (c .before .before .before .before .args .table)) rs →
+    c .before .loop .k < length rs
 more c rs h = omega (arith, c .loop-test .taken, c .before .before .count-of .ensures rs h)
 
 here : (c : tie.In-loop Inv-loop μ-loop) (rs : List Rule) (h : Holds (now (c .before .before .before .before .args .table)) rs)
@@ -28,11 +29,14 @@ loop-holds : tie.Need-loop-holds Inv-loop μ-loop
 loop-holds c = λ rs h. ranking-start rs _
 
 tag-of-requires : tie.Need-tag-of-requires Inv-loop μ-loop
-tag-of-requires c κs = record { rule = ruleAt (c .before .before .before .before .pre .rules) (c .before .loop .k); table = here c (c .before .before .before .before .pre .rules) (c .before .before .before .before .pre .holds) }
+tag-of-requires c κs =
+    let k′ = c .before .before .before .before in
+    record { rule = ruleAt (k′ .pre .rules) (c .before .loop .k); table = here c (k′ .pre .rules) (k′ .pre .holds) }
 
 returns : tie.Need-returns Inv-loop μ-loop
 returns c = λ rs h.
-    ranking-found (c .before .before .before .loop .inv rs h) (sym (c .before .tag-of .ensures _ (here (c .before .before) rs h)) ∙ c .if1 .taken)
+    ranking-found (c .before .before .before .loop .inv rs h) (sym (c .before .tag-of .ensures _ (here (c .before .before) rs h)) ∙
+        c .if1 .taken)
 
 add-k : tie.Need-add-k Inv-loop μ-loop
 add-k c = omega (arith, c .before .before .loop-test .taken)

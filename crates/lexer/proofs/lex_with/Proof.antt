@@ -5,10 +5,15 @@ use Rattle.lexer.proofs.lex_with.Statement.{statement}
 use Rattle.lexer.proofs.lex_with.Tie as tie
 
 lex-rules-requires : tie.Need-lex-rules-requires
-lex-rules-requires c κs = loaded-held (c .before .before .before .before .before .before .load .ensures) (c .before .before .enum-told .given .1)
+lex-rules-requires c κs =
+    let k = c .before .before .before .before .before .before in
+    loaded-held (k .load .ensures) (c .before .before .enum-told .given .1)
 
 returns : tie.Need-returns
-returns c = answered-book (c .before .before .before .before .before .before .before .before .before .load .ensures) (c .before .before .before .before .before .enum-told .given .1) _ _ _ _ (c .before .before .lex-rules .ensures)
+returns c =
+    let k = c .before .before .before .before .before in
+    let k₁ = k .before .before .before .before in
+    answered-book (k₁ .load .ensures) (k .enum-told .given .1) _ _ _ _ (c .before .before .lex-rules .ensures)
 
 returns-2 : tie.Need-returns-2
 returns-2 c = answered-refused (c .before .before .before .before .before .load .ensures) (c .before .refusal .given .1) _ _

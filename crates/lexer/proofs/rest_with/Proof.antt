@@ -8,7 +8,9 @@ rest-rules-requires : tie.Need-rest-rules-requires
 rest-rules-requires c κs = loaded-held (c .before .before .before .before .before .load .ensures) (c .before .enum-told .given .1)
 
 returns : tie.Need-returns
-returns c = rest-book (c .before .before .before .before .before .before .load .ensures) (c .before .before .enum-told .given .1) _ _ (c .rest-rules .ensures)
+returns c =
+    let k = c .before .before .before .before .before .before in
+    rest-book (k .load .ensures) (c .before .before .enum-told .given .1) _ _ (c .rest-rules .ensures)
 
 returns-2 : tie.Need-returns-2
 returns-2 c = rest-refused (c .before .before .before .before .load .ensures) (c .enum-told2 .given .1) _

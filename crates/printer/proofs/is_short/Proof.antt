@@ -9,7 +9,9 @@ returns : tie.Need-returns
 returns c = λ e. clash e refl
 
 returns-2 : tie.Need-returns-2
-returns-2 c = λ e. record { bytes = c .before .total .given .0 .0; spanned = c .before .before .before .measure .ensures .fits _ (c .before .total .given .1); few = leb-true _ _ e }
+returns-2 c = λ e.
+    record { bytes = c .before .total .given .0 .0; spanned = c .before .before .before .measure .ensures .fits _
+        (c .before .total .given .1); few = leb-true _ _ e }
 
 returns-3 : tie.Need-returns-3
 returns-3 c = λ e. clash e refl

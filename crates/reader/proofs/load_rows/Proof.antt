@@ -16,43 +16,58 @@ Inv-loop book table₀ rows₀ len cursor₀ state₀ table rows cursor state =
 abbrev μ-loop : tie.MeasureT-loop
 μ-loop book table₀ rows₀ len cursor₀ state₀ table rows cursor state = length book - cursor .at
 
--- the place where a command was found, and that where it was taken in
+-- the loop's place, and the entry
+abbrev Loop : Type 0
+Loop = tie.At-loop Inv-loop μ-loop
+
+abbrev entry : Loop → tie.Start Inv-loop μ-loop
+entry c = c .before .before .before .before .before .before .before
+
+-- the place where a command was found, and the loop's place before it
 abbrev Told : Type 0
 Told = tie.After-known-told Inv-loop μ-loop
 
-abbrev Taken : Type 0
-Taken = tie.After-slice-known4 Inv-loop μ-loop
+abbrev turn : Told → Loop
+turn c = c .before .before .before .before .before .before
 
-abbrev told : Taken → Told
-told c = c .before .before .before .before .before .before .before
-
-here : (c : tie.After-known-told Inv-loop μ-loop)
-    → Here (now (c .before .before .before .before .before .before .before .before .before .before .before .before .before .args .book)) (c .before .before .before .before .before .before .loop .table) (c .before .before .before .before .before .before .loop .rows) (c .before .before .before .before .before .before .loop .cursor .at) (c .before .before .before .before .before .before .loop .state)
+here : (c : Told)
+    → Here (now (entry (turn c) .args .book)) (turn c .loop .table) (turn c .loop .rows) (turn c .loop .cursor .at) (turn c .loop .state)
     (c .before .command2 .given .0 .0) (c .before .command2 .given .0 .1 .0)
 here c =
     record {
-      going = c .before .before .before .before .before .before .loop .inv .0;
+      going = turn c .loop .inv .0;
       more = c .before .before .before .before .if2 .taken;
-      byte = λ i. c .before .before .before .before .before .before .before .before .before .before .before .before .shared-slice-known .given i .fits;
+      byte = λ i. turn c .before .before .before .before .before .before .shared-slice-known .given i .fits;
       found = sym (c .before .command2 .given .1) ∙ c .before .before .before .command .ensures;
     }
 
--- the table keeps its length
-kept : (c : tie.After-slice-known4 Inv-loop μ-loop) → length (c .before .before .before .before .apply .last .1 .1 .1 .1 .0) ≡ length (c .before .before .before .before .before .before .before .before .before .before .before .before .before .loop .table)
-kept c = c .before .before .before .before .apply .kept .1 .1 .1 .1 .0
+-- the place where the command was taken in, and those before it
+abbrev Taken : Type 0
+Taken = tie.After-slice-known4 Inv-loop μ-loop
+
+abbrev applied : Taken → tie.After-apply Inv-loop μ-loop
+applied c = c .before .before .before .before
+
+abbrev told : Taken → Told
+told c = applied c .before .before .before
+
+-- the table and the cells keep their lengths
+kept : (c : Taken) → length (applied c .apply .last .1 .1 .1 .1 .0) ≡ length (turn (told c) .loop .table)
+kept c = applied c .apply .kept .1 .1 .1 .1 .0
+
+cells : (c : Loop) → length (c .loop .rows) ≡ length (now (entry c .args .rows))
+cells c = c .loop .inv .0 .holds .stored .built .cells ∙ sym (entry c .pre .1 .cells)
 
 falls : (n a b : ℕ) → a < n → a < b → n - b < n - a
 falls n a b l m = omega arith
-
--- the cells keep their number
-cells : (c : tie.At-loop Inv-loop μ-loop) → length (c .loop .rows) ≡ length (now (c .before .before .before .before .before .before .before .args .rows))
-cells c = c .loop .inv .0 .holds .stored .built .cells ∙ sym (c .before .before .before .before .before .before .before .pre .1 .cells)
 
 returns : tie.Need-returns Inv-loop μ-loop
 returns c = loaded-refused (read-too-long _ (c .before .if1 .taken)) (c .refused .ensures)
 
 loop-holds : tie.Need-loop-holds Inv-loop μ-loop
-loop-holds c = (going-start (c .before .before .before .before .before .before .pre .0) (c .before .before .before .before .before .before .pre .1) (c .before .before .if1 .left) (c .new2 .ensures) (c .before .new .ensures), refl)
+loop-holds c =
+    let k = c .before .before .before .before .before .before in
+    (going-start (k .pre .0) (k .pre .1) (c .before .before .if1 .left) (c .new2 .ensures) (c .before .new .ensures), refl)
 
 command-requires : tie.Need-command-requires Inv-loop μ-loop
 command-requires c κs = c .if2 .taken
@@ -65,8 +80,10 @@ same-length-2 c = cells (c .before .before .before .before .before .before)
 
 returns-2 : tie.Need-returns-2 Inv-loop μ-loop
 returns-2 c =
-    let e = sym (c .before .enum-told .given .1) ∙ c .before .before .before .command .ensures in
-    loaded-refused (going-takes (c .before .before .before .before .before .before .loop .inv .0) (c .before .before .before .before .if2 .taken) _ e .same) (c .refused2 .ensures)
+    let k = c .before .before .before in
+    let k₁ = k .before .before .before in
+    let e = sym (c .before .enum-told .given .1) ∙ k .command .ensures in
+    loaded-refused (going-takes (k₁ .loop .inv .0) (k .before .if2 .taken) _ e .same) (c .refused2 .ensures)
 
 same-length-3 : tie.Need-same-length-3 Inv-loop μ-loop
 same-length-3 c = c .before .before .before .before .before .before .loop .inv .1
@@ -76,8 +93,10 @@ same-length-4 c = cells (c .before .before .before .before .before .before)
 
 returns-3 : tie.Need-returns-3 Inv-loop μ-loop
 returns-3 c =
-    let e = sym (c .before .enum-told2 .given .1) ∙ c .before .before .before .command .ensures in
-    loaded-refused (going-takes (c .before .before .before .before .before .before .loop .inv .0) (c .before .before .before .before .if2 .taken) _ e .same) (c .refused3 .ensures)
+    let k = c .before .before .before in
+    let k₁ = k .before .before .before in
+    let e = sym (c .before .enum-told2 .given .1) ∙ k .command .ensures in
+    loaded-refused (going-takes (k₁ .loop .inv .0) (k .before .if2 .taken) _ e .same) (c .refused3 .ensures)
 
 apply-requires : tie.Need-apply-requires Inv-loop μ-loop
 apply-requires c κs =
@@ -90,29 +109,29 @@ loop-less c = let k = here (told (c .before .before .before)) in falls _ _ _ (k 
 loop-again : tie.Need-loop-again Inv-loop μ-loop
 loop-again c =
     let k = c .before .before .before in
-    (taken-in (here (told k)) _ _ (kept k) (c .before .before .before .before .before .before .before .apply .ensures) (c .before .on .given .1), kept k ∙ c .before .before .before .before .before .before .before .before .before .before .before .before .before .before .before .before .loop .inv .1)
+    (taken-in (here (told k)) _ _ (kept k) (applied k .apply .ensures) (c .before .on .given .1), kept k ∙ turn (told k) .loop .inv .1)
 
 same-length-5 : tie.Need-same-length-5 Inv-loop μ-loop
-same-length-5 c = kept (c .before .before .before) ∙ c .before .before .before .before .before .before .before .before .before .before .before .before .before .before .before .before .loop .inv .1
+same-length-5 c = let k = c .before .before .before in kept k ∙ turn (told k) .loop .inv .1
 
 same-length-6 : tie.Need-same-length-6 Inv-loop μ-loop
-same-length-6 c = c .before .before .before .before .before .before .before .apply .kept .1 .1 .1 .1 .1 .0 ∙ cells (c .before .before .before .before .before .before .before .before .before .before .before .before .before .before .before .before)
+same-length-6 c = let k = c .before .before .before in applied k .apply .kept .1 .1 .1 .1 .1 .0 ∙ cells (turn (told k))
 
 returns-4 : tie.Need-returns-4 Inv-loop μ-loop
 returns-4 c =
     let k = c .before .before .before in
-    taken-in (here (told k)) _ _ (kept k) (c .before .before .before .before .before .before .before .apply .ensures) (c .before .rules .given .1)
+    taken-in (here (told k)) _ _ (kept k) (applied k .apply .ensures) (c .before .rules .given .1)
 
 same-length-7 : tie.Need-same-length-7 Inv-loop μ-loop
-same-length-7 c = kept (c .before .before .before) ∙ c .before .before .before .before .before .before .before .before .before .before .before .before .before .before .before .before .loop .inv .1
+same-length-7 c = let k = c .before .before .before in kept k ∙ turn (told k) .loop .inv .1
 
 same-length-8 : tie.Need-same-length-8 Inv-loop μ-loop
-same-length-8 c = c .before .before .before .before .before .before .before .apply .kept .1 .1 .1 .1 .1 .0 ∙ cells (c .before .before .before .before .before .before .before .before .before .before .before .before .before .before .before .before)
+same-length-8 c = let k = c .before .before .before in applied k .apply .kept .1 .1 .1 .1 .1 .0 ∙ cells (turn (told k))
 
 returns-5 : tie.Need-returns-5 Inv-loop μ-loop
 returns-5 c =
     let k = c .before .before .before in
-    taken-in (here (told k)) _ _ (kept k) (c .before .before .before .before .before .before .before .apply .ensures) (c .before .refusal .given .1)
+    taken-in (here (told k)) _ _ (kept k) (applied k .apply .ensures) (c .before .refusal .given .1)
 
 same-length-9 : tie.Need-same-length-9 Inv-loop μ-loop
 same-length-9 c = c .before .before .before .loop .inv .1

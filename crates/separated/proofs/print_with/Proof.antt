@@ -6,10 +6,18 @@ use Rattle.separated.proofs.print_with.Statement.{statement}
 use Rattle.separated.proofs.print_with.Tie as tie
 
 print-rules-requires : tie.Need-print-rules-requires
-print-rules-requires c κs = (loaded-held (c .before .before .before .before .before .before .before .load .ensures) (c .before .before .before .enum-told .given .1), c .before .before .before .before .before .before .before .before .before .before .before .before .before .before .before .pre .1)
+print-rules-requires c κs =
+    let k = c .before .before .before in
+    let k₁ = k .before .before .before .before in
+    let k₂ = k₁ .before .before .before .before .before .before .before .before in
+    (loaded-held (k₁ .load .ensures) (k .enum-told .given .1), k₂ .pre .1)
 
 returns : tie.Need-returns
-returns c = answered-book (c .before .before .before .before .before .before .before .before .before .before .before .before .load .ensures) (c .before .before .before .before .before .before .before .before .enum-told .given .1) _ _ _ _ _ _ _ (c .before .before .before .before .print-rules .ensures)
+returns c =
+    let k = c .before .before .before .before in
+    let k₁ = k .before .before .before .before in
+    let k₂ = k₁ .before .before .before .before in
+    answered-book (k₂ .load .ensures) (k₁ .enum-told .given .1) _ _ _ _ _ _ _ (k .print-rules .ensures)
 
 returns-2 : tie.Need-returns-2
 returns-2 c = answered-refused (c .before .before .before .before .before .load .ensures) (c .before .refusal .given .1) _ _ _ _ _

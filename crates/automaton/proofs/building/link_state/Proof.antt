@@ -1,4 +1,3 @@
-use native.Mathlib.Omega.{arith}
 use borrow.Author.Needs.{needs}
 use Rattle.automaton.proofs.building.link_state.Statement.{statement}
 use Rattle.automaton.proofs.building.link_state.Tie as tie

@@ -5,10 +5,14 @@ use Rattle.automaton.proofs.building.mark_final.Statement.{statement}
 use Rattle.automaton.proofs.building.mark_final.Tie as tie
 
 add-rows : tie.Need-add-rows
-add-rows c = omega (arith, c .cell .ensures, cell-small (c .before .before .before .args .rows .now) (c .before .before .before .args .stamp) (c .before .before .before .args .s), c .before .before .before .pre)
+add-rows c =
+    let k = c .before .before .before in
+    omega (arith, c .cell .ensures, cell-small (k .args .rows .now) (k .args .stamp) (k .args .s), k .pre)
 
 add-rows-2 : tie.Need-add-rows-2
-add-rows-2 c = omega (arith, c .cell .ensures, cell-small (c .before .before .before .args .rows .now) (c .before .before .before .args .stamp) (c .before .before .before .args .s), c .before .before .before .pre)
+add-rows-2 c =
+    let k = c .before .before .before in
+    omega (arith, c .cell .ensures, cell-small (k .args .rows .now) (k .args .stamp) (k .args .s), k .pre)
 
 returns : tie.Need-returns
 returns c = rw (c .cell .ensures)

@@ -1,7 +1,6 @@
 use Prim.Native.Nat.{_-_}
 use native.Mathlib.Omega.{arith}
 use borrow.Author.Needs.{needs}
-use Rattle.automaton.specs.Contracts.{Settles}
 use Rattle.automaton.proofs.Built.{Settling, settling-start, settling-here, settling-next, settling-end}
 use Rattle.automaton.proofs.building.settle.Statement.{statement}
 use Rattle.automaton.proofs.building.settle.Tie as tie
@@ -17,10 +16,11 @@ loop-holds c = settling-start _ _ _ _ _ (c .before .before .pre .0 .0)
 
 settle-one-requires : tie.Need-settle-one-requires Inv-loop μ-loop
 settle-one-requires c κs =
+    let k = c .before .before .before .before .before in
     let w = c .before .before .loop .inv in (
-      omega (arith, c .before .loop-test .taken, c .before .before .before .before .before .pre .0 .1, w .settles .same-length),
-      c .before .before .before .before .before .pre .0 .2,
-      rw (settling-here w) (c .before .before .before .before .before .pre .1 (c .before .before .loop .i) (w .from) (c .before .loop-test .taken)),
+      omega (arith, c .before .loop-test .taken, k .pre .0 .1, w .settles .same-length),
+      k .pre .0 .2,
+      rw (settling-here w) (k .pre .1 (c .before .before .loop .i) (w .from) (c .before .loop-test .taken)),
     )
 
 add-i : tie.Need-add-i Inv-loop μ-loop
@@ -31,8 +31,10 @@ loop-less c = omega (arith, c .before .before .before .before .loop-test .taken)
 
 loop-again : tie.Need-loop-again Inv-loop μ-loop
 loop-again c =
-    let w = c .before .before .before .before .before .loop .inv in
-    settling-next w (c .before .before .before .before .loop-test .taken) (omega (arith, c .before .before .before .before .loop-test .taken, c .before .before .before .before .before .before .before .before .pre .0 .1, w .settles .same-length))
+    let k = c .before .before .before .before in
+    let k₁ = k .before .before .before .before in
+    let w = k .before .loop .inv in
+    settling-next w (k .loop-test .taken) (omega (arith, k .loop-test .taken, k₁ .pre .0 .1, w .settles .same-length))
     (c .before .before .settle-one .ensures)
 
 returns : tie.Need-returns Inv-loop μ-loop

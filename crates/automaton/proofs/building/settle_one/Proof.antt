@@ -7,13 +7,18 @@ use Rattle.automaton.proofs.building.settle_one.Tie as tie
 
 edge-requires : tie.Need-edge-requires
 edge-requires c κs =
-    let k = cell-small (c .before .before .before .before .before .before .before .before .before .args .rows .now) (c .before .before .before .before .before .before .before .before .before .args .stamp) (c .before .before .before .before .state .result) in
-    let l : c .before .before .before .before .state .result < 256 = omega (arith, c .before .before .before .before .state .ensures, c .before .before .before .before .before .spot .ensures, c .before .before .before .before .before .before .before .before .before .pre .2) in
+    let k′ = c .before .before .before .before in
+    let k₁ = k′ .before .before .before .before .before in
+    let k = cell-small (k₁ .args .rows .now) (k₁ .args .stamp) (k′ .state .result) in
+    let l : k′ .state .result < 256 = omega (arith, k′ .state .ensures, k′ .before .spot .ensures, k₁ .pre .2) in
     (omega (arith, c .before .next .ensures), omega (arith, c .spot-of .ensures))
 
 returns : tie.Need-returns
 returns c =
-    rw (c .edge .ensures, c .before .before .before .before .low .ensures, c .before .before .before .high .ensures, c .before .before .next .ensures, c .before .spot-of .ensures, c .before .before .before .before .before .state .ensures, c .before .before .before .before .before .before .spot .ensures)
+    let k = c .before .before .before in
+    let k₁ = k .before .before in
+    rw (c .edge .ensures, k .before .low .ensures, k .high .ensures, c .before .before .next .ensures, c .before .spot-of .ensures,
+        k₁ .state .ensures, k₁ .before .spot .ensures)
 
 pub settle-one-spec : {M : Type 1} → statement M
 settle-one-spec =

@@ -16,7 +16,8 @@ Inv-loop table head low high first last h₀ h = Along table head h (any (shares
 abbrev μ-loop : tie.MeasureT-loop
 μ-loop table head low high first last h₀ h = h
 
-inside : (c : tie.In-loop Inv-loop μ-loop) → At (now (c .before .before .before .args .table)) (c .before .before .before .pre .first) (c .before .loop .h)
+inside : (c : tie.In-loop Inv-loop μ-loop) → At (now (c .before .before .before .args .table)) (c .before .before .before .pre .first)
+    (c .before .loop .h)
 inside c = along-at (c .before .loop .inv) (c .before .before .before .pre) (omega arith)
 
 loop-holds : tie.Need-loop-holds Inv-loop μ-loop
@@ -30,18 +31,24 @@ shared-slice-read-e c = inside (c .before) .link .edge .room
 
 returns : tie.Need-returns Inv-loop μ-loop
 returns c =
-    along-hit (c .before .before .before .before .before .before .loop .inv) (omega arith)
-    (λ t us l. share-hit _ _ us l (omega (arith, c .before .before .if1 .taken, c .before .before .before .high .ensures)) (omega (arith, c .if2 .taken, c .before .low .ensures)))
+    let k = c .before .before .before in
+    let k₁ = k .before .before .before in
+    along-hit (k₁ .loop .inv) (omega arith)
+    (λ t us l. share-hit _ _ us l (omega (arith, c .before .before .if1 .taken, k .high .ensures))
+        (omega (arith, c .if2 .taken, c .before .low .ensures)))
 
 loop-less : tie.Need-loop-less Inv-loop μ-loop
 loop-less c = rw (c .next .ensures) (inside (c .before .before .before .before) .link .back)
 
 loop-again : tie.Need-loop-again Inv-loop μ-loop
 loop-again c =
-    let m = ⊎-elim {C = (highOf (edgeAt (now (c .before .before .before .before .before .before .before .args .table)) (c .before .before .before .before .before .loop .h)) < c .before .before .before .before .before .before .before .args .low) ⊎ (c .before .before .before .before .before .before .before .args .high < lowOf (edgeAt (now (c .before .before .before .before .before .before .before .args .table)) (c .before .before .before .before .before .loop .h)))}
+    let k = c .before .before .before .before .before in
+    let k₁ = k .before .before in
+    let m = ⊎-elim {C = (highOf (edgeAt (now (k₁ .args .table)) (k .loop .h)) < k₁ .args .low) ⊎
+        (k₁ .args .high < lowOf (edgeAt (now (k₁ .args .table)) (k .loop .h)))}
     (λ w. inr (omega (arith, w .2 .left, w .1 .ensures))) (λ w. inl (omega (arith, w .left, c .before .before .high .ensures)))
     (c .before .if1 .came) in
-    along-next (c .before .before .before .before .before .loop .inv) (omega arith) (λ t us l. share-miss _ _ us l m) (c .next .ensures)
+    along-next (k .loop .inv) (omega arith) (λ t us l. share-miss _ _ us l m) (c .next .ensures)
 
 returns-2 : tie.Need-returns-2 Inv-loop μ-loop
 returns-2 c = along-end (c .before .loop .inv) (c .loop-test .left) refl

@@ -1,5 +1,4 @@
 use mathlib.Core.Path.{sym, _∙_}
-use Prim.Native.Nat.{_<_}
 use native.Mathlib.Omega.{arith}
 use borrow.Author.Needs.{needs}
 use denote.Ref.{now}
@@ -13,7 +12,8 @@ Inv-loop table head byte h₀ h = Finding table head byte h
 abbrev μ-loop : tie.MeasureT-loop
 μ-loop table head byte h₀ h = h
 
-inside : (c : tie.In-loop Inv-loop μ-loop) → At (now (c .before .before .before .args .table)) (c .before .before .before .pre .first) (c .before .loop .h)
+inside : (c : tie.In-loop Inv-loop μ-loop) → At (now (c .before .before .before .args .table)) (c .before .before .before .pre .first)
+    (c .before .loop .h)
 inside c = finding-at (c .before .loop .inv) (c .before .before .before .pre) (omega arith)
 
 loop-holds : tie.Need-loop-holds Inv-loop μ-loop
@@ -33,7 +33,8 @@ loop-less c = rw (c .next .ensures) (inside (c .before .before .before .before) 
 
 loop-again : tie.Need-loop-again Inv-loop μ-loop
 loop-again c =
-    finding-next (c .before .before .before .before .before .loop .inv) (omega arith) (sym (c .before .before .covers .ensures) ∙ c .before .if1 .left) (c .next .ensures)
+    let k = c .before .before .before .before .before in
+    finding-next (k .loop .inv) (omega arith) (sym (c .before .before .covers .ensures) ∙ c .before .if1 .left) (c .next .ensures)
     (rw (c .next .ensures) (inside (c .before .before .before .before) .link .back))
 
 returns-2 : tie.Need-returns-2 Inv-loop μ-loop

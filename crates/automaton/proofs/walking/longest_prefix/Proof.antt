@@ -18,17 +18,39 @@ abbrev μ-loop : tie.MeasureT-loop
 μ-loop table rule text error spot₀ best₀ i₀ spot best i = length text - i
 
 -- the chain of the spot
-chained : (c : tie.In-loop Inv-loop μ-loop) → Chained (now (c .before .before .before .before .before .before .args .table)) (headOf (c .before .loop .spot))
+chained : (c : tie.In-loop Inv-loop μ-loop) → Chained (now (c .before .before .before .before .before .before .args .table))
+    (headOf (c .before .loop .spot))
 chained c =
-    let w = c .before .loop .inv (c .before .before .before .before .before .before .pre .rule) (c .before .before .before .before .before .before .pre .table) in
-    record { first = firstOf (bodyAt (now (c .before .before .before .before .before .before .args .table)) (c .before .before .before .before .before .before .args .rule)); transitions = leaving _ (c .before .before .before .before .before .before .pre .rule .transitions); chain = w .spot .chain }
+    let k = c .before .before .before .before .before .before in
+    let w = c .before .loop .inv (k .pre .rule) (k .pre .table) in
+    record {
+      first = firstOf (bodyAt (now (k .args .table)) (k .args .rule));
+      transitions = leaving _ (k .pre .rule .transitions);
+      chain = w .spot .chain;
+    }
 
-found : (c : tie.After-find Inv-loop μ-loop) (first : ℕ) (ts : List Transition) → Chain (now (c .before .before .before .before .before .before .before .before .before .args .table)) first (headOf (c .before .before .before .before .loop .spot)) ts
-    → Finds (now (c .before .before .before .before .before .before .before .before .before .args .table)) first (headOf (c .before .before .before .before .loop .spot)) ts (getD (now (c .before .before .before .before .before .before .before .before .before .args .text)) (c .before .before .before .before .loop .i) 0) (c .find .result)
+abbrev Loop : Type 0
+Loop = tie.At-loop Inv-loop μ-loop
+
+abbrev turn : tie.After-find Inv-loop μ-loop → Loop
+turn c = c .before .before .before .before
+
+abbrev entry : Loop → tie.Start Inv-loop μ-loop
+entry c = c .before .before .before .before .before
+
+found : (c : tie.After-find Inv-loop μ-loop) (first : ℕ) (ts : List Transition)
+    → Chain (now (entry (turn c) .args .table)) first (headOf (turn c .loop .spot)) ts
+    → Finds (now (entry (turn c) .args .table)) first (headOf (turn c .loop .spot)) ts
+    (getD (now (entry (turn c) .args .text)) (turn c .loop .i) 0) (c .find .result)
 found c first ts k = rw (← (c .before .before .head .ensures)) (c .find .ensures first ts (rw (c .before .before .head .ensures) k))
 
-below : (c : tie.Else1 Inv-loop μ-loop) → c .before .find .result < endOf (bodyAt (now (c .before .before .before .before .before .before .before .before .before .before .args .table)) (c .before .before .before .before .before .before .before .before .before .before .args .rule))
-below c = link-below (c .before .before .before .before .before .before .before .before .before .before .pre .table) (c .before .before .before .before .before .loop .inv (c .before .before .before .before .before .before .before .before .before .before .pre .rule) (c .before .before .before .before .before .before .before .before .before .before .pre .table)) (c .before .before .before .before .loop-test .taken) (found (c .before)) (c .if1 .left)
+below : (c : tie.Else1 Inv-loop μ-loop)
+    → c .before .find .result < endOf (bodyAt (now (entry (turn (c .before)) .args .table)) (entry (turn (c .before)) .args .rule))
+below c =
+    let k = c .before .before .before .before in
+    let k₁ = k .before .before .before .before .before .before in
+    link-below (k₁ .pre .table) (k .before .loop .inv (k₁ .pre .rule) (k₁ .pre .table)) (k .loop-test .taken) (found (c .before))
+        (c .if1 .left)
 
 error-of-requires : tie.Need-error-of-requires Inv-loop μ-loop
 error-of-requires c κs = c .before .before .pre
@@ -46,18 +68,27 @@ find-requires : tie.Need-find-requires Inv-loop μ-loop
 find-requires c κs = rw (c .before .head .ensures) (chained (c .before .before))
 
 returns : tie.Need-returns Inv-loop μ-loop
-returns c = λ m t. walk-nothing t (c .before .before .before .before .before .loop .inv m t) (c .before .before .before .before .loop-test .taken) (found (c .before)) (c .if1 .taken)
+returns c = λ m t.
+    let k = c .before .before .before .before in
+    walk-nothing t (k .before .loop .inv m t) (k .loop-test .taken) (found (c .before)) (c .if1 .taken)
 
 mul-spot : tie.Need-mul-spot Inv-loop μ-loop
-mul-spot c = omega (arith, below c, c .before .before .before .before .before .before .before .before .before .before .pre .table .body .room, c .before .before .before .before .before .before .before .before .before .before .good .0 .1)
+mul-spot c =
+    let k = c .before .before .before .before .before .before .before .before .before .before in
+    omega (arith, below c, k .pre .table .body .room, k .good .0 .1)
 
 shared-slice-read-spot : tie.Need-shared-slice-read-spot Inv-loop μ-loop
-shared-slice-read-spot c = omega (arith, below (c .before), c .before .before .before .before .before .before .before .before .before .before .before .pre .table .body .room)
+shared-slice-read-spot c =
+    let k = c .before .before .before .before .before .before .before .before .before .before .before in
+    omega (arith, below (c .before), k .pre .table .body .room)
 
 returns-2 : tie.Need-returns-2 Inv-loop μ-loop
 returns-2 c = λ m t.
-    walk-error t (c .before .before .before .before .before .before .before .before .before .loop .inv m t) (c .before .before .before .before .before .before .before .before .loop-test .taken) (found (c .before .before .before .before .before)) (c .before .before .before .before .if1 .left)
-    (ap stateOf (sym (c .before .before .spot .ensures)) ∙ sym (c .before .state .ensures) ∙ c .if2 .taken ∙ c .before .before .before .before .before .before .before .before .before .before .before .error-of .ensures m t)
+    let k = c .before .before .before .before in
+    let k₁ = k .before .before .before .before in
+    let k₂ = k₁ .before .before .before in
+    walk-error t (k₁ .before .loop .inv m t) (k₁ .loop-test .taken) (found (k .before)) (k .if1 .left)
+    (ap stateOf (sym (c .before .before .spot .ensures)) ∙ sym (c .before .state .ensures) ∙ c .if2 .taken ∙ k₂ .error-of .ensures m t)
 
 add-i : tie.Need-add-i Inv-loop μ-loop
 add-i c = omega (arith, c .before .before .before .before .before .before .before .before .loop-test .taken)
@@ -67,16 +98,22 @@ loop-less c = omega (arith, c .before .before .before .before .before .before .b
 
 loop-again : tie.Need-loop-again Inv-loop μ-loop
 loop-again c = λ m t.
-    rw (c .before .before .before .before .spot .ensures) (walk-final t (c .before .before .before .before .before .before .before .before .before .before .before .loop .inv m t) (c .before .before .before .before .before .before .before .before .before .before .loop-test .taken) (found (c .before .before .before .before .before .before .before)) (c .before .before .before .before .before .before .if1 .left)
-    (ap isFinal (sym (c .before .before .before .before .spot .ensures)) ∙ sym (c .before .is-final .ensures) ∙ c .if3 .taken))
+    let k = c .before .before .before .before in
+    let k₁ = k .before .before in
+    let k₂ = k₁ .before .before .before .before in
+    rw (k .spot .ensures) (walk-final t (k₂ .before .loop .inv m t) (k₂ .loop-test .taken) (found (k₁ .before)) (k₁ .if1 .left)
+    (ap isFinal (sym (k .spot .ensures)) ∙ sym (c .before .is-final .ensures) ∙ c .if3 .taken))
 
 loop-less-2 : tie.Need-loop-less-2 Inv-loop μ-loop
 loop-less-2 c = omega (arith, c .before .before .before .before .before .before .before .before .before .before .loop-test .taken)
 
 loop-again-2 : tie.Need-loop-again-2 Inv-loop μ-loop
 loop-again-2 c = λ m t.
-    rw (c .before .before .before .before .spot .ensures) (walk-other t (c .before .before .before .before .before .before .before .before .before .before .before .loop .inv m t) (c .before .before .before .before .before .before .before .before .before .before .loop-test .taken) (found (c .before .before .before .before .before .before .before)) (c .before .before .before .before .before .before .if1 .left)
-    (ap isFinal (sym (c .before .before .before .before .spot .ensures)) ∙ sym (c .before .is-final .ensures) ∙ c .if3 .left))
+    let k = c .before .before .before .before in
+    let k₁ = k .before .before in
+    let k₂ = k₁ .before .before .before .before in
+    rw (k .spot .ensures) (walk-other t (k₂ .before .loop .inv m t) (k₂ .loop-test .taken) (found (k₁ .before)) (k₁ .if1 .left)
+    (ap isFinal (sym (k .spot .ensures)) ∙ sym (c .before .is-final .ensures) ∙ c .if3 .left))
 
 returns-3 : tie.Need-returns-3 Inv-loop μ-loop
 returns-3 c = λ m t. walk-end t (c .before .loop .inv m t) (c .loop-test .left)

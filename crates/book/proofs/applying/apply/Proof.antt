@@ -9,18 +9,26 @@ open-rule-requires : tie.Need-open-rule-requires
 open-rule-requires c κs = outside-held (c .before .before .before .before .before .before .pre .0)
 
 add-final-requires : tie.Need-add-final-requires
-add-final-requires c κs = let r = inside-room (c .before .before .before .before .before .before .pre .0) (c .before .before .before .before .before .before .pre .1 .0) (c .before .before .command4 .given .1) refl in (r .few, r .cells)
+add-final-requires c κs =
+    let k = c .before .before .before .before .before .before in
+    let r = inside-room (k .pre .0) (k .pre .1 .0) (c .before .before .command4 .given .1) refl in (r .few, r .cells)
 
 add-transition-requires : tie.Need-add-transition-requires
 add-transition-requires c κs =
-    (inside-room (c .before .before .before .before .before .before .before .pre .0) (c .before .before .before .before .before .before .before .pre .1 .0) (c .before .before .before .command5 .given .1) refl, (c .before .before .before .before .before .before .before .pre .1 .1, c .before .before .before .before .before .before .before .pre .1 .2))
+    let k = c .before .before .before in
+    let k₁ = k .before .before .before .before in
+    (inside-room (k₁ .pre .0) (k₁ .pre .1 .0) (k .command5 .given .1) refl, (k₁ .pre .1 .1, k₁ .pre .1 .2))
 
 add-transition-requires-2 : tie.Need-add-transition-requires-2
 add-transition-requires-2 c κs =
-    (inside-room (c .before .before .before .before .before .before .before .pre .0) (c .before .before .before .before .before .before .before .pre .1 .0) (c .before .before .before .command6 .given .1) refl, (c .before .before .before .before .before .before .before .pre .1 .1, c .before .before .before .before .before .before .before .pre .1 .2))
+    let k = c .before .before .before in
+    let k₁ = k .before .before .before .before in
+    (inside-room (k₁ .pre .0) (k₁ .pre .1 .0) (k .command6 .given .1) refl, (k₁ .pre .1 .1, k₁ .pre .1 .2))
 
 close-requires : tie.Need-close-requires
-close-requires c κs = inside-room (c .before .before .before .before .before .before .pre .0) (c .before .before .before .before .before .before .pre .1 .0) (c .before .before .enum-told .given .1) refl
+close-requires c κs =
+    let k = c .before .before .before .before .before .before in
+    inside-room (k .pre .0) (k .pre .1 .0) (c .before .before .enum-told .given .1) refl
 
 returns : tie.Need-returns
 returns c = rw (c .before .before .before .command .given .1) (λ d h i. c .open-rule .ensures _ _ d h i)
@@ -32,15 +40,23 @@ returns-3 : tie.Need-returns-3
 returns-3 c = rw (c .before .before .command3 .given .1) (λ d h i. c .set-error .ensures _ _ _ d h i)
 
 returns-4 : tie.Need-returns-4
-returns-4 c = rw (c .before .before .before .before .before .command4 .given .1) (λ d h i. c .before .before .add-final .ensures _ _ _ d h i)
+returns-4 c =
+    let k = c .before .before .before .before .before in
+    rw (k .command4 .given .1) (λ d h i. c .before .before .add-final .ensures _ _ _ d h i)
 
 returns-5 : tie.Need-returns-5
 unfolding apply
-returns-5 c = rw (c .before .before .before .before .before .before .before .before .command5 .given .1) (λ d h i. c .before .before .before .before .add-transition .ensures d h i)
+returns-5 c =
+    let k = c .before .before .before .before in
+    let k₁ = k .before .before .before .before in
+    rw (k₁ .command5 .given .1) (λ d h i. k .add-transition .ensures d h i)
 
 returns-6 : tie.Need-returns-6
 unfolding apply
-returns-6 c = rw (c .before .before .before .before .before .before .before .before .command6 .given .1) (λ d h i. c .before .before .before .before .add-transition2 .ensures d h i)
+returns-6 c =
+    let k = c .before .before .before .before in
+    let k₁ = k .before .before .before .before in
+    rw (k₁ .command6 .given .1) (λ d h i. k .add-transition2 .ensures d h i)
 
 returns-7 : tie.Need-returns-7
 returns-7 c = rw (c .before .before .before .before .before .enum-told .given .1) (λ d h i. c .before .before .close .ensures _ d h i)

@@ -1,4 +1,3 @@
-use mathlib.Core.Path.{_∙_, refl}
 use native.Mathlib.Omega.{arith}
 use borrow.Author.Needs.{needs}
 use Rattle.automaton.proofs.Built.{spot-small}
@@ -7,15 +6,23 @@ use Rattle.book.proofs.closing.store_rule.Tie as tie
 
 put-body-requires : tie.Need-put-body-requires
 put-body-requires c κs =
-    let l = spot-small (c .before .before .before .before .before .before .before .before .before .before .before .before .before .before .args .rows .now) (c .before .before .before .before .before .before .before .before .before .before .before .stamp .result) (c .before .before .before .before .before .before .before .before .before .before .before .before .before .before .args .book .start) (omega (arith, c .before .before .before .before .before .before .before .before .before .before .struct-known .given)) in
-    (search needs, (rw (c .before .before .before .before .before .before .before .before .before .spot-of .ensures) l, omega (arith, c .before .before .before .before .before .before .before .before .before .before .before .before .before .before .pre .order, c .before .before .before .before .before .before .before .before .before .before .before .before .before .before .pre .short), c .before .before .before .before .before .before .before .before .before .before .before .before .before .before .pre .short))
+    let k = c .before .before .before .before .before .before .before .before .before in
+    let k₁ = k .before .before in
+    let k₂ = k₁ .before .before .before in
+    let l = spot-small (k₂ .args .rows .now) (k₁ .stamp .result) (k₂ .args .book .start) (omega (arith, k .before .struct-known .given)) in
+    (search needs, (rw (k .spot-of .ensures) l, omega (arith, k₂ .pre .order, k₂ .pre .short), k₂ .pre .short))
 
 returns : tie.Need-returns
 returns c =
+    let k = c .before .before .before .before .before .before in
+    let k₁ = k .before .before .before .before in
+    let k₂ = k₁ .before .before .before .before in
+    let k₃ = k₂ .before .before in
     record {
-      middle = c .before .before .before .before .before .before .before .before .before .before .before .before .before .before .settle .last .0;
-      settles = rw (← (c .before .before .before .before .before .before .before .before .before .before .before .before .before .before .before .before .before .before .stamp .ensures)) (c .before .before .before .before .before .before .before .before .before .before .before .before .before .before .settle .ensures);
-      stored = rw (c .before .before .put-count .ensures, c .before .before .before .before .before .before .put-body .ensures, c .before .before .before .before .before .before .before .before .before .before .put-name .ensures, c .before .before .before .before .before .before .before .before .before .before .before .before .before .before .before .before .spot-of .ensures, c .before .before .before .before .before .before .before .before .before .before .before .before .before .before .before .before .before .before .stamp .ensures);
+      middle = k₂ .settle .last .0;
+      settles = rw (← (k₃ .before .before .stamp .ensures)) (k₂ .settle .ensures);
+      stored = rw (c .before .before .put-count .ensures, k .put-body .ensures, k₁ .put-name .ensures, k₃ .spot-of .ensures,
+          k₃ .before .before .stamp .ensures);
     }
 
 pub store-rule-spec : {M : Type 1} → statement M
