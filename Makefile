@@ -3,7 +3,7 @@
 #   make               build/libzagvulem.a, build/cutlist and build/player
 #   make example       runs the player on the sample sheet
 #   make harness       compares the library with a second implementation (CASES=n SEED=n)
-#   make bench         measures it (installs flex where it is missing)
+#   make bench         measures it (installs flex where it is missing; OLD=FILE measures an earlier library beside it)
 #   make check         the gate: proves every crate from nothing
 #   make install       header, library and zagvulem.pc (PREFIX, DESTDIR)
 #
@@ -18,6 +18,7 @@ RUSTC ?= rustc
 RUSTFLAGS ?= -O --edition 2021 -C debug-assertions=on
 CASES ?= 20000
 SEED ?= 1
+OLD ?=
 
 WARNINGS = -std=c99 -Wall -Wextra -Werror -pedantic
 RATTLE = crates.txt $(shell find crates -name '*.rt' -o -name '*.antt')
@@ -53,7 +54,7 @@ harness: build/harness
 	build/harness --cases $(CASES) --seed $(SEED)
 
 bench: build/libzagvulem.a
-	CC="$(CC)" bench/run.sh
+	CC="$(CC)" OLD="$(OLD)" bench/run.sh
 
 check:
 	.ci/run

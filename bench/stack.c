@@ -57,25 +57,27 @@ static void *print_separated(void *unused)
     return unused;
 }
 
-/* A book that is not small: one plain rule more, which takes letters, in place of END. */
+/* A book that needs the largest table: in place of END, seven plain rules more, which take letters. */
 static void enlarge(void)
 {
-    static const uint8_t head[] = {1, 0, 99, 0, 2, 0, 3, 255, 4, 1}, tail[] = {7, 8};
-    unsigned state, letter;
+    unsigned rule, state, letter;
     book_len--;
-    memcpy(book + book_len, head, sizeof head);
-    book_len += sizeof head;
-    for (state = 0; state < 20; state++)
-        for (letter = 'a'; letter <= 'y'; letter++) {
-            uint8_t *span = book + book_len;
-            span[0] = 6;
-            span[1] = (uint8_t)(state < 1 ? 0 : state + 1);
-            span[2] = span[3] = (uint8_t)letter;
-            span[4] = 1;
-            book_len += 5;
-        }
-    memcpy(book + book_len, tail, sizeof tail);
-    book_len += sizeof tail;
+    for (rule = 0; rule < 7; rule++) {
+        const uint8_t head[] = {1, 0, (uint8_t)(90 + rule), 0, 2, 0, 3, 255, 4, 1};
+        memcpy(book + book_len, head, sizeof head);
+        book_len += sizeof head;
+        for (state = 0; state < 20; state++)
+            for (letter = 'a'; letter <= 'y'; letter++) {
+                uint8_t *span = book + book_len;
+                span[0] = 6;
+                span[1] = (uint8_t)(state < 1 ? 0 : state + 1);
+                span[2] = span[3] = (uint8_t)letter;
+                span[4] = 1;
+                book_len += 5;
+            }
+        book[book_len++] = 7;
+    }
+    book[book_len++] = 8;
 }
 
 static size_t depth(void *(*call)(void *))

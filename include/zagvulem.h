@@ -47,12 +47,14 @@
  *
  * STACK
  *
- * The tables of a book and the scratch of a printer are local to the call. Bytes
+ * The table of a book and the scratch of a printer are local to the call. Bytes
  * of stack, as bench/stack.c measures them on x86-64:
  *
- *    zgv_lex_builtin()                      under 1 KiB
- *    zgv_read_book(), zgv_lex()             82,500
- *    zgv_print(), zgv_print_separated()     151,100
+ *    zgv_lex_builtin()                          under 1 KiB
+ *    zgv_lex(), a book of up to 8,192 bytes     18,500
+ *    zgv_lex(), a longer book                   84,700
+ *    zgv_read_book()                            67,400
+ *    zgv_print(), zgv_print_separated()         134,400
  */
 #ifndef ZAGVULEM_H
 #define ZAGVULEM_H

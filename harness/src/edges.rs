@@ -19,6 +19,37 @@ fn wide(tag: u16, count: usize) -> Rule {
     Rule { tag, kind: 0, start: 0, error: 255, finals: vec![1], moves }
 }
 
+/// A book of just so many bytes, with as many moves as they can hold: the rule for "a", then rules of moves alone.
+fn crowded(length: usize) -> Vec<u8> {
+    let mut bytes = book(vec![letter(1, 0, b'a', true)]).bytes();
+    bytes.pop();
+    let mut tag = 1;
+    while bytes.len() + 1 < length {
+        // RULE, START, ERROR and CLOSE take nine bytes, a STEP four; what is left over is no less than nine again, or nothing
+        let left = length - 1 - bytes.len() - 9;
+        let mut moves = (left / 4).min(512);
+        if moves == 512 && left > 4 * 512 && left < 4 * 512 + 13 {
+            moves -= 4;
+        }
+        let last = left - 4 * moves < 9;
+        let spare = if last { left - 4 * moves } else { 0 };
+        tag += 1;
+        bytes.extend([paper::RULE, 0, tag, 0, paper::START, 0, paper::ERROR, 255]);
+        for i in 0..moves {
+            let (from, byte, to) = ((i / 256) as u8, i as u8, (i / 256 + 1) as u8);
+            if i < spare {
+                bytes.extend([paper::SPAN, from, byte, byte, to]);
+            } else {
+                bytes.extend([paper::STEP, from, byte, to]);
+            }
+        }
+        bytes.push(paper::CLOSE);
+    }
+    bytes.push(paper::END);
+    assert_eq!(bytes.len(), length);
+    bytes
+}
+
 fn book(rules: Vec<Rule>) -> Book {
     Book { rules }
 }
@@ -71,6 +102,12 @@ fn books(add: Add) {
         filled.extend(&a[10..]);
         filled.resize(length, 0);
         add(&format!("a book of {length} bytes"), Call::read_book(&filled));
+    }
+    // the sizes of books at which a larger table is used
+    for size in [1_024, 2_048, 4_096, 8_192, 16_384, 32_768] {
+        for length in [size - 1, size, size + 1] {
+            add(&format!("moves in a book of {length} bytes"), Call::read_book(&crowded(length)));
+        }
     }
     for rules in [31, 32, 33, 34] {
         let many = book((1..=rules).map(|t| letter(t, 0, t as u8, true)).collect()).bytes();
@@ -231,7 +268,7 @@ fn prints(add: Add) {
     let once = book(vec![letter(1, 0, b'a', true)]).bytes();
     let run = book(vec![letter(1, 0, b'a', false)]).bytes();
     let out = |n: usize| vec![0xEE; n];
-    for count in [65_535, 65_536, 65_537] {
+    for count in [2_047, 2_048, 2_049, 65_535, 65_536, 65_537] {
         let list = bytes_of(&vec![record(1, 0, 1); count]);
         let name = |what: &str| format!("{what}, {count} tokens");
         add(&name("writing"), Call::print(&once, list.clone(), b"a", out(count)));
@@ -243,7 +280,7 @@ fn prints(add: Add) {
         more.extend([7; 9]);
         add(&name("writing, bytes left over"), Call::print(&once, more, b"a", out(count + 9)));
     }
-    for length in [65_535, 65_536, 65_537, 70_000] {
+    for length in [2_047, 2_048, 2_049, 65_535, 65_536, 65_537, 70_000] {
         let pool = vec![b'a'; length];
         let name = |what: &str| format!("{what}, {length} bytes");
         let list = bytes_of(&[record(1, 0, length)]);
@@ -287,8 +324,10 @@ fn separated(add: Add) {
         add("the empty list", Call::print_separated(&bytes, one, mode, Vec::new(), pool, out(3)));
         add("nothing but the book", Call::print_separated(&bytes, one, mode, Vec::new(), b"", Vec::new()));
     }
-    // 65,536 bytes: 32,769 tokens of a byte with 32,768 separators are 65,537
-    for (count, sep) in [(32_768, 1), (32_769, 1), (21_845, 2), (21_846, 2), (65_536, 1), (65_537, 1)] {
+    // 65,536 bytes: 32,769 tokens of a byte with 32,768 separators are 65,537; and the same around 2,048
+    let long = [(32_768, 1), (32_769, 1), (21_845, 2), (21_846, 2), (65_536, 1), (65_537, 1)];
+    let short = [(1_023, 1), (1_024, 1), (1_025, 1), (682, 2), (683, 2), (2_047, 1), (2_048, 1), (2_049, 1)];
+    for (count, sep) in long.into_iter().chain(short) {
         for (token, mode) in [(record(1, 0, 1), 1), (record(1, 0, 1), 2), (record(3, 1, 1), 2), (record(3, 1, 1), 0)] {
             let list = bytes_of(&vec![token; count]);
             let call = Call::print_separated(&bytes, record(2, 2, sep), mode, list, pool, out(65_536));

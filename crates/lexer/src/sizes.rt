@@ -1,5 +1,5 @@
-// Lexing with a table of the size that the book needs. The sizes double, as the room that a book may need is a word for four of its
-// bytes, and each table is a local of a function of its own: a call clears, and takes of the stack, what its book needs.
+// Lexing with a table of the size that the book needs: a word for four of its bytes, and 66 beside them. The sizes double, and each table
+// is a local of a function of its own: a call clears, and takes of the stack, what its book needs (docs/DECISIONS.md, "Sizes by need").
 use answer::LexAnswer;
 use answer::Refusal;
 use book::Book;
