@@ -1,4 +1,4 @@
--- Laws of rules (`Walks`, `Used`) and of the tables that hold them (`Chains`, `Built`, `Ranking`). `Tests` takes tests apart.
+-- Laws of rules (`Walks`, `Used`) and of the table that holds them (`Chains`, `Built`, `Ranking`). `Tests` takes tests apart.
 pub mod Tests
 pub mod Chains
 pub mod Walks

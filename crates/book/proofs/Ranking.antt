@@ -1,4 +1,4 @@
--- The search for the rule of a tag. Assumes nothing.
+-- Whether a tag is taken, by the number of its rule. Assumes nothing.
 use mathlib.Core.Path.{_≡_, refl, sym}
 use mathlib.Core.Bool.{Bool, true, false}
 use mathlib.Core.List.{List, [], _∷_}
@@ -10,8 +10,6 @@ use borrow.Author.Tests.{ltb-true, ltb-false, eq-eqb}
 use Rattle.automaton.specs.Rule.{Rule}
 use Rattle.automaton.specs.Contracts.{ruleAt, Ranks}
 use Rattle.book.specs.Draft.{tagged}
-
--- ---- by the number of the tag's rule
 
 untagged : (rules : List Rule) (tag : ℕ) → ((j : ℕ) → j < length rules → eqb ((ruleAt rules j) .tag) tag ≡ false) → tagged tag rules ≡ false
 untagged [] tag h = refl

@@ -4,10 +4,8 @@ use book::Book;
 use libc::STDOUT_FILENO;
 use listing::OUTPUT_BYTES;
 use listing::RECORD_BYTES;
-ghost use mathlib.Core.Path.{_≡_};
+ghost use Prim.Native.Nat.{_≤_};
 ghost use lib.ListN.{length};
-ghost use Rattle.listing.specs.Lines.{recordBytes};
-ghost use Rattle.listing.specs.Contracts.{outputBytes};
 ghost use Rattle.io.specs.Counts.{Counts};
 
 // The files are read one byte past their limits, so that a longer one is still refused.
@@ -28,18 +26,26 @@ fn run(
     text: &mut [u8; TEXT_BYTES],
     records: &mut [u8; RECORD_BYTES],
     out: &mut [u8; OUTPUT_BYTES],
-)
-    requires { ⌜ (length (now records) ≡ recordBytes) × (length (now out) ≡ outputBytes) ⌝ }
-{
+) {
     print_cut(book, text, records, out);
 }
 
-fn print_cut(book: &mut [u8], text: &mut [u8], records: &mut [u8], out: &mut [u8])
-    requires { ⌜ (length (now records) ≡ recordBytes) × (length (now out) ≡ outputBytes) ⌝ }
-{
+fn print_cut(
+    book: &mut [u8],
+    text: &mut [u8],
+    records: &mut [u8; RECORD_BYTES],
+    out: &mut [u8; OUTPUT_BYTES],
+) {
     let b = read_file(b"book.bin", book);
     let t = read_file(b"text.bin", text);
     let n = listing::list(&book[..b], &text[..t], records, out);
+    print_front(out, n);
+}
+
+// Prints the first `n` bytes of a buffer.
+fn print_front(out: &[u8], n: usize)
+    requires { ⌜ n ≤ length (now out) ⌝ }
+{
     io::write_all(STDOUT_FILENO, &out[..n]);
 }
 

@@ -9,8 +9,8 @@ ghost use mathlib.Core.List.{_++_};
 ghost use Prim.Native.Nat.{_*_, _≤_};
 ghost use lib.ListN.{length, drop};
 ghost use Rattle.lexer.specs.Outcome.{lexOutcome};
-ghost use Rattle.listing.specs.Contracts.{Room, Puts, outputBytes, LinesFit};
-ghost use Rattle.listing.specs.Lines.{wordLine, recordLines, recordBytes, linesOf, listing};
+ghost use Rattle.listing.specs.Contracts.{Room, Puts, LinesFit};
+ghost use Rattle.listing.specs.Lines.{wordLine, recordLines, linesOf, listing};
 
 // The bytes of the 6,000 records that are lent to `list`, and of the output, which no listing passes.
 pub const RECORD_BYTES: usize = 60000;
@@ -60,8 +60,12 @@ fn put_lines(out: &mut [u8], answer: LexAnswer, records: &[u8], len: usize) -> u
 
 // Cuts `text` by the rules of a book, with the records lent, and writes the lines of the outcome from the start of `out`;
 // answers how many bytes they are.
-pub fn list(book: &[u8], text: &[u8], records: &mut [u8], out: &mut [u8]) -> usize
-    requires { ⌜ (length (now records) ≡ recordBytes) × (length (now out) ≡ outputBytes) ⌝ }
+pub fn list(
+    book: &[u8],
+    text: &[u8],
+    records: &mut [u8; RECORD_BYTES],
+    out: &mut [u8; OUTPUT_BYTES],
+) -> usize
     ensures { λ r. ⌜ r ≡ length (listing (now (book .entry)) (now (text .entry)) (now (records .entry))) ⌝ }
     ensures { λ r. ⌜ now (records .exit) ≡ (lexOutcome (now (book .entry)) (now (text .entry)) (now (records .entry))) .records ⌝ }
     ensures { λ r. ⌜ now (out .exit)

@@ -1,3 +1,3 @@
--- `Reading`: what reading a book comes to; `Contracts`: what it leaves in the tables.
+-- `Reading`: what reading a book comes to; `Contracts`: what it leaves in the table.
 pub mod Reading
 pub mod Contracts
