@@ -25,11 +25,7 @@ edgeStart = 65
 
 -- ---- Words.
 
--- a spot, and its parts
--- of a state of which nothing is known yet but its number
-abbrev pub bareSpot : ℕ → ℕ
-bareSpot state = state * 131072
-
+-- the parts of a spot
 abbrev pub stateOf : ℕ → ℕ
 stateOf p = p / 131072
 
@@ -38,6 +34,10 @@ headOf p = p / 2 % 65536
 
 abbrev pub isFinal : ℕ → Bool
 isFinal p = eqb (p % 2) 1
+
+-- the spot of a state of which nothing is known yet but its number
+abbrev pub bareSpot : ℕ → ℕ
+bareSpot state = state * 131072
 
 -- the word of a transition, and its parts; the state that it leaves is that of its chain
 abbrev pub edgeWord : ℕ → ℕ → ℕ → ℕ → ℕ

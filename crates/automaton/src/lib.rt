@@ -11,9 +11,7 @@ ghost use lib.ListN.{length};
 ghost use Rattle.automaton.specs.Rule.{Rule};
 ghost use Rattle.automaton.specs.Contracts.{firstOf, endOf, startOf, bodyAt, Table, Tabled, Holds, Held, Ranks};
 
-// Rules that a table has room for, and the place of the first transition.
-pub const RULES: usize = 32;
-
+// The place of the first transition: a table has room for the words of 32 rules before it.
 pub const EDGE_START: usize = 65;
 
 // The states of a rule are below this.
