@@ -1,6 +1,6 @@
 -- Used bytes: a rule that matches a text uses each of its bytes, and what it uses are bytes.
 -- And transitions that meet share a byte. Assumes nothing.
-use mathlib.Core.Path.{_≡_, refl}
+use mathlib.Core.Path.{_≡_, refl, ap, _∙_}
 use mathlib.Core.Bool.{Bool, true, false, not, _&&_, _||_}
 use mathlib.Core.List.{List, [], _∷_}
 use Prim.Native.Nat.{ℕ, _≤_, _<_}
@@ -33,6 +33,11 @@ walk-stays : {n : ℕ} (r : Rule) → Sound n r → (w : List ℕ) → walk r r.
 unfolding walk
 walk-stays r h [] = refl
 walk-stays r h (b ∷ w) = rw (target-stays r.error b r.transitions (h .stays)) (walk-stays r h w)
+
+-- so a rule whose start is its error state matches nothing
+pub start-in-error : {n : ℕ} (r : Rule) → Sound n r → r.start ≡ r.error → (w : List ℕ) → matches r w ≡ false
+unfolding matches
+start-in-error r h e w = ap (λ (s : ℕ). among (walk r s w) r.finals) e ∙ rw (walk-stays r h w) (h .fails)
 
 walk-uses : {n : ℕ} (r : Rule) → Sound n r → (s : ℕ) (w : List ℕ) → among (walk r s w) r.finals ≡ true
     → All (λ (b : ℕ). used r b ≡ true) w

@@ -53,7 +53,8 @@ longest r text = longestWithin r text (length text)
 
 -- ---- used bytes
 
--- The paper's used byte of a rule: some transition covers it on its way to a state other than the error state.
+-- The bytes that a rule uses (document 01, 'Used bytes and separators', sentence 1): those of the transitions that do not lead to the error
+-- state.
 unfoldable pub used : Rule → ℕ → Bool
 used r b = any (λ (t : Transition). covers t b && not (eqb t.to r.error)) r.transitions
 

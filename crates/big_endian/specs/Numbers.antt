@@ -1,4 +1,4 @@
--- Numbers of two and of four bytes: "high byte first".
+-- Numbers of two and of four bytes, the high byte first (document 01, 'The book', sentence 2, and 'Tokens', sentence 5).
 use mathlib.Core.List.{List, [], _∷_}
 use Prim.Native.Nat.{ℕ, _+_, _*_, _/_, _%_}
 use lib.ListN.{getD}

@@ -1,127 +1,282 @@
 -- A proof of each of the demands. Assumes nothing.
-use mathlib.Core.Path.{_≡_, refl, sym, _∙_, subst}
+use mathlib.Core.Path.{_≡_, refl, sym, ap, _∙_, subst}
 use mathlib.Core.Bool.{Bool, true, false}
-use mathlib.Core.List.{List, []}
-use Prim.Native.Nat.{ℕ, _-_, _≤_}
+use mathlib.Core.List.{List, [], _∷_}
+use Prim.Native.Nat.{ℕ, _-_, _*_, _≤_}
 use native.Mathlib.Omega.{arith}
-use lib.ListN.{length, drop}
-use Rattle.automaton.specs.Rule.{Rule}
-use Rattle.automaton.proofs.Tests.{clash}
-use Rattle.book.specs.Valid.{Valid}
+use lib.ListN.{length, take, drop}
+use lib.Seq.{take-append-seam}
+use Rattle.answer.specs.declared.LexAnswer.{LexAnswer}
+use Rattle.answer.specs.declared.PrintAnswer.{PrintAnswer}
+use borrow.Author.Tests.{leb-false}
+use lib.Dec.{leb}
+use Rattle.automaton.specs.Choice.{All, any}
+use Rattle.automaton.specs.Rule.{Rule, matches}
+use Rattle.automaton.proofs.Tests.{clash, or-false}
+use Rattle.automaton.proofs.Used.{start-in-error as error-matches-nothing}
+use Rattle.book.specs.Valid.{Valid, ValidRule}
 use Rattle.book.specs.Limits.{maxText}
 use Rattle.reader.specs.Reading.{accepted, readBook}
 use Rattle.reader.proofs.Accepted.{accepted-valid}
-use Rattle.longest_match.specs.Lexer.{Token, Lexed, lex}
+use Rattle.longest_match.specs.Lexer.{Token, Lexed, lex, join}
 use Rattle.longest_match.proofs.Lexing.{joins, rest-drop}
 use Rattle.longest_match.proofs.Cutting.{lex-nil}
+use Rattle.record.specs.Records.{recordCount}
 use Rattle.record.specs.Tokens.{tokensOf}
+use Rattle.lexer.specs.Outcome.{LexOutcome, lexOutcome}
 use Rattle.token_list.specs.Faults.{aloneIn}
+use Rattle.printer.specs.Outcome.{PrintOutcome, printAccepted, printOutcome}
 use Rattle.printer.proofs.Accepting.{written-joins, alone-tagged}
-use Rattle.printer.proofs.RoundTrip.{byte-below, same-rules, Cut, lexed-cut, cut-accepts, stored-say}
+use Rattle.printer.proofs.RoundTrip.{byte-below, same-rules, lexed-cut, cut-accepts, stored-say}
 use Rattle.printer.proofs.RoundTrip.{equal-lists, accepts-printable, output-cut, cut-printed}
-use Rattle.spacing.specs.Separators.{spelled}
+use Rattle.spacing.specs.Separators.{dropSeparators, spelled}
+use Rattle.separated.specs.Outcome.{separatedOutcome}
+use Rattle.record.specs.declared.TokenRecord.{TokenRecord}
 use Rattle.separated.proofs.RoundTrip.{spelled-rest, spelled-back, spelled-injective}
-use Rattle.demands.specs.Words.{Book, Lexes, stored, LongestMatch}
-use Rattle.demands.specs.Demands.{CutIsLongestMatch, StoredIsLongestMatch, TokensAndRestJoined, WritingJoins}
-use Rattle.demands.specs.Demands.{EqualLists, AcceptedExactly, UnknownNotAlone, OutputsAreCut, CutsArePrinted, EmptyTextIsCut}
-use Rattle.demands.specs.Demands.{SpacingAccepts, SpacingAcceptsNoOther, SpacingEqualLists, SpacingCutsBack}
+use Rattle.separated.proofs.Sides.{all-map}
+use Rattle.builtin.specs.Book.{builtinBytes, builtinRules}
+use Rattle.builtin.proofs.Accepted.{read-builtin}
+use Rattle.demands.specs.Calls.{Form, Lent, recordsIn, countIn, firstIn, pastIn, listIn, Cut, Print, Space}
+use Rattle.demands.specs.Words.{Bytes, Book, LongestMatch, Unrefused}
+use Rattle.demands.specs.Demands.{RefusedCut, PastTheTokens, RefusedPrint, RefusedSpace, PastTheBytes, PastTheSpaced}
+use Rattle.demands.specs.Demands.{StartInError, CutIsLongestMatch, StoredIsLongestMatch, CutIsAccepted, TokensAndRestJoined}
+use Rattle.demands.specs.Demands.{WritingJoins, EqualLists, AcceptedExactly, UnknownNotAlone, OutputsAreCut, CutsArePrinted}
+use Rattle.demands.specs.Demands.{EmptyTextIsCut, SpacingAccepts, SpacingAcceptsNoOther, SpacingEqualLists, SpacingCutsBack}
+use Rattle.demands.specs.Demands.{Kept, EveryBook, BuiltinBook}
 use Rattle.demands.proofs.LongestMatch.{lex-longest, longest-lex}
 use Rattle.demands.proofs.Separable.{separable-printable, printable-separable}
-use Rattle.demands.proofs.Spacing.{unrefused-passes, unrefused-spaces, spaces-unrefused}
+use Rattle.demands.proofs.Spacing.{unrefused-passes, unrefused-outcome, printed-unrefused, space-past}
+use Rattle.demands.proofs.Forms.{count-in, structs-in, list-in, first-in, past-in, typed-first, typed-past, same-in}
+use Rattle.demands.proofs.Untouched.{cut-leaves, cut-past, print-leaves, print-past, space-leaves}
+use Rattle.answer.specs.declared.LexAnswer.the-variants as lexed
+use Rattle.answer.specs.declared.PrintAnswer.the-variants as print
+use Rattle.printer.proofs.RoundTrip as trip
 
-valid : {book : List ℕ} {rules : List Rule} → Book book rules → Valid rules
-valid {book} {rules} b = accepted-valid book rules (byte-below book (b .bytes)) (b .reads)
+-- ==== demand 1
 
--- ---- demand 2
+pub refused-cut : RefusedCut
+refused-cut f book text entry exit r c =
+    same-in f exit entry (c .exit-typed) (c .entry-typed)
+    (c .leaves ∙ cut-leaves text (recordsIn f entry) book r (sym (c .answers)))
 
-pub cut-is-longest-match : CutIsLongestMatch
-cut-is-longest-match book rules b text ts rest = (
-  longest-lex rules text ts rest,
-  λ e. subst (λ (c : Lexed). LongestMatch rules text c.tokens c.rest) e (lex-longest rules (valid b .rules-valid .distinct) text),
-)
+pub past-the-tokens : PastTheTokens
+past-the-tokens f book text entry exit n place c =
+    let q = cut-past text (recordsIn f entry) (lexed-cut book text (recordsIn f entry) n place (sym (c .answers))) in
+    same-in f (pastIn f n exit) (pastIn f n entry) (typed-past f n exit (c .exit-typed)) (typed-past f n entry (c .entry-typed))
+    (sym (past-in f n exit) ∙ ap (drop (10 * n)) (c .leaves) ∙ q ∙ past-in f n entry)
 
--- the reported place is that of the rest
-rest-at : {book text room : List ℕ} {n place : ℕ} (rules : List Rule) → readBook book ≡ accepted rules → Cut book text room n place
-    → drop place text ≡ (lex rules text) .rest
-rest-at {book} {text} {room} {n} {place} rules e c =
-    let q : c .rules ≡ rules = same-rules book (c .reads) e in
-    let p : place ≡ length text - length ((lex rules text) .rest) = rw q at (c .place-is) in
-    rw p (sym (rest-drop rules text))
+pub refused-print : RefusedPrint
+refused-print f book list pool entry exit r c = c .leaves ∙ print-leaves entry (recordsIn f list) pool book r (sym (c .answers))
 
-pub stored-is-longest-match : StoredIsLongestMatch
-stored-is-longest-match book rules b text room n place e =
-    let c = lexed-cut book text room n place e in
-    let t : tokensOf (stored book text room n) text ≡ (lex rules text) .tokens = stored-say book (b .bytes) c rules (b .reads) in
-    let r : drop place text ≡ (lex rules text) .rest = rest-at rules (b .reads) c in
-    subst (λ (x : List Token). LongestMatch rules text x (drop place text)) (sym t)
-    (subst (λ (x : List ℕ). LongestMatch rules text ((lex rules text) .tokens) x) (sym r)
-    (lex-longest rules (valid b .rules-valid .distinct) text))
+pub refused-space : RefusedSpace
+refused-space book sep mode records pool entry exit r c = c .leaves ∙ space-leaves entry records pool sep mode book r (sym (c .answers))
 
-pub tokens-and-rest-joined : TokensAndRestJoined
-tokens-and-rest-joined book rules b text room n place e =
-    let c = lexed-cut book text room n place e in
-    let t : tokensOf (stored book text room n) text ≡ (lex rules text) .tokens = stored-say book (b .bytes) c rules (b .reads) in
-    let r : drop place text ≡ (lex rules text) .rest = rest-at rules (b .reads) c in
-    rw (t, r) (joins rules text)
+pub past-the-bytes : PastTheBytes
+past-the-bytes f book list pool entry exit n c = ap (drop n) (c .leaves)
+    ∙ print-past entry (recordsIn f list) pool book n (sym (c .answers))
 
-pub writing-joins : WritingJoins
-writing-joins = written-joins
+pub past-the-spaced : PastTheSpaced
+past-the-spaced book sep mode records pool entry exit n c = ap (drop n) (c .leaves)
+    ∙ space-past sep mode records pool entry book n (sym (c .answers))
 
--- ---- demand 3, the plain printer
+-- ==== demands 2 and 3
 
-pub equal-lists-equal-bytes : EqualLists
-equal-lists-equal-bytes book rules b records pool out n e records₁ pool₁ out₁ n₁ e₁ =
-    equal-lists book (b .bytes) records pool out n records₁ pool₁ out₁ n₁ e e₁
+module _ (book : List ℕ) (rules : List Rule) (b : Book book rules) where
+  valid : Valid rules
+  valid = accepted-valid book rules (byte-below book (b .bytes)) (b .reads)
 
-pub accepted-exactly : AcceptedExactly
-accepted-exactly book rules b records pool out u =
-    let h = accepts-printable book (b .bytes) rules (b .reads) records pool out (u .few) (u .inside) (u .short) (u .room) in (
-      λ q. printable-separable rules (tokensOf records pool) (valid b .rules-valid .distinct) (h .0 q),
-      λ s. h .1 (separable-printable rules (tokensOf records pool) s),
-    )
+  pub start-in-error : StartInError book rules
+  start-in-error = all-map ValidRule _ (λ r v e w. error-matches-nothing r (v .sound) e w) rules (valid .rules-valid .each)
 
-pub unknown-not-alone : UnknownNotAlone
-unknown-not-alone rules tag w e = go (aloneIn rules tag w) refl
-  where
-    go : (a : Bool) → aloneIn rules tag w ≡ a → a ≡ false
-    go false q = refl
-    go true q = clash (alone-tagged rules tag w q) e
+  -- ---- an accepted cut
 
-pub outputs-are-cut : OutputsAreCut
-outputs-are-cut book rules b records pool out n e text t room enough = output-cut book (b .bytes) records pool out n e text t room enough
+  module _ {f : Form} {text : List ℕ} {entry exit : Lent f} {n place : ℕ} (c : Cut f book text entry exit (lexed.Lexed n place)) where
+    cut : trip.Cut book text (recordsIn f entry) n place
+    cut = lexed-cut book text (recordsIn f entry) n place (sym (c .answers))
 
-pub cuts-are-printed : CutsArePrinted
-cuts-are-printed book rules b text room n e out l = cut-printed book (b .bytes) text room out n e l
+    -- what it stores, as records and as a list
+    stored-in : take (10 * n) ((lexOutcome book text (recordsIn f entry)) .records) ≡ recordsIn f (firstIn f n exit)
+    stored-in = ap (take (10 * n)) (sym (c .leaves)) ∙ first-in f n exit
 
-pub empty-text-is-cut : EmptyTextIsCut
-empty-text-is-cut book rules b room =
-    let z = lex-nil rules in
-    let o = cut-accepts book [] room rules (b .reads) (omega arith) (rw z (omega arith)) in
-    rw (o, z)
+    stored-list : tokensOf (take (10 * n) ((lexOutcome book text (recordsIn f entry)) .records)) text ≡ listIn f (firstIn f n exit) text
+    stored-list =
+        ap (λ (x : List ℕ). tokensOf x text) stored-in ∙ list-in f (firstIn f n exit) (typed-first f n exit (c .exit-typed)) text
 
--- ---- demand 3, the spacing printer
+    tokens-are : listIn f (firstIn f n exit) text ≡ (lex rules text) .tokens
+    tokens-are = sym stored-list ∙ stored-say book (b .bytes) cut rules (b .reads)
 
-pub spacing-accepts : SpacingAccepts
-spacing-accepts book rules b = unrefused-spaces book rules (b .reads)
+    -- the reported place is that of the rest
+    rest-at : drop place text ≡ (lex rules text) .rest
+    rest-at =
+        let q : cut .rules ≡ rules = same-rules book (cut .reads) (b .reads) in
+        let p : place ≡ length text - length ((lex rules text) .rest) = rw q at (cut .place-is) in
+        rw p (sym (rest-drop rules text))
 
-pub spacing-accepts-no-other : SpacingAcceptsNoOther
-spacing-accepts-no-other book rules b = spaces-unrefused book rules (b .reads)
+  -- a cut that is not too long, with records enough
+  accepts : {f : Form} {text : List ℕ} {entry exit : Lent f} {r : LexAnswer} → Cut f book text entry exit r
+      → length text ≤ maxText → length ((lex rules text) .tokens) ≤ countIn f entry
+      → r ≡ lexed.Lexed (length ((lex rules text) .tokens)) (length text - length ((lex rules text) .rest))
+  accepts {f} {text} {entry} {exit} {r} c short enough =
+      let e : length ((lex rules text) .tokens) ≤ recordCount (recordsIn f entry) = rw (count-in f entry) enough in
+      c .answers ∙ ap (λ (o : LexOutcome). o.answer) (cut-accepts book text (recordsIn f entry) rules (b .reads) short e)
 
-pub spacing-equal-lists : SpacingEqualLists
-spacing-equal-lists book rules b mode sep records pool out n e sep₁ records₁ pool₁ out₁ n₁ e₁ same =
-    let x = spaces-unrefused book rules (b .reads) sep mode records pool out n e in
-    let y = spaces-unrefused book rules (b .reads) sep₁ mode records₁ pool₁ out₁ n₁ e₁ in
-    rw (x .1, y .1) (spelled-injective (valid b .rules-valid) (unrefused-passes (x .0)) (unrefused-passes (y .0)) same)
+  -- ---- demand 2
 
-pub spacing-cuts-back : SpacingCutsBack
-spacing-cuts-back book rules b sep mode records pool out n e text t room enough =
-    let x = spaces-unrefused book rules (b .reads) sep mode records pool out n e in
-    let w : text ≡ spelled rules sep mode records pool = sym t ∙ x .1 in
-    let p = unrefused-passes (x .0) in
-    let short : length text ≤ maxText = rw w (x .0 .not-20) in
-    let o = cut-accepts book text room rules (b .reads) short enough in
-    let r : (lex rules text) .rest ≡ [] = rw w (spelled-rest (valid b .rules-valid) p) in
-    let z : length text - length ((lex rules text) .rest) ≡ length text = rw r (omega arith) in
-    let l : Lexes book text room (length ((lex rules text) .tokens)) (length text) = rw o (rw z refl) in
-    let c = lexed-cut book text room (length ((lex rules text) .tokens)) (length text) l in
-    (l, rw (stored-say book (b .bytes) c rules (b .reads)) (rw w (spelled-back (valid b .rules-valid) p)))
+  pub cut-is-longest-match : CutIsLongestMatch book rules
+  cut-is-longest-match text ts rest = (
+    longest-lex rules text ts rest,
+    λ e. subst (λ (c : Lexed). LongestMatch rules text c.tokens c.rest) e (lex-longest rules (valid .rules-valid .distinct) text),
+  )
+
+  pub stored-is-longest-match : StoredIsLongestMatch book rules
+  stored-is-longest-match f text entry exit n place c =
+      subst (λ (x : List Token). LongestMatch rules text x (drop place text)) (sym (tokens-are c))
+      (subst (λ (x : List ℕ). LongestMatch rules text ((lex rules text) .tokens) x) (sym (rest-at c))
+      (lex-longest rules (valid .rules-valid .distinct) text))
+
+  pub cut-is-accepted : CutIsAccepted book rules
+  cut-is-accepted f text entry exit r c = accepts c
+
+  pub tokens-and-rest-joined : TokensAndRestJoined book rules
+  tokens-and-rest-joined f text entry exit n place c = rw (tokens-are c, rest-at c) (joins rules text)
+
+  -- ---- a call of the plain printer that accepts
+
+  module _ {f : Form} {list : Lent f} {pool entry exit : List ℕ} {n : ℕ} (c : Print f book list pool entry exit (print.Printed n)) where
+    printed : (printOutcome book (recordsIn f list) pool entry) .answer ≡ print.Printed n
+    printed = sym (c .answers)
+
+    said : tokensOf (recordsIn f list) pool ≡ listIn f list pool
+    said = list-in f list (c .typed) pool
+
+    written : take n exit ≡ take n ((printOutcome book (recordsIn f list) pool entry) .out)
+    written = ap (take n) (c .leaves)
+
+  pub writing-joins : WritingJoins book rules
+  writing-joins f list pool entry exit n c =
+      written c ∙ written-joins book (recordsIn f list) pool entry n (printed c) ∙ ap join (said c)
+
+  -- ---- demand 3, the plain printer
+
+  pub equal-lists-equal-bytes : EqualLists book rules
+  equal-lists-equal-bytes f list pool entry exit n c f₁ list₁ pool₁ entry₁ exit₁ n₁ c₁ =
+      let h = equal-lists book (b .bytes) (recordsIn f list) pool entry n (recordsIn f₁ list₁) pool₁ entry₁ n₁ (printed c) (printed c₁) in (
+        λ q. written c ∙ h .0 (said c ∙ q ∙ sym (said c₁)) ∙ sym (written c₁),
+        λ q. sym (said c) ∙ h .1 (sym (written c) ∙ q ∙ written c₁) ∙ said c₁,
+      )
+
+  pub accepted-exactly : AcceptedExactly book rules
+  accepted-exactly f list pool entry exit r c u =
+      let s = list-in f list (c .typed) pool in
+      let h = accepts-printable book (b .bytes) rules (b .reads) (recordsIn f list) pool entry (rw (count-in f list) (u .not-16))
+      (rw (structs-in f list (c .typed)) (u .not-17)) (rw s (u .not-20)) (rw s (u .not-22)) in (
+        λ q. printable-separable rules (listIn f list pool) (valid .rules-valid .distinct) (rw s at (h .0 (q .0, sym (c .answers) ∙ q .1))),
+        λ p. let z = h .1 (rw s (separable-printable rules (listIn f list pool) p)) in (z .0, c .answers ∙ z .1),
+      )
+
+  pub unknown-not-alone : UnknownNotAlone book rules
+  unknown-not-alone tag w e = go (aloneIn rules tag w) refl
+    where
+      go : (a : Bool) → aloneIn rules tag w ≡ a → a ≡ false
+      go false q = refl
+      go true q = clash (alone-tagged rules tag w q) e
+
+  pub outputs-are-cut : OutputsAreCut book rules
+  outputs-are-cut f list pool entry exit n c g room stored r d enough =
+      let s = said c in
+      let e : length (tokensOf (recordsIn f list) pool) ≤ recordCount (recordsIn g room) = rw (s, count-in g room) enough in
+      let o = output-cut book (b .bytes) (recordsIn f list) pool entry n (printed c) (take n exit) (sym (written c)) (recordsIn g room) e in
+      let a : r ≡ lexed.Lexed (length (listIn f list pool)) (length (take n exit)) = d .answers ∙ o .0 ∙ rw s in
+      let k : Cut g book (take n exit) room stored (lexed.Lexed (length (listIn f list pool)) (length (take n exit))) =
+      subst (Cut g book (take n exit) room stored) a d in
+      (a, sym (stored-list k) ∙ (rw s at (o .1)))
+
+  pub cuts-are-printed : CutsArePrinted book rules
+  cuts-are-printed f text room stored n c entry exit r p l =
+      let o = cut-printed book (b .bytes) text (recordsIn f room) entry n (sym (c .answers)) l in
+      let q = stored-in c in
+      (p .answers ∙ (rw q at (o .0)), ap (take (length text)) (p .leaves) ∙ (rw q at (o .1)))
+
+  pub empty-text-is-cut : EmptyTextIsCut book rules
+  empty-text-is-cut f room stored r c =
+      let z = lex-nil rules in
+      let a = accepts c (omega arith) (rw z (omega arith)) in
+      a ∙ rw z
+
+  -- ---- demand 3, the spacing printer
+
+  pub spacing-accepts : SpacingAccepts book rules
+  spacing-accepts sep mode records pool entry exit r c u =
+      let w = spelled rules sep mode records pool in
+      let o = unrefused-outcome book rules (b .reads) sep mode records pool entry u in
+      (c .answers ∙ rw o, ap (take (length w)) (c .leaves) ∙ rw o (take-append-seam w (drop (length w) entry)))
+
+  -- an accepted call
+  unrefused : {sep : TokenRecord} {mode : ℕ} {records pool entry exit : List ℕ} {n : ℕ}
+      → Space book sep mode records pool entry exit (print.Printed n)
+      → Unrefused rules sep mode records pool entry × (take n exit ≡ spelled rules sep mode records pool)
+  unrefused {sep} {mode} {records} {pool} {entry} {exit} {n} c =
+      let a = printed-unrefused book rules (b .reads) sep mode records pool entry n (sym (c .answers)) in
+      (a .0, rw (a .1) (spacing-accepts sep mode records pool entry exit (print.Printed n) c (a .0) .1))
+
+  pub spacing-accepts-no-other : SpacingAcceptsNoOther book rules
+  spacing-accepts-no-other sep mode records pool entry exit n c = unrefused c
+
+  pub spacing-equal-lists : SpacingEqualLists book rules
+  spacing-equal-lists mode sep records pool entry exit n c sep₁ records₁ pool₁ entry₁ exit₁ n₁ c₁ same =
+      let x = unrefused c in
+      let y = unrefused c₁ in
+      rw (x .1, y .1) (spelled-injective (valid .rules-valid) (unrefused-passes (x .0)) (unrefused-passes (y .0)) same)
+
+  pub spacing-cuts-back : SpacingCutsBack book rules
+  spacing-cuts-back sep mode records pool entry exit n c g room stored r d enough =
+      let x = unrefused c in
+      let w = x .1 in
+      let p = unrefused-passes (x .0) in
+      let short : length (take n exit) ≤ maxText = rw w (x .0 .not-20) in
+      let rest : (lex rules (take n exit)) .rest ≡ [] = rw w (spelled-rest (valid .rules-valid) p) in
+      let z : length (take n exit) - length ((lex rules (take n exit)) .rest) ≡ length (take n exit) = rw rest (omega arith) in
+      let a : r ≡ lexed.Lexed (length ((lex rules (take n exit)) .tokens)) (length (take n exit)) = accepts d short enough ∙ rw z in
+      let k : Cut g book (take n exit) room stored (lexed.Lexed (length ((lex rules (take n exit)) .tokens)) (length (take n exit))) =
+      subst (Cut g book (take n exit) room stored) a d in (
+        a,
+        ap (dropSeparators rules) (tokens-are k)
+            ∙ ap (λ (x : List ℕ). dropSeparators rules ((lex rules x) .tokens)) w ∙ spelled-back (valid .rules-valid) p,
+      )
+
+-- ==== together
+
+pub every-book : EveryBook
+every-book book rules b = record {
+  start-in-error = start-in-error book rules b;
+  cut-is-longest-match = cut-is-longest-match book rules b;
+  stored-is-longest-match = stored-is-longest-match book rules b;
+  cut-is-accepted = cut-is-accepted book rules b;
+  tokens-and-rest-joined = tokens-and-rest-joined book rules b;
+  writing-joins = writing-joins book rules b;
+  equal-lists = equal-lists-equal-bytes book rules b;
+  accepted-exactly = accepted-exactly book rules b;
+  unknown-not-alone = unknown-not-alone book rules b;
+  outputs-are-cut = outputs-are-cut book rules b;
+  cuts-are-printed = cuts-are-printed book rules b;
+  empty-text-is-cut = empty-text-is-cut book rules b;
+  spacing-accepts = spacing-accepts book rules b;
+  spacing-accepts-no-other = spacing-accepts-no-other book rules b;
+  spacing-equal-lists = spacing-equal-lists book rules b;
+  spacing-cuts-back = spacing-cuts-back book rules b;
+}
+
+-- ---- the built-in book
+
+bytes-of : (w : List ℕ) → any (leb 256) w ≡ false → Bytes w
+bytes-of [] e = tt
+bytes-of (x ∷ w) e = let h = or-false (leb 256 x) _ e in (leb-false 256 x (h .0), bytes-of w (h .1))
+
+builtin-bytes : Bytes builtinBytes
+unfolding builtinBytes
+builtin-bytes = bytes-of builtinBytes refl
+
+pub builtin-book : BuiltinBook
+builtin-book =
+    let b : Book builtinBytes builtinRules = record { bytes = builtin-bytes; reads = read-builtin } in
+    (b, every-book builtinBytes builtinRules b)

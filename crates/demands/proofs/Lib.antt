@@ -1,6 +1,8 @@
--- A proof of each demand (Demands), and what these rest on: `lex` goes by longest match (LongestMatch), and what the printers accept, in
--- the words of the demands (Separable, Spacing).
+-- A proof of each demand (Demands), and what these rest on: `lex` goes by longest match (LongestMatch), what the printers accept, in
+-- the words of the demands (Separable, Spacing), a list in every form (Forms), and what stands in the lent buffers (Untouched).
 pub mod LongestMatch
 pub mod Separable
+pub mod Forms
+pub mod Untouched
 pub mod Spacing
 pub mod Demands

@@ -1,14 +1,14 @@
 -- A call of the spacing printer meets none of its refusals exactly where it passes the checks of crates/separated. Assumes nothing.
-use mathlib.Core.Path.{_≡_, refl, sym, _∙_}
+use mathlib.Core.Path.{_≡_, refl, sym, _∙_, ap}
 use mathlib.Core.Bool.{Bool, true, false, _&&_}
 use mathlib.Core.List.{List}
 use Prim.Native.Nat.{ℕ, _≤_}
+use native.Mathlib.Omega.{arith}
 use lib.ListN.{length, drop}
-use lib.Seq.{take-append-seam}
 use Rattle.automaton.specs.Rule.{Rule}
 use Rattle.automaton.proofs.Tests.{clash}
 use Rattle.book.specs.Limits.{maxText}
-use Rattle.reader.specs.Reading.{accepted, readBook}
+use Rattle.reader.specs.Reading.{Reading, accepted, refused, readBook}
 use Rattle.record.specs.declared.TokenRecord.{TokenRecord}
 use Rattle.record.specs.Tokens.{recordsOf}
 use Rattle.token_list.proofs.Faulting.{Fine}
@@ -17,7 +17,10 @@ use Rattle.used_bytes.specs.Bytes.{usedByKind, shared}
 use Rattle.spacing.specs.Separators.{spelled}
 use Rattle.separated.proofs.Sides.{all-map}
 use Rattle.separated.proofs.Unrefused.{Taken, CallPasses, passes-accepted, accepted-passes}
-use Rattle.demands.specs.Words.{Fit, Unrefused, Spaces, spaced}
+use Rattle.printer.specs.Outcome.{PrintOutcome, printAccepted}
+use Rattle.separated.specs.Outcome.{separatedReading, separatedOutcome}
+use Rattle.demands.specs.Words.{Fit, Unrefused}
+use Rattle.demands.proofs.Untouched.{past-accepted}
 use Rattle.answer.specs.declared.PrintAnswer.the-variants as print
 
 -- ---- the parts of a call
@@ -74,18 +77,33 @@ module _ (book : List ℕ) (rules : List Rule) (reads : readBook book ≡ accept
   abbrev bytes : List ℕ
   bytes = spelled rules sep mode records pool
 
-  pub unrefused-spaces : Unrefused rules sep mode records pool out
-      → Spaces book sep mode records pool out (length bytes) × (spaced book sep mode records pool out (length bytes) ≡ bytes)
-  unrefused-spaces u =
-      let z = passes-accepted rules sep mode records pool book out reads (unrefused-passes u) (u .not-20) (u .not-22) in
-      rw z (refl, take-append-seam bytes (drop (length bytes) out))
+  pub unrefused-outcome : Unrefused rules sep mode records pool out
+      → separatedOutcome book sep mode records pool out ≡ printAccepted bytes out
+  unrefused-outcome u =
+      passes-accepted rules sep mode records pool book out reads (unrefused-passes u) (u .not-20) (u .not-22)
 
-  pub spaces-unrefused : (n : ℕ) → Spaces book sep mode records pool out n
-      → Unrefused rules sep mode records pool out × (spaced book sep mode records pool out n ≡ bytes)
-  spaces-unrefused n e =
+  -- an accepted call
+  pub printed-unrefused : (n : ℕ) → (separatedOutcome book sep mode records pool out) .answer ≡ print.Printed n
+      → Unrefused rules sep mode records pool out × (n ≡ length bytes)
+  printed-unrefused n e =
       let a = accepted-passes rules sep mode records pool book out reads e in
       let u = passes-unrefused (a .0) (a .1) (a .2) in
-      let w = unrefused-spaces u in
-      let q : print.Printed n ≡ print.Printed (length bytes) = sym e ∙ w .0 in
-      let l : n ≡ length bytes = cc in
-      (u, rw l (w .1))
+      let q : print.Printed n ≡ print.Printed (length bytes) = sym e ∙ ap (λ (x : PrintOutcome). x.answer) (unrefused-outcome u) in
+      (u, cc)
+
+-- what lies past the bytes of an accepted call
+pub space-past : (sep : TokenRecord) (mode : ℕ) (records pool out book : List ℕ) (n : ℕ)
+    → (separatedOutcome book sep mode records pool out) .answer ≡ print.Printed n
+    → drop n ((separatedOutcome book sep mode records pool out) .out) ≡ drop n out
+unfolding separatedOutcome
+space-past sep mode records pool out book n e = go (readBook book) refl
+  where
+    go : (o : Reading) → readBook book ≡ o → drop n ((separatedReading (readBook book) sep mode records pool out) .out) ≡ drop n out
+    go (refused number place) q =
+        let z : (separatedReading (refused number place) sep mode records pool out) .answer ≡ print.Printed n = rw q at e in
+        let y : _≡_ {A = ℕ} 0 1 = cc in
+        absurd (omega arith)
+    go (accepted rules) q =
+        let a = printed-unrefused book rules q sep mode records pool out n e in
+        past-accepted out _ (spelled rules sep mode records pool) n (a .1)
+        (unrefused-outcome book rules q sep mode records pool out (a .0))

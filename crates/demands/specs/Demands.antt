@@ -1,138 +1,196 @@
--- The customer's sentences, each with what it says of the outcomes. The contracts of `lexer::lex`, `printer::print` and
--- `separated::print_separated` equate their answers and every byte lent to them with `lexOutcome`, `printOutcome` and `separatedOutcome`.
+-- The customer's demands, a type for each sentence or clause. They speak of calls (Calls.antt), so of what the contracts of the
+-- operations ensure, and of a list in every form in which it can be lent.
 use mathlib.Core.Path.{_≡_}
 use mathlib.Core.Logic.{_↔_}
-use mathlib.Core.Bool.{false}
+use mathlib.Core.Bool.{true, false}
 use mathlib.Core.List.{List, [], _++_}
-use Prim.Native.Nat.{ℕ, _≤_}
-use lib.ListN.{length, drop}
-use Rattle.automaton.specs.Rule.{Rule}
+use Prim.Native.Nat.{ℕ, _≤_, _-_}
+use lib.ListN.{length, take, drop}
+use Rattle.answer.specs.declared.LexAnswer.{LexAnswer}
+use Rattle.answer.specs.declared.PrintAnswer.{PrintAnswer}
+use Rattle.answer.specs.declared.Refusal.{Refusal}
+use Rattle.automaton.specs.Choice.{All}
+use Rattle.automaton.specs.Rule.{Rule, matches}
 use Rattle.book.specs.Draft.{tagged}
+use Rattle.book.specs.Limits.{maxText}
 use Rattle.longest_match.specs.Lexer.{Token, lex, join}
-use Rattle.record.specs.Records.{recordCount}
 use Rattle.record.specs.Tokens.{tokensOf, tokenIn}
 use Rattle.record.specs.declared.TokenRecord.{TokenRecord}
 use Rattle.token_list.specs.Faults.{aloneIn}
 use Rattle.spacing.specs.Separators.{dropSeparators, spelled}
-use Rattle.demands.specs.Words.{Spaces, spaced, Book, Lexes, stored, Prints, written, Unlimited, LongestMatch, Separable, Unrefused}
+use Rattle.builtin.specs.Book.{builtinBytes, builtinRules}
+use Rattle.demands.specs.Calls.{Form, Lent, countIn, firstIn, pastIn, listIn, Cut, Print, Space}
+use Rattle.demands.specs.Words.{Book, LongestMatch, Separable, Unlimited, Unrefused}
+use Rattle.answer.specs.declared.LexAnswer.the-variants as lexed
+use Rattle.answer.specs.declared.PrintAnswer.the-variants as print
 
--- ---- demand 1
+-- ==== demand 1
 
--- "The program as a whole comes to an end on every book, text, token list and buffer that it is handed, does nothing undefined": every
--- function is proved to return and to be safe, and the operations ask nothing of their callers.
--- "and refuses what is unfit by the number in document 01, with nothing changed in the buffers lent to it": the contracts, in every case;
--- `readBook`, `lexOutcome`, `printOutcome` and `separatedOutcome` say which number, and that a refusal leaves every byte.
+-- That every call ends and does nothing undefined is what the proof of each function shows, and the operations ask nothing of their
+-- callers. The contracts equate each answer with an outcome, in every case, so a refusal has the number that the outcome's definition gives.
+-- Here: what stands in the lent buffers after a refusal, and past the count after an accepted call.
 
--- ---- demand 2
+-- a refused cut leaves the records as they were
+abbrev pub RefusedCut : Type 0
+RefusedCut = (f : Form) (book text : List ℕ) (entry exit : Lent f) (r : Refusal) → Cut f book text entry exit (lexed.Refused r)
+    → exit ≡ entry
 
--- "A cut is the one that the longest-match rule defines: at each place the longest stretch that some rule matches, the earliest such rule
--- on a tie, until no rule matches."
-abbrev pub CutIsLongestMatch : Type 0
-CutIsLongestMatch =
-    (book : List ℕ) (rules : List Rule) → Book book rules → (text : List ℕ) (ts : List Token) (rest : List ℕ)
-    → LongestMatch rules text ts rest ↔ (lex rules text ≡ record { tokens = ts; rest = rest })
+-- an accepted one leaves what lies past its tokens
+abbrev pub PastTheTokens : Type 0
+PastTheTokens = (f : Form) (book text : List ℕ) (entry exit : Lent f) (n place : ℕ) → Cut f book text entry exit (lexed.Lexed n place)
+    → pastIn f n exit ≡ pastIn f n entry
 
--- the same of the records that an accepted call stores, with the text as their pool, and of the place that it reports
-abbrev pub StoredIsLongestMatch : Type 0
-StoredIsLongestMatch =
-    (book : List ℕ) (rules : List Rule) → Book book rules → (text room : List ℕ) (n place : ℕ) → Lexes book text room n place
-    → LongestMatch rules text (tokensOf (stored book text room n) text) (drop place text)
+-- a printer that refuses leaves the output as it was
+abbrev pub RefusedPrint : Type 0
+RefusedPrint = (f : Form) (book : List ℕ) (list : Lent f) (pool entry exit : List ℕ) (r : Refusal)
+    → Print f book list pool entry exit (print.Refused r) → exit ≡ entry
 
--- "Tokens and rest joined give the text."
-abbrev pub TokensAndRestJoined : Type 0
-TokensAndRestJoined =
-    (book : List ℕ) (rules : List Rule) → Book book rules → (text room : List ℕ) (n place : ℕ) → Lexes book text room n place
-    → join (tokensOf (stored book text room n) text) ++ drop place text ≡ text
+abbrev pub RefusedSpace : Type 0
+RefusedSpace = (book : List ℕ) (sep : TokenRecord) (mode : ℕ) (records pool entry exit : List ℕ) (r : Refusal)
+    → Space book sep mode records pool entry exit (print.Refused r) → exit ≡ entry
 
--- "Writing joins the tokens' bytes and adds no others"
-abbrev pub WritingJoins : Type 0
-WritingJoins =
-    (book records pool out : List ℕ) (n : ℕ) → Prints book records pool out n
-    → written book records pool out n ≡ join (tokensOf records pool)
+-- one that accepts leaves what lies past the bytes that it wrote
+abbrev pub PastTheBytes : Type 0
+PastTheBytes = (f : Form) (book : List ℕ) (list : Lent f) (pool entry exit : List ℕ) (n : ℕ)
+    → Print f book list pool entry exit (print.Printed n) → drop n exit ≡ drop n entry
 
--- ---- demand 3, the plain printer
+abbrev pub PastTheSpaced : Type 0
+PastTheSpaced = (book : List ℕ) (sep : TokenRecord) (mode : ℕ) (records pool entry exit : List ℕ) (n : ℕ)
+    → Space book sep mode records pool entry exit (print.Printed n) → drop n exit ≡ drop n entry
 
--- "For every book that is accepted, and wherever the pools hold the lists: any two token lists that the plain writer accepts are equal
--- exactly when the bytes written for them are equal."
-abbrev pub EqualLists : Type 0
-EqualLists =
-    (book : List ℕ) (rules : List Rule) → Book book rules
-    → (records pool out : List ℕ) (n : ℕ) → Prints book records pool out n
-    → (records₁ pool₁ out₁ : List ℕ) (n₁ : ℕ) → Prints book records₁ pool₁ out₁ n₁
-    → (tokensOf records pool ≡ tokensOf records₁ pool₁) ↔ (written book records pool out n ≡ written book records₁ pool₁ out₁ n₁)
+-- ==== demands 2 and 3, of one book and its rules
 
--- "Space and size limits apart, it accepts a list exactly when each token alone is cut as itself and no rule matches a token's bytes plus
--- a non-empty beginning of what is written after it."
-abbrev pub AcceptedExactly : Type 0
-AcceptedExactly =
-    (book : List ℕ) (rules : List Rule) → Book book rules → (records pool out : List ℕ) → Unlimited records pool out
-    → ((n : ℕ) × Prints book records pool out n) ↔ Separable rules (tokensOf records pool)
+module _ (book : List ℕ) (rules : List Rule) where
+  -- ---- the book
 
--- "A token whose tag is not in the book is not cut as itself."
-abbrev pub UnknownNotAlone : Type 0
-UnknownNotAlone = (rules : List Rule) (tag : ℕ) (w : List ℕ) → tagged tag rules ≡ false → aloneIn rules tag w ≡ false
+  -- a rule whose start is its error state matches nothing (document 01, 'The book', on START)
+  abbrev pub StartInError : Type 0
+  StartInError = All (λ (r : Rule). r.start ≡ r.error → (w : List ℕ) → matches r w ≡ false) rules
 
--- "Its outputs are exactly the texts that are cut without a rest": each output is one, and its cut, with records enough, gives the list
--- back;
-abbrev pub OutputsAreCut : Type 0
-OutputsAreCut =
-    (book : List ℕ) (rules : List Rule) → Book book rules
-    → (records pool out : List ℕ) (n : ℕ) → Prints book records pool out n
-    → (text : List ℕ) → written book records pool out n ≡ text
-    → (room : List ℕ) → length (tokensOf records pool) ≤ recordCount room
-    → Lexes book text room (length (tokensOf records pool)) (length text)
-    × (tokensOf (stored book text room (length (tokensOf records pool))) text ≡ tokensOf records pool)
+  -- ---- demand 2
 
--- and each text whose cut, with records enough, "ends with the rest at the text's length" is one: "Given output space, the plain writer
--- accepts the list that this cut gives and writes the text."
-abbrev pub CutsArePrinted : Type 0
-CutsArePrinted =
-    (book : List ℕ) (rules : List Rule) → Book book rules
-    → (text room : List ℕ) (n : ℕ) → Lexes book text room n (length text)
-    → (out : List ℕ) → length text ≤ length out
-    → Prints book (stored book text room n) text out (length text)
-    × (written book (stored book text room n) text out (length text) ≡ text)
+  -- Sentence 1: what `lex` gives is by the longest-match rule, and nothing else is;
+  abbrev pub CutIsLongestMatch : Type 0
+  CutIsLongestMatch = (text : List ℕ) (ts : List Token) (rest : List ℕ)
+      → LongestMatch rules text ts rest ↔ (lex rules text ≡ record { tokens = ts; rest = rest })
 
--- "the empty text is one"
-abbrev pub EmptyTextIsCut : Type 0
-EmptyTextIsCut = (book : List ℕ) (rules : List Rule) → Book book rules → (room : List ℕ) → Lexes book [] room 0 0
+  -- and so are the tokens that an accepted call stores, with the text as their pool, and the rest that it reports.
+  abbrev pub StoredIsLongestMatch : Type 0
+  StoredIsLongestMatch = (f : Form) (text : List ℕ) (entry exit : Lent f) (n place : ℕ) → Cut f book text entry exit (lexed.Lexed n place)
+      → LongestMatch rules text (listIn f (firstIn f n exit) text) (drop place text)
 
--- ---- demand 3, the spacing printer
+  -- A text that is not too long is accepted where there are records enough.
+  abbrev pub CutIsAccepted : Type 0
+  CutIsAccepted = (f : Form) (text : List ℕ) (entry exit : Lent f) (r : LexAnswer) → Cut f book text entry exit r
+      → length text ≤ maxText → length ((lex rules text) .tokens) ≤ countIn f entry
+      → r ≡ lexed.Lexed (length ((lex rules text) .tokens)) (length text - length ((lex rules text) .rest))
 
--- "For every separator token and every mode, the spacing writer accepts each list that meets none of its refusals in document 01, and
--- places the separators as 01 says": `Unrefused` goes through 16 to 26, `spelled` joins the tokens with their separators.
-abbrev pub SpacingAccepts : Type 0
-SpacingAccepts =
-    (book : List ℕ) (rules : List Rule) → Book book rules
-    → (sep : TokenRecord) (mode : ℕ) (records pool out : List ℕ) → Unrefused rules sep mode records pool out
-    → Spaces book sep mode records pool out (length (spelled rules sep mode records pool))
-    × (spaced book sep mode records pool out (length (spelled rules sep mode records pool)) ≡ spelled rules sep mode records pool)
+  -- Sentence 2: tokens and rest joined are the text.
+  abbrev pub TokensAndRestJoined : Type 0
+  TokensAndRestJoined = (f : Form) (text : List ℕ) (entry exit : Lent f) (n place : ℕ) → Cut f book text entry exit (lexed.Lexed n place)
+      → join (listIn f (firstIn f n exit) text) ++ drop place text ≡ text
 
--- and it accepts no other
-abbrev pub SpacingAcceptsNoOther : Type 0
-SpacingAcceptsNoOther =
-    (book : List ℕ) (rules : List Rule) → Book book rules
-    → (sep : TokenRecord) (mode : ℕ) (records pool out : List ℕ) (n : ℕ) → Spaces book sep mode records pool out n
-    → Unrefused rules sep mode records pool out × (spaced book sep mode records pool out n ≡ spelled rules sep mode records pool)
+  -- Sentence 3: what is written is the tokens' bytes joined. (What separators add is in `SpacingAccepts`.)
+  abbrev pub WritingJoins : Type 0
+  WritingJoins = (f : Form) (list : Lent f) (pool entry exit : List ℕ) (n : ℕ) → Print f book list pool entry exit (print.Printed n)
+      → take n exit ≡ join (listIn f list pool)
 
--- "any two lists that it accepts with them are equal exactly when the bytes written for them are equal": "Two separator tokens are one
--- when tag and bytes are equal, wherever the pools hold them."
-abbrev pub SpacingEqualLists : Type 0
-SpacingEqualLists =
-    (book : List ℕ) (rules : List Rule) → Book book rules → (mode : ℕ)
-    → (sep : TokenRecord) (records pool out : List ℕ) (n : ℕ) → Spaces book sep mode records pool out n
-    → (sep₁ : TokenRecord) (records₁ pool₁ out₁ : List ℕ) (n₁ : ℕ) → Spaces book sep₁ mode records₁ pool₁ out₁ n₁
-    → tokenIn pool sep ≡ tokenIn pool₁ sep₁
-    → (tokensOf records pool ≡ tokensOf records₁ pool₁)
-    ↔ (spaced book sep mode records pool out n ≡ spaced book sep₁ mode records₁ pool₁ out₁ n₁)
+  -- ---- demand 3, the plain printer
 
--- "cutting its output leaves no rest and, with separators dropped, gives the list back, the same tags and bytes in the same order":
--- "under the same book with records enough".
-abbrev pub SpacingCutsBack : Type 0
-SpacingCutsBack =
-    (book : List ℕ) (rules : List Rule) → Book book rules
-    → (sep : TokenRecord) (mode : ℕ) (records pool out : List ℕ) (n : ℕ) → Spaces book sep mode records pool out n
-    → (text : List ℕ) → spaced book sep mode records pool out n ≡ text
-    → (room : List ℕ) → length ((lex rules text) .tokens) ≤ recordCount room
-    → Lexes book text room (length ((lex rules text) .tokens)) (length text)
-    × (dropSeparators rules (tokensOf (stored book text room (length ((lex rules text) .tokens))) text) ≡ tokensOf records pool)
+  -- Sentence 1: two lists that it accepts, wherever their pools hold them, are equal exactly when the bytes written for them are.
+  abbrev pub EqualLists : Type 0
+  EqualLists = (f : Form) (list : Lent f) (pool entry exit : List ℕ) (n : ℕ) → Print f book list pool entry exit (print.Printed n)
+      → (f₁ : Form) (list₁ : Lent f₁) (pool₁ entry₁ exit₁ : List ℕ) (n₁ : ℕ) → Print f₁ book list₁ pool₁ entry₁ exit₁ (print.Printed n₁)
+      → (listIn f list pool ≡ listIn f₁ list₁ pool₁) ↔ (take n exit ≡ take n₁ exit₁)
+
+  -- Sentence 2: limits apart, it accepts a list exactly when the list is `Separable`.
+  abbrev pub AcceptedExactly : Type 0
+  AcceptedExactly = (f : Form) (list : Lent f) (pool entry exit : List ℕ) (r : PrintAnswer) → Print f book list pool entry exit r
+      → Unlimited f list pool entry → ((n : ℕ) × (r ≡ print.Printed n)) ↔ Separable rules (listIn f list pool)
+
+  -- A token whose tag no rule has is not cut as itself (document 01, 'Words of demand 3', 2).
+  abbrev pub UnknownNotAlone : Type 0
+  UnknownNotAlone = (tag : ℕ) (w : List ℕ) → tagged tag rules ≡ false → aloneIn rules tag w ≡ false
+
+  -- Sentence 3, one way: each output is cut without a rest and, given records enough, into the list that was handed in.
+  abbrev pub OutputsAreCut : Type 0
+  OutputsAreCut = (f : Form) (list : Lent f) (pool entry exit : List ℕ) (n : ℕ) → Print f book list pool entry exit (print.Printed n)
+      → (g : Form) (room stored : Lent g) (r : LexAnswer) → Cut g book (take n exit) room stored r
+      → length (listIn f list pool) ≤ countIn g room
+      → (r ≡ lexed.Lexed (length (listIn f list pool)) (length (take n exit)))
+      × (listIn g (firstIn g (length (listIn f list pool)) stored) (take n exit) ≡ listIn f list pool)
+
+  -- The other way: given output space, the list that a cut without a rest stores is accepted, and the text is what is written.
+  abbrev pub CutsArePrinted : Type 0
+  CutsArePrinted = (f : Form) (text : List ℕ) (room stored : Lent f) (n : ℕ) → Cut f book text room stored (lexed.Lexed n (length text))
+      → (entry exit : List ℕ) (r : PrintAnswer) → Print f book (firstIn f n stored) text entry exit r → length text ≤ length entry
+      → (r ≡ print.Printed (length text)) × (take (length text) exit ≡ text)
+
+  -- The empty text is cut without a rest (document 01, 'Words of demand 3', 3).
+  abbrev pub EmptyTextIsCut : Type 0
+  EmptyTextIsCut = (f : Form) (room stored : Lent f) (r : LexAnswer) → Cut f book [] room stored r → r ≡ lexed.Lexed 0 0
+
+  -- ---- demand 3, the spacing printer (sentence 4)
+
+  -- It accepts each call that meets none of its refusals, and writes the tokens with their separators: `Unrefused` goes through 16 to 26,
+  -- `spelled` says where separators stand.
+  abbrev pub SpacingAccepts : Type 0
+  SpacingAccepts = (sep : TokenRecord) (mode : ℕ) (records pool entry exit : List ℕ) (r : PrintAnswer)
+      → Space book sep mode records pool entry exit r → Unrefused rules sep mode records pool entry
+      → (r ≡ print.Printed (length (spelled rules sep mode records pool)))
+      × (take (length (spelled rules sep mode records pool)) exit ≡ spelled rules sep mode records pool)
+
+  -- It accepts no other.
+  abbrev pub SpacingAcceptsNoOther : Type 0
+  SpacingAcceptsNoOther = (sep : TokenRecord) (mode : ℕ) (records pool entry exit : List ℕ) (n : ℕ)
+      → Space book sep mode records pool entry exit (print.Printed n)
+      → Unrefused rules sep mode records pool entry × (take n exit ≡ spelled rules sep mode records pool)
+
+  -- Two lists that it accepts in one mode with one separator token are equal exactly when the bytes written for them are. Separator tokens
+  -- are one when tag and bytes are equal (document 01, 'Words of demand 3', 4).
+  abbrev pub SpacingEqualLists : Type 0
+  SpacingEqualLists = (mode : ℕ)
+      → (sep : TokenRecord) (records pool entry exit : List ℕ) (n : ℕ) → Space book sep mode records pool entry exit (print.Printed n)
+      → (sep₁ : TokenRecord) (records₁ pool₁ entry₁ exit₁ : List ℕ) (n₁ : ℕ)
+      → Space book sep₁ mode records₁ pool₁ entry₁ exit₁ (print.Printed n₁)
+      → tokenIn pool sep ≡ tokenIn pool₁ sep₁
+      → (tokensOf records pool ≡ tokensOf records₁ pool₁) ↔ (take n exit ≡ take n₁ exit₁)
+
+  -- Its output, cut with records enough, leaves no rest, and with separators dropped gives the list back.
+  abbrev pub SpacingCutsBack : Type 0
+  SpacingCutsBack = (sep : TokenRecord) (mode : ℕ) (records pool entry exit : List ℕ) (n : ℕ)
+      → Space book sep mode records pool entry exit (print.Printed n)
+      → (g : Form) (room stored : Lent g) (r : LexAnswer) → Cut g book (take n exit) room stored r
+      → length ((lex rules (take n exit)) .tokens) ≤ countIn g room
+      → (r ≡ lexed.Lexed (length ((lex rules (take n exit)) .tokens)) (length (take n exit)))
+      × (dropSeparators rules (listIn g (firstIn g (length ((lex rules (take n exit)) .tokens)) stored) (take n exit))
+      ≡ tokensOf records pool)
+
+-- ==== together
+
+-- demands 2 and 3 of a book
+pub record Kept (book : List ℕ) (rules : List Rule) : Type 0 where
+  pub start-in-error : StartInError book rules
+  pub cut-is-longest-match : CutIsLongestMatch book rules
+  pub stored-is-longest-match : StoredIsLongestMatch book rules
+  pub cut-is-accepted : CutIsAccepted book rules
+  pub tokens-and-rest-joined : TokensAndRestJoined book rules
+  pub writing-joins : WritingJoins book rules
+  pub equal-lists : EqualLists book rules
+  pub accepted-exactly : AcceptedExactly book rules
+  pub unknown-not-alone : UnknownNotAlone book rules
+  pub outputs-are-cut : OutputsAreCut book rules
+  pub cuts-are-printed : CutsArePrinted book rules
+  pub empty-text-is-cut : EmptyTextIsCut book rules
+  pub spacing-accepts : SpacingAccepts book rules
+  pub spacing-accepts-no-other : SpacingAcceptsNoOther book rules
+  pub spacing-equal-lists : SpacingEqualLists book rules
+  pub spacing-cuts-back : SpacingCutsBack book rules
+
+-- they are kept of every accepted book,
+abbrev pub EveryBook : Type 0
+EveryBook = (book : List ℕ) (rules : List Rule) → Book book rules → Kept book rules
+
+-- and of the built-in book, which is one: `lex_builtin` cuts by it, and the printers are lent its bytes
+abbrev pub BuiltinBook : Type 0
+BuiltinBook = Book builtinBytes builtinRules × Kept builtinBytes builtinRules

@@ -1,3 +1,4 @@
--- The customer's demands as types (Demands), and the words that they use (Words).
+-- The customer's demands as types (Demands), the calls that they speak of (Calls), and the words that they use (Words).
+pub mod Calls
 pub mod Words
 pub mod Demands

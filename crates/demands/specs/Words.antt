@@ -2,7 +2,7 @@
 use mathlib.Core.Path.{_≡_}
 use mathlib.Core.Bool.{true, false}
 use mathlib.Core.List.{List, [], _∷_, _++_}
-use Prim.Native.Nat.{ℕ, _+_, _*_, _<_, _≤_}
+use Prim.Native.Nat.{ℕ, _+_, _<_, _≤_}
 use lib.ListN.{length, take, drop}
 use Rattle.automaton.specs.Choice.{All}
 use Rattle.automaton.specs.Rule.{Rule, matches}
@@ -11,58 +11,24 @@ use Rattle.book.specs.Limits.{maxText, maxTokens}
 use Rattle.reader.specs.Reading.{accepted, readBook}
 use Rattle.longest_match.specs.Lexer.{Token, join}
 use Rattle.record.specs.Records.{recordCount}
-use Rattle.record.specs.Tokens.{recordsOf, bytesIn, tokensOf, InPool}
+use Rattle.record.specs.Tokens.{recordsOf, bytesIn, InPool}
 use Rattle.record.specs.declared.TokenRecord.{TokenRecord}
-use Rattle.lexer.specs.Outcome.{lexOutcome}
 use Rattle.token_list.specs.Faults.{aloneIn}
-use Rattle.printer.specs.Outcome.{printOutcome}
 use Rattle.used_bytes.specs.Kinds.{plainKind, separatorKind, separates}
 use Rattle.used_bytes.specs.Bytes.{usedByKind}
 use Rattle.spacing.specs.Separators.{spelled}
-use Rattle.separated.specs.Outcome.{separatedOutcome}
-use Rattle.answer.specs.declared.LexAnswer.the-variants as lexed
-use Rattle.answer.specs.declared.PrintAnswer.the-variants as print
+use Rattle.demands.specs.Calls.{Form, Lent, countIn, structsIn, listIn}
 
--- ---- the operations
+-- ---- books
 
 -- a book, as every caller has it, is a run of bytes
 abbrev pub Bytes : List ℕ → Type 0
 Bytes w = All (λ (b : ℕ). b < 256) w
 
--- "every book that is accepted", and its rules
+-- an accepted book, and its rules
 pub record Book (book : List ℕ) (rules : List Rule) : Type 0 where
   pub bytes : Bytes book
   pub reads : readBook book ≡ accepted rules
-
--- a cut that is accepted: it reports n tokens and the place of the rest
-abbrev pub Lexes : List ℕ → List ℕ → List ℕ → ℕ → ℕ → Type 0
-Lexes book text room n place = (lexOutcome book text room) .answer ≡ lexed.Lexed n place
-
--- the records that it stores in the room lent to it
-abbrev pub stored : List ℕ → List ℕ → List ℕ → ℕ → List ℕ
-stored book text room n = take (10 * n) ((lexOutcome book text room) .records)
-
--- a list that the plain printer accepts: it reports n bytes
-abbrev pub Prints : List ℕ → List ℕ → List ℕ → List ℕ → ℕ → Type 0
-Prints book records pool out n = (printOutcome book records pool out) .answer ≡ print.Printed n
-
--- "The bytes written are the output's bytes below the reported count."
-abbrev pub written : List ℕ → List ℕ → List ℕ → List ℕ → ℕ → List ℕ
-written book records pool out n = take n ((printOutcome book records pool out) .out)
-
--- a list that the spacing printer accepts with a separator token and a mode: it reports n bytes
-abbrev pub Spaces : List ℕ → TokenRecord → ℕ → List ℕ → List ℕ → List ℕ → ℕ → Type 0
-Spaces book sep mode records pool out n = (separatedOutcome book sep mode records pool out) .answer ≡ print.Printed n
-
-abbrev pub spaced : List ℕ → TokenRecord → ℕ → List ℕ → List ℕ → List ℕ → ℕ → List ℕ
-spaced book sep mode records pool out n = take n ((separatedOutcome book sep mode records pool out) .out)
-
--- "Space and size limits apart": in none of the cases of 16, 17, 20 and 22
-pub record Unlimited (records pool out : List ℕ) : Type 0 where
-  pub few : recordCount records ≤ maxTokens
-  pub inside : All (InPool pool) (recordsOf records)
-  pub short : length (join (tokensOf records pool)) ≤ maxText
-  pub room : length (join (tokensOf records pool)) ≤ length out
 
 -- ---- matching
 
@@ -77,14 +43,13 @@ pub record Longest (rules : List Rule) (text : List ℕ) (t : Token) : Type 0 wh
   pub earliest : aloneIn rules t.tag t.bytes ≡ true
   pub longest : (n : ℕ) → length t.bytes < n → n ≤ length text → Unmatched rules (take n text)
 
--- The longest-match rule: "at each place the longest stretch that some rule matches, the earliest such rule on a tie, until no rule
--- matches".
+-- The longest-match rule (demand 2, sentence 1): such a token at each place, and at the last place no rule matches.
 abbrev pub LongestMatch : List Rule → List ℕ → List Token → List ℕ → Type 0
 LongestMatch rules text [] rest = (text ≡ rest) × ((n : ℕ) → 0 < n → n ≤ length text → Unmatched rules (take n text))
 LongestMatch rules text (t ∷ ts) rest = Longest rules text t × LongestMatch rules (drop (length t.bytes) text) ts rest
 
--- "each token alone is cut as itself and no rule matches a token's bytes plus a non-empty beginning of what is written after it", which
--- is "the bytes of all later tokens joined"
+-- What the plain printer accepts (demand 3, sentence 2): every token is cut as itself alone, and no rule matches a token and a non-empty
+-- beginning of what is written after it, the bytes of all later tokens (document 01, 'Words of demand 3', 1).
 abbrev pub Separable : List Rule → List Token → Type 0
 Separable rules [] = Unit {0}
 Separable rules (t ∷ ts) =
@@ -92,7 +57,14 @@ Separable rules (t ∷ ts) =
     × ((n : ℕ) → 0 < n → n ≤ length (join ts) → Unmatched rules (t.bytes ++ take n (join ts)))
     × Separable rules ts
 
--- ---- a list that meets none of the spacing printer's refusals
+-- ---- lists that a printer does not refuse
+
+-- Space and size limits apart: in none of the cases of 16, 17, 20 and 22 (document 01, 'Words of demand 3', 2).
+pub record Unlimited (f : Form) (list : Lent f) (pool out : List ℕ) : Type 0 where
+  pub not-16 : countIn f list ≤ maxTokens
+  pub not-17 : All (InPool pool) (structsIn f list)
+  pub not-20 : length (join (listIn f list pool)) ≤ maxText
+  pub not-22 : length (join (listIn f list pool)) ≤ length out
 
 -- a token in none of the cases of 17, 18 and 19
 pub record Fit (rules : List Rule) (pool : List ℕ) (r : TokenRecord) : Type 0 where
@@ -108,6 +80,7 @@ pub record FitPlain (rules : List Rule) (pool : List ℕ) (r : TokenRecord) : Ty
   pub fit : Fit rules pool r
   pub not-26 : separates rules (r .tag) ≡ false
 
+-- a call of the spacing printer that meets none of its refusals
 pub record Unrefused (rules : List Rule) (sep : TokenRecord) (mode : ℕ) (records pool out : List ℕ) : Type 0 where
   pub not-23 : (b : ℕ) → b < 256 → usedByKind plainKind rules b ≡ true → usedByKind separatorKind rules b ≡ true → ⊥
   pub not-24 : mode ≤ 2

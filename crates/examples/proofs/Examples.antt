@@ -29,4 +29,4 @@ unfolding table target walk matches overlaps placed operandsOf decode commandAt 
     print.refusedIf print.unless print.printChecked print.printRules printOutcome
     used usedByKind shared lowestFrom sharedByte separates meaning follows separated
     orElse separatorFault plainFault sharing listRefusal separatedRefusal writing separatedRules separatedOutcome
-examples = (refl, (refl, (refl, (refl, (refl, (refl, (refl, (refl, (refl, (refl, (refl, (refl, (refl, (refl, tt))))))))))))))
+examples = (refl, (refl, (refl, (refl, (refl, (refl, (refl, (refl, (refl, (refl, (refl, (refl, (refl, (refl, (refl, tt)))))))))))))))

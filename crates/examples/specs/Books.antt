@@ -18,7 +18,7 @@ span from low high to = 6 ∷ from ∷ low ∷ high ∷ to ∷ []
 abbrev end : List ℕ
 end = 8 ∷ []
 
--- "Book A: tag 1 matches "a" and "abc", 2 "b", 3 "c", all plain; 4, separator, one or more blanks."
+-- Book A: rule 1 has the texts a and abc, rule 2 b, rule 3 c; rule 4 is a separator, blanks.
 abbrev pub bookA : List ℕ
 bookA =
     rule 1 0 (final 1 ++ final 3 ++ move 0 97 1 ++ move 1 98 2 ++ move 2 99 3)
@@ -27,14 +27,14 @@ bookA =
     ++ rule 4 1 (final 1 ++ move 0 32 1 ++ move 1 32 1)
     ++ end
 
--- "Book B: 1 matches "a" and "ab", 2 "bc"."
+-- Book B: rule 1 has the texts a and ab, rule 2 bc.
 abbrev pub bookB : List ℕ
 bookB =
     rule 1 0 (final 1 ++ final 2 ++ move 0 97 1 ++ move 1 98 2)
     ++ rule 2 0 (final 2 ++ move 0 98 1 ++ move 1 99 2)
     ++ end
 
--- "Book C: 1 matches "if", 2 one or more of a to z."
+-- Book C: rule 1 has the text if, rule 2 every run of small letters.
 abbrev pub bookC : List ℕ
 bookC =
     rule 1 0 (final 2 ++ move 0 105 1 ++ move 1 102 2)

@@ -86,39 +86,40 @@ c = token 3 (99 ∷ [])
 abbrev row : List ℕ → Question → Result → Example
 row book question gives = record { book = book; question = question; gives = gives }
 
--- 97 is "a", 98 "b", 99 "c", 100 "d", 102 "f", 105 "i"
+-- 97 is a, 98 b, 99 c, 100 d, 102 f, 105 i, 115 s
 unfoldable pub table : List Example
 table =
-    -- "" gives no token, rest at 0
+    -- no text: no token, rest at 0
     row bookA (cut []) (tokens [] 0)
-    -- "abc" gives 1 "abc"
+    -- abc: 1 abc
     ∷ row bookA (cut (97 ∷ 98 ∷ 99 ∷ [])) (tokens (token 1 (97 ∷ 98 ∷ 99 ∷ []) ∷ []) 3)
-    -- "ab" gives 1 "a", 2 "b"
+    -- ab: 1 a, 2 b
     ∷ row bookA (cut (97 ∷ 98 ∷ [])) (tokens (token 1 (97 ∷ []) ∷ token 2 (98 ∷ []) ∷ []) 2)
-    -- "d" gives none, rest at 0
+    -- d: no token, rest at 0
     ∷ row bookA (cut (100 ∷ [])) (tokens [] 0)
-    -- "abd": 1 "a", 2 "b", rest at 2
+    -- abd: 1 a, 2 b, rest at 2
     ∷ row bookA (cut (97 ∷ 98 ∷ 100 ∷ [])) (tokens (token 1 (97 ∷ []) ∷ token 2 (98 ∷ []) ∷ []) 2)
-    -- the lines "0 1 0 1", "1 2 1 1", "rest 2 1"
+    -- its lines: 0 1 0 1, 1 2 1 1, rest 2 1
     ∷ row bookA (lines (97 ∷ 98 ∷ 100 ∷ []))
     (bytes (48 ∷ 32 ∷ 49 ∷ 32 ∷ 48 ∷ 32 ∷ 49 ∷ 10
     ∷ 49 ∷ 32 ∷ 50 ∷ 32 ∷ 49 ∷ 32 ∷ 49 ∷ 10
     ∷ 114 ∷ 101 ∷ 115 ∷ 116 ∷ 32 ∷ 50 ∷ 32 ∷ 49 ∷ 10 ∷ []))
-    -- "abc" gives 1 "ab", rest at 2
+    -- abc in book B: 1 ab, rest at 2
     ∷ row bookB (cut (97 ∷ 98 ∷ 99 ∷ [])) (tokens (token 1 (97 ∷ 98 ∷ []) ∷ []) 2)
-    -- "if" gives 1
+    -- if: 1; ifs: 2
     ∷ row bookC (cut (105 ∷ 102 ∷ [])) (tokens (token 1 (105 ∷ 102 ∷ []) ∷ []) 2)
-    -- plain writing: a, b, c is refused 21 at 0
+    ∷ row bookC (cut (105 ∷ 102 ∷ 115 ∷ [])) (tokens (token 2 (105 ∷ 102 ∷ 115 ∷ []) ∷ []) 3)
+    -- printing a, b, c: 21 at 0
     ∷ row bookA (plain (a ∷ b ∷ c ∷ [])) (refusal 21 0)
-    -- c, b, a writes "cba"
+    -- c, b, a: cba
     ∷ row bookA (plain (c ∷ b ∷ a ∷ [])) (bytes (99 ∷ 98 ∷ 97 ∷ []))
-    -- the empty list writes nothing
+    -- the empty list: no byte
     ∷ row bookA (plain []) (bytes [])
-    -- 1 "a", 2 "bc" is refused 21 at 0
+    -- 1 a, 2 bc in book B: 21 at 0
     ∷ row bookB (plain (a ∷ token 2 (98 ∷ 99 ∷ []) ∷ [])) (refusal 21 0)
-    -- spacing by " ": a, b, c in mode 1 "a b c"
+    -- printing a, b, c with a blank, in mode 1
     ∷ row bookA (blanks 1 (a ∷ b ∷ c ∷ [])) (bytes (97 ∷ 32 ∷ 98 ∷ 32 ∷ 99 ∷ []))
-    -- in mode 2 "a bc"
+    -- in mode 2
     ∷ row bookA (blanks 2 (a ∷ b ∷ c ∷ [])) (bytes (97 ∷ 32 ∷ 98 ∷ 99 ∷ []))
     ∷ []
 

@@ -1,4 +1,5 @@
--- "Cutting" of document 01, as a function from what a call is lent to what it answers and leaves behind; and the rest of a text.
+-- Cutting (document 01, 'What each operation refuses'), as a function from what a call is lent to what it answers and leaves behind; and
+-- the rest of a text.
 use mathlib.Core.List.{List, _++_}
 use Prim.Native.Nat.{ℕ, _-_, _*_}
 use lib.Dec.{ltb}
@@ -19,12 +20,12 @@ pub record LexOutcome : Type 0 where
   pub answer : LexAnswer
   pub records : List ℕ
 
--- refused by this number at this place: "Every lent buffer then stands as at entry"
+-- refused by this number at this place, with the records as they were
 abbrev pub lexRefused : ℕ → ℕ → List ℕ → LexOutcome
 lexRefused number place records =
     record { answer = answer.Refused (record { number = number; place = place }); records = records }
 
--- "Accepted: the token count and the place of the rest"; the records of the tokens, and every byte past them as it was
+-- accepted: how many tokens there are and where the rest begins; the records of the tokens, and every byte past them as it was
 abbrev pub lexAccepted : Lexed → List ℕ → List ℕ → LexOutcome
 lexAccepted cut text records =
     record {
@@ -32,8 +33,7 @@ lexAccepted cut text records =
       records = recordsAt 0 (cut .tokens) ++ drop (10 * length (cut .tokens)) records;
     }
 
--- by the rules of an accepted book: "14 text over 65,536 bytes (place 0); 15 fewer records than the cut has tokens (place: tokens in
--- the cut)"
+-- by the rules of an accepted book: 14 where the text is too long, 15 where there are fewer records than tokens, at the number of tokens
 unfoldable pub lexRules : List Rule → List ℕ → List ℕ → LexOutcome
 lexRules rules text records =
     if (ltb maxText (length text)) (lexRefused 14 0 records)
@@ -41,7 +41,7 @@ lexRules rules text records =
     (lexRefused 15 (length ((lex rules text) .tokens)) records)
     (lexAccepted (lex rules text) text records))
 
--- before them "The book's refusals"
+-- the refusals of the book come first
 abbrev pub lexReading : Reading → List ℕ → List ℕ → LexOutcome
 lexReading (refused number place) text records = lexRefused number place records
 lexReading (accepted rules) text records = lexRules rules text records
@@ -50,7 +50,7 @@ lexReading (accepted rules) text records = lexRules rules text records
 unfoldable pub lexOutcome : List ℕ → List ℕ → List ℕ → LexOutcome
 lexOutcome book text records = lexReading (readBook book) text records
 
--- ---- The rest: "where the book is refused or 14 applies it is the whole text".
+-- ---- The rest; the whole text, where the book is refused or 14 applies.
 
 -- 14
 abbrev pub restRules : List Rule → List ℕ → List ℕ
@@ -61,6 +61,6 @@ abbrev pub restReading : Reading → List ℕ → List ℕ
 restReading (refused number place) text = text
 restReading (accepted rules) text = restRules rules text
 
--- "A second call hands back the rest", by the bytes of a book
+-- what the call for the rest hands back ('Cutting', sentence 3), by the bytes of a book
 unfoldable pub restOf : List ℕ → List ℕ → List ℕ
 restOf book text = restReading (readBook book) text

@@ -120,7 +120,7 @@ lex-tags rules h text = tagsFor rules h (length text) text
 
 -- ---- the whole
 
--- For an accepted book, and a text and records within their limits: "a line per token (number, tag, place, length)" and the rest.
+-- For an accepted book, and a text and records within their limits: a line for each token of the cut, and one for the rest.
 pub listing-lexed : (book text records : List ℕ) (rules : List Rule) → ((i : ℕ) → byteAt book i < 256) → readBook book ≡ accepted rules
     → length text ≤ maxText → length ((lex rules text) .tokens) ≤ recordCount records
     → listing book text records

@@ -1,5 +1,5 @@
--- What the program cutlist prints, as bytes in ASCII: "in decimal, a line per token (number, tag, place, length) and last "rest", its
--- place, its length"; "a refusal prints one line alone, "refused", number, place".
+-- What the program cutlist prints, as bytes in ASCII (document 01, 'Sheets of examples'): for each token a line of its number, tag, place
+-- and length in decimal, then a line for the rest; or one line for a refusal.
 use mathlib.Core.List.{List, [], _∷_, _++_}
 use Prim.Native.Nat.{ℕ, _+_, zero, suc, _-_}
 use lib.ListN.{length}
@@ -19,7 +19,7 @@ tokenLine number tag place len = field number blank ++ field tag blank ++ lastTw
 abbrev pub wordLine : List ℕ → ℕ → ℕ → List ℕ
 wordLine word a b = word ++ lastTwo a b
 
--- "rest " and "refused "
+-- the words that begin the line of the rest and that of a refusal
 abbrev pub restWord : List ℕ
 restWord = 114 ∷ 101 ∷ 115 ∷ 116 ∷ blank ∷ []
 
@@ -48,7 +48,7 @@ abbrev pub linesOf : LexAnswer → List ℕ → ℕ → List ℕ
 linesOf (Refused f) records len = refusedLine (f .number) (f .place)
 linesOf (Lexed tokens rest) records len = recordLines records tokens ++ restLine rest (len - rest)
 
--- "It lends 6,000 records"
+-- room for 6,000 records
 abbrev pub recordBytes : ℕ
 recordBytes = 60000
 

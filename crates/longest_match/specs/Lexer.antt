@@ -8,7 +8,7 @@ use lib.ListN.{length, take, drop}
 use Rattle.automaton.specs.Choice.{if}
 use Rattle.automaton.specs.Rule.{Rule, matches}
 
--- "A token is a tag and its bytes."
+-- a token: the tag of a rule and the bytes that it stands for (document 01, 'Tokens', sentence 1)
 pub record Token : Type 0 where
   pub tag : ℕ
   pub bytes : List ℕ
@@ -26,7 +26,7 @@ isSome none = false
 
 -- ---- one token
 
--- the tag of the earliest rule that matches the whole of w: "Rules rank in book order."
+-- the tag of the first rule, in the order of the book, that matches the whole of w
 unfoldable pub firstMatch : List Rule → List ℕ → Option ℕ
 firstMatch [] w = none
 firstMatch (r ∷ rs) w = if (matches r w) (some r.tag) (firstMatch rs w)
@@ -52,7 +52,7 @@ choose rules text = chooseWithin rules text (length text)
 
 -- ---- the whole text
 
--- "the cut": its tokens in order, and the rest, the bytes from the first place at which no rule matches
+-- the paper's cut: its tokens in order, and the rest, the bytes from the first place at which no rule matches
 pub record Lexed : Type 0 where
   pub tokens : List Token
   pub rest : List ℕ
@@ -76,12 +76,12 @@ abbrev pub join : List Token → List ℕ
 join [] = []
 join (t ∷ ts) = t.bytes ++ join ts
 
--- "some rule matches a token's bytes plus a non-empty beginning of what follows", a byte of it more at a time
+-- whether w can be read on: some rule matches w and one or more of the bytes after it, taken one more at a time (refusal 21, and mode 2)
 unfoldable pub extends : List Rule → List ℕ → List ℕ → Bool
 extends rules w [] = false
 extends rules w (b ∷ after) = isSome (firstMatch rules (w ++ (b ∷ []))) || extends rules (w ++ (b ∷ [])) after
 
--- "A token alone is cut as itself": a rule of its tag matches its bytes and no earlier rule does
+-- the token is cut as itself alone: the first rule that matches its bytes has its tag
 abbrev pub Alone : List Rule → Token → Type 0
 Alone rules t = firstMatch rules t.bytes ≡ some t.tag
 

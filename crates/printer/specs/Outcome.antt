@@ -1,4 +1,4 @@
--- "Plain writing" of document 01, as a function from what a call is lent to what it answers and leaves behind.
+-- Plain writing (document 01, 'What each operation refuses'), as a function from what a call is lent to what it answers and leaves behind.
 use mathlib.Core.Bool.{Bool, true, false}
 use mathlib.Core.Option.{Option, none, some}
 use mathlib.Core.List.{List, _++_}

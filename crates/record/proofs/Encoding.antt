@@ -3,15 +3,18 @@ use mathlib.Core.Path.{_≡_, refl, sym, _∙_, ap}
 use mathlib.Core.List.{List, [], _∷_, _++_}
 use Prim.Native.Nat.{ℕ, zero, suc, _+_, _*_, _/_, _%_, _<_, _≤_}
 use native.Mathlib.Omega.{arith}
-use lib.ListN.{length, getD, set, take, drop, drop-of-length-le}
+use lib.ListN.{length, getD, set, take, drop}
 use lib.Seq.{drop-at}
 use Rattle.automaton.specs.Choice.{All}
 use Rattle.record.specs.Records.{recordOf, recordCount}
 use Rattle.big_endian.proofs.Numbers.{two-value, four-value}
 use Rattle.record.specs.Tokens.{recordAt, recordsFrom, recordsOf, tokensIn, tokensOf}
 use Rattle.record.specs.declared.TokenRecord.{TokenRecord}
-use Rattle.record.specs.Encoding.{encoded}
-use Rattle.record.specs.Contracts.{Fits, noRecord}
+use Rattle.record.specs.Encoding.{encoded, Fits}
+use Rattle.record.specs.Contracts.{noRecord}
+
+ten-more : (n : ℕ) → 10 * suc n ≡ suc (suc (suc (suc (suc (suc (suc (suc (suc (suc (10 * n))))))))))
+ten-more n = omega arith
 
 pub length-encoded : (ts : List TokenRecord) → length (encoded ts) ≡ 10 * length ts
 unfolding encoded
@@ -32,9 +35,8 @@ unfolding encoded
 encoded-set [] i t l = absurd (omega arith)
 encoded-set (x ∷ xs) zero t l = refl
 encoded-set (x ∷ xs) (suc i) t l =
-    let q : 10 * suc i ≡ suc (suc (suc (suc (suc (suc (suc (suc (suc (suc (10 * i)))))))))) = omega arith in
     let p : 10 * suc i + 10 ≡ suc (suc (suc (suc (suc (suc (suc (suc (suc (suc (10 * i + 10)))))))))) = omega arith in
-    rw (p, q, encoded-set xs i t (omega arith))
+    rw (p, ten-more i, encoded-set xs i t (omega arith))
 
 -- a record's tag is two bytes
 pub two-bytes : (tag place len : ℕ) → recordOf (tag % 65536) place len ≡ recordOf tag place len
@@ -99,28 +101,40 @@ unfolding recordsFrom
 records-behind t bytes k zero = refl
 records-behind t bytes k (suc n) = rw (behind t bytes k, records-behind t bytes (suc k) n)
 
-said-from : (ts : List TokenRecord) (pool : List ℕ) → All Fits ts → tokensIn pool (recordsFrom (encoded ts) 0 (length ts))
-    ≡ tokensIn pool ts
-unfolding encoded tokensIn recordsFrom
-said-from [] pool f = refl
-said-from (t ∷ ts) pool (f, fs) = rw (front t (encoded ts) f, records-behind t (encoded ts) 0 (length ts), said-from ts pool fs)
+records-from : (ts : List TokenRecord) → All Fits ts → recordsFrom (encoded ts) 0 (length ts) ≡ ts
+unfolding encoded recordsFrom
+records-from [] f = refl
+records-from (t ∷ ts) (f, fs) = rw (front t (encoded ts) f, records-behind t (encoded ts) 0 (length ts), records-from ts fs)
 
--- the token list that the encoding says with a pool is the one that the slice says
-pub tokens-encoded : (ts : List TokenRecord) (pool : List ℕ) → All Fits ts → tokensOf (encoded ts) pool ≡ tokensIn pool ts
+-- the records that the encoding says are the structs of the slice
+pub records-encoded : (ts : List TokenRecord) → All Fits ts → recordsOf (encoded ts) ≡ ts
 unfolding recordsOf
-tokens-encoded ts pool f = rw (count-encoded ts) (said-from ts pool f)
+records-encoded ts f = rw (count-encoded ts) (records-from ts f)
 
--- ---- what lies behind the first n tokens
+-- so it says the same token list with a pool
+pub tokens-encoded : (ts : List TokenRecord) (pool : List ℕ) → All Fits ts → tokensOf (encoded ts) pool ≡ tokensIn pool ts
+tokens-encoded ts pool f = ap (tokensIn pool) (records-encoded ts f)
+
+-- ---- the first n tokens, and what lies behind them
+
+pub take-encoded : (ts : List TokenRecord) (n : ℕ) → take (10 * n) (encoded ts) ≡ encoded (take n ts)
+unfolding encoded
+take-encoded ts zero = refl
+take-encoded [] (suc n) = rw (ten-more n)
+take-encoded (t ∷ ts) (suc n) = rw (ten-more n, take-encoded ts n)
 
 pub drop-encoded : (ts : List TokenRecord) (n : ℕ) → drop (10 * n) (encoded ts) ≡ encoded (drop n ts)
 unfolding encoded
 drop-encoded ts zero = refl
-drop-encoded [] (suc n) = let l : length {A = ℕ} [] ≤ 10 * suc n = omega arith in drop-of-length-le [] l
-drop-encoded (t ∷ ts) (suc n) =
-    let q : 10 * suc n ≡ suc (suc (suc (suc (suc (suc (suc (suc (suc (suc (10 * n)))))))))) = omega arith in
-    rw (q, drop-encoded ts n)
+drop-encoded [] (suc n) = rw (ten-more n)
+drop-encoded (t ∷ ts) (suc n) = rw (ten-more n, drop-encoded ts n)
 
-all-drop : (ts : List TokenRecord) (n : ℕ) → All Fits ts → All Fits (drop n ts)
+pub all-take : (ts : List TokenRecord) (n : ℕ) → All Fits ts → All Fits (take n ts)
+all-take ts zero f = tt
+all-take [] (suc n) f = tt
+all-take (t ∷ ts) (suc n) (f, fs) = (f, all-take ts n fs)
+
+pub all-drop : (ts : List TokenRecord) (n : ℕ) → All Fits ts → All Fits (drop n ts)
 all-drop ts zero f = f
 all-drop [] (suc n) f = tt
 all-drop (t ∷ ts) (suc n) (f, fs) = all-drop ts n fs

@@ -1,4 +1,4 @@
--- "a record is ten bytes: tag two, place four, length four, high byte first".
+-- The ten bytes of a record (document 01, 'Tokens', sentence 5): tag, place and length in two, four and four of them.
 use mathlib.Core.List.{List, [], _∷_, _++_}
 use Prim.Native.Nat.{ℕ, _+_, _/_}
 use lib.ListN.{length}

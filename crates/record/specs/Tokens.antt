@@ -7,7 +7,7 @@ use Rattle.longest_match.specs.Lexer.{Token}
 use Rattle.record.specs.Records.{recordCount}
 use Rattle.record.specs.declared.TokenRecord.{TokenRecord}
 
--- record number k: "tag two, place four, length four"
+-- record number k
 unfoldable pub recordAt : List ℕ → ℕ → TokenRecord
 recordAt records k =
     record { tag = twoAt records (10 * k); place = fourAt records (10 * k + 2); len = fourAt records (10 * k + 6) }
@@ -20,7 +20,7 @@ recordsFrom records k (suc n) = recordAt records k ∷ recordsFrom records (suc 
 unfoldable pub recordsOf : List ℕ → List TokenRecord
 recordsOf records = recordsFrom records 0 (recordCount records)
 
--- the bytes of a record: "a place and a length, both counted in a lent byte pool"
+-- the bytes of a record: so many of the pool's, from its place on
 abbrev pub bytesIn : List ℕ → TokenRecord → List ℕ
 bytesIn pool r = take (r .len) (drop (r .place) pool)
 

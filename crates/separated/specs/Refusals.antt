@@ -24,11 +24,11 @@ unfoldable pub orElse : Option ℕ → Bool → ℕ → Option ℕ
 orElse (some fault) test number = some fault
 orElse none test number = if test (some number) none
 
--- "for the separator token 17, 18, 19, then 25 not of separator kind"
+-- the separator token: the fault of any token, else 25 where no separator rule has its tag
 unfoldable pub separatorFault : List Rule → List ℕ → TokenRecord → Option ℕ
 separatorFault rules pool r = orElse (faultOf rules pool r) (not (separates rules (r .tag))) 25
 
--- "per token 17, 18, 19, then 26 of separator kind"
+-- a token of the list: the fault of any token, else 26 where a separator rule has its tag
 unfoldable pub plainFault : List Rule → List ℕ → TokenRecord → Option ℕ
 plainFault rules pool r = orElse (faultOf rules pool r) (separates rules (r .tag)) 26
 

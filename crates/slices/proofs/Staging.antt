@@ -26,7 +26,7 @@ use Rattle.longest_match.proofs.Held.{held-empty}
 use Rattle.record.specs.Records.{recordCount}
 use Rattle.record.specs.declared.TokenRecord.{TokenRecord}
 use Rattle.record.specs.Tokens.{recordAt, recordsOf, tokensOf}
-use Rattle.record.specs.Contracts.{Fits}
+use Rattle.record.specs.Encoding.{Fits}
 use Rattle.lexer.proofs.Outcomes.{loaded-rules}
 use Rattle.token_list.specs.Faults.{faultOf}
 use Rattle.token_list.specs.Contracts.{Spanned, Faultless}

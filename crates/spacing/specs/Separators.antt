@@ -10,18 +10,18 @@ use Rattle.record.specs.declared.TokenRecord.{TokenRecord}
 use Rattle.record.specs.Tokens.{tokenIn, tokensOf}
 use Rattle.used_bytes.specs.Kinds.{separates}
 
--- "Dropping separators leaves out each token whose tag belongs to a rule of separator kind"
+-- a list without the tokens of separator rules (document 01, 'Words of demand 3', 5)
 unfoldable pub dropSeparators : List Rule → List Token → List Token
 dropSeparators rules [] = []
 dropSeparators rules (t ∷ ts) = if (separates rules t.tag) (dropSeparators rules ts) (t ∷ dropSeparators rules ts)
 
--- "Mode 0 is mode 1."
+-- what a mode stands for: 0 for 1, every other for itself (document 01, 'Used bytes and separators', last sentence)
 unfoldable pub meaning : ℕ → ℕ
 meaning zero = 1
 meaning (suc n) = suc n
 
--- Whether a separator follows t, before what is already put after it: "never after the last"; "Mode 1 puts it between all neighbours";
--- in mode 2 "exactly when some rule matches the token's bytes plus a non-empty beginning of what is already written after it".
+-- Whether a separator follows t, given what is already put after it: not after the last token; in mode 1 after every other; in mode 2 where
+-- t would be read on into what is put after it.
 unfoldable pub follows : List Rule → ℕ → Token → List Token → Bool
 follows rules mode t [] = false
 follows rules mode t (u ∷ us) = eqb (meaning mode) 1 || extends rules t.bytes (join (u ∷ us))
@@ -30,7 +30,7 @@ abbrev pub put : Bool → Token → List Token → List Token
 put true sep ts = sep ∷ ts
 put false sep ts = ts
 
--- the tokens with their separators, "from the last token back"
+-- the tokens with their separators, put together from the last token back
 unfoldable pub separated : List Rule → Token → ℕ → List Token → List Token
 separated rules sep mode [] = []
 separated rules sep mode (t ∷ ts) =

@@ -23,7 +23,7 @@ unfoldable pub firstFault : (TokenRecord → Option ℕ) → List TokenRecord �
 firstFault fault [] k = none
 firstFault fault (r ∷ rs) k = refuseBy (fault r) k (firstFault fault rs (suc k))
 
--- 21: "some rule matches a token's bytes plus a non-empty beginning of what follows (first such token)"
+-- 21, at the first token that can be read on into the bytes of the tokens after it
 unfoldable pub firstExtended : List Rule → List Token → ℕ → Option Refusal
 firstExtended rules [] k = none
 firstExtended rules (t ∷ ts) k = refuse (extends rules t.bytes (join ts)) 21 k (firstExtended rules ts (suc k))

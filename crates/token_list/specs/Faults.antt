@@ -11,13 +11,14 @@ use Rattle.book.specs.Draft.{tagged}
 use Rattle.record.specs.declared.TokenRecord.{TokenRecord}
 use Rattle.record.specs.Tokens.{bytesIn}
 
--- "A token alone is cut as itself when its rule matches its bytes and no earlier rule does": in book order, the rule of the tag
--- comes before any other that matches, and it matches.
+-- The token is cut as itself alone (document 01, 'Used bytes and separators', sentence 3): among the rules, the one of the tag matches, and
+-- none before it does.
 unfoldable pub aloneIn : List Rule → ℕ → List ℕ → Bool
 aloneIn [] tag w = false
 aloneIn (r ∷ rs) tag w = if (eqb r.tag tag) (matches r w) (if (matches r w) false (aloneIn rs tag w))
 
--- The number that refuses a token, if one does: "17 place plus length passes the pool, 18 tag not in the book, 19 not cut as itself alone".
+-- The number that refuses a token, if one does: 17 where it ends behind the pool, 18 where no rule has its tag, 19 where it is not cut as
+-- itself.
 unfoldable pub faultOf : List Rule → List ℕ → TokenRecord → Option ℕ
 faultOf rules pool r =
     if (ltb (length pool) (r .place + r .len)) (some 17)

@@ -1,4 +1,4 @@
--- The bytes that rules use, and refusal 23: "a byte used by both a plain and a separator rule (place: the lowest)".
+-- The bytes that rules use, and refusal 23: the lowest byte that rules of both kinds use.
 use mathlib.Core.Bool.{Bool, _&&_}
 use mathlib.Core.Option.{Option, none, some}
 use mathlib.Core.List.{List}

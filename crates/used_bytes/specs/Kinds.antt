@@ -6,7 +6,7 @@ use lib.Dec.{eqb}
 use Rattle.automaton.specs.Choice.{any}
 use Rattle.automaton.specs.Rule.{Rule}
 
--- "kind (one byte: 0 plain, 1 separator)"
+-- the kinds of a RULE command
 abbrev pub plainKind : ℕ
 plainKind = 0
 

@@ -56,8 +56,8 @@ use Rattle.reader.specs.Contracts.{largeTable}
 use Rattle.reader.proofs.Loading.{lent-large}
 use Rattle.record.specs.Records.{recordCount}
 use Rattle.record.specs.Tokens.{recordAt}
-use Rattle.record.specs.Contracts.{Fits, noRecord}
-use Rattle.record.specs.Encoding.{encoded}
+use Rattle.record.specs.Contracts.{noRecord}
+use Rattle.record.specs.Encoding.{encoded, Fits}
 use Rattle.record.specs.declared.TokenRecord.{TokenRecord}
 use Rattle.record.proofs.Encoding.{length-encoded, count-encoded, record-encoded}
 use Rattle.printer.specs.Contracts.{PrintAnswered}

@@ -1,0 +1,84 @@
+-- How a token list is lent, and what a call answers and leaves: what the contracts of the operations say of it, and no more.
+use mathlib.Core.Path.{_≡_}
+use mathlib.Core.List.{List}
+use Prim.Native.Nat.{ℕ, _*_}
+use lib.ListN.{length, take, drop}
+use Rattle.answer.specs.declared.LexAnswer.{LexAnswer}
+use Rattle.answer.specs.declared.PrintAnswer.{PrintAnswer}
+use Rattle.automaton.specs.Choice.{All}
+use Rattle.longest_match.specs.Lexer.{Token}
+use Rattle.record.specs.Records.{recordCount}
+use Rattle.record.specs.Tokens.{recordsOf, tokensIn}
+use Rattle.record.specs.Encoding.{encoded, Fits}
+use Rattle.record.specs.declared.TokenRecord.{TokenRecord}
+use Rattle.lexer.specs.Outcome.{lexOutcome}
+use Rattle.printer.specs.Outcome.{printOutcome}
+use Rattle.separated.specs.Outcome.{separatedOutcome}
+
+-- ---- forms
+
+-- A list is lent as ten-byte records, to the calls of the player, or as a slice of structs, inside the server (document 01, 'Tokens',
+-- sentences 4 and 5).
+pub data Form : Type 0 where
+  bytes : Form
+  slice : Form
+
+abbrev pub Lent : Form → Type 0
+Lent bytes = List ℕ
+Lent slice = List TokenRecord
+
+-- what the type of a struct sees to
+abbrev pub Typed : (f : Form) → Lent f → Type 0
+Typed bytes l = Unit {0}
+Typed slice l = All Fits l
+
+-- the ten-byte records that it says, of which the outcomes speak
+abbrev pub recordsIn : (f : Form) → Lent f → List ℕ
+recordsIn bytes l = l
+recordsIn slice l = encoded l
+
+-- how many tokens it holds, or has room for
+abbrev pub countIn : (f : Form) → Lent f → ℕ
+countIn bytes l = recordCount l
+countIn slice l = length l
+
+-- the first n of them
+abbrev pub firstIn : (f : Form) → ℕ → Lent f → Lent f
+firstIn bytes n l = take (10 * n) l
+firstIn slice n l = take n l
+
+-- and what lies past these
+abbrev pub pastIn : (f : Form) → ℕ → Lent f → Lent f
+pastIn bytes n l = drop (10 * n) l
+pastIn slice n l = drop n l
+
+-- its records as structs
+abbrev pub structsIn : (f : Form) → Lent f → List TokenRecord
+structsIn bytes l = recordsOf l
+structsIn slice l = l
+
+-- the token list that it says with a pool
+abbrev pub listIn : (f : Form) → Lent f → List ℕ → List Token
+listIn f l pool = tokensIn pool (structsIn f l)
+
+-- ---- calls
+
+-- A call of the cut: the records lent before and after it, and its answer. This is what `lexer::lex` (bytes), `slices::lex_tokens` (slice)
+-- and, with the bytes of the built-in book, `builtin::lex_builtin` (bytes) ensure.
+pub record Cut (f : Form) (book text : List ℕ) (entry exit : Lent f) (r : LexAnswer) : Type 0 where
+  pub entry-typed : Typed f entry
+  pub exit-typed : Typed f exit
+  pub answers : r ≡ (lexOutcome book text (recordsIn f entry)) .answer
+  pub leaves : recordsIn f exit ≡ (lexOutcome book text (recordsIn f entry)) .records
+
+-- A call of the plain printer: the list, its pool, the output before and after the call, and the answer. This is what `printer::print`
+-- (bytes) and `slices::print_tokens` (slice) ensure.
+pub record Print (f : Form) (book : List ℕ) (list : Lent f) (pool entry exit : List ℕ) (r : PrintAnswer) : Type 0 where
+  pub typed : Typed f list
+  pub answers : r ≡ (printOutcome book (recordsIn f list) pool entry) .answer
+  pub leaves : exit ≡ (printOutcome book (recordsIn f list) pool entry) .out
+
+-- A call of the spacing printer with a separator token and a mode, as `separated::print_separated` ensures it.
+pub record Space (book : List ℕ) (sep : TokenRecord) (mode : ℕ) (records pool entry exit : List ℕ) (r : PrintAnswer) : Type 0 where
+  pub answers : r ≡ (separatedOutcome book sep mode records pool entry) .answer
+  pub leaves : exit ≡ (separatedOutcome book sep mode records pool entry) .out

@@ -1,0 +1,118 @@
+#!/bin/sh
+# Runs cutlist on books and texts and compares what it prints: tests/cutlist.sh PROGRAM (as target/bin/cutlist).
+# It goes through what only the program itself shows: files that are missing, a refused book, and its 6,000 records.
+set -u
+program=$(cd "$(dirname "$1")" && pwd)/$(basename "$1")
+dir=$(mktemp -d) || exit 1
+trap 'rm -rf "$dir"' EXIT
+cd "$dir" || exit 1
+failed=0
+
+# What cutlist prints in this folder must be what standard input says; then the folder is emptied for the next case.
+expect() { # NAME
+    cat >../expected.$$
+    "$program" >../printed.$$
+    if cmp -s ../expected.$$ ../printed.$$; then
+        echo "cutlist: $1"
+    else
+        echo "cutlist: $1: FAILED; expected, then printed, the first lines:"
+        head -n 3 ../expected.$$ ../printed.$$
+        failed=1
+    fi
+    rm -f book.bin text.bin ../expected.$$ ../printed.$$
+}
+
+# Book A of document 01: 1 matches a and abc, 2 b, 3 c; 4, a separator, blanks. State 9 is every rule's error state.
+book_a() {
+    printf '\1\0\1\0\2\0\3\11\4\1\4\3\5\0a\1\5\1b\2\5\2c\3\7' >book.bin
+    printf '\1\0\2\0\2\0\3\11\4\1\5\0b\1\7' >>book.bin
+    printf '\1\0\3\0\2\0\3\11\4\1\5\0c\1\7' >>book.bin
+    printf '\1\0\4\1\2\0\3\11\4\1\5\0 \1\5\1 \1\7\10' >>book.bin
+}
+
+# so many times the letter
+letters() { # COUNT LETTER
+    head -c "$1" /dev/zero | tr '\0' "$2"
+}
+
+mkdir case && cd case || exit 1
+
+# document 01's book whose one rule matches a
+printf '\1\0\1\0\2\0\3\2\4\1\5\0a\1\7\10' >book.bin
+printf 'aab' >text.bin
+expect 'the book of 16 bytes' <<'END'
+0 1 0 1
+1 1 1 1
+rest 2 1
+END
+
+book_a
+printf 'a  c' >text.bin
+expect 'blanks between' <<'END'
+0 1 0 1
+1 4 1 2
+2 3 3 1
+rest 4 0
+END
+
+book_a
+printf 'abdab' >text.bin
+expect 'a rest in the middle' <<'END'
+0 1 0 1
+1 2 1 1
+rest 2 3
+END
+
+# the book's second rule has the tag of its first
+book_a
+head -c 25 book.bin >twice.bin
+head -c 25 book.bin >>twice.bin
+mv twice.bin book.bin
+printf 'ab' >text.bin
+expect 'a refused book' <<'END'
+refused 7 25
+END
+
+letters 32769 x >book.bin
+expect 'a book that is too long' <<'END'
+refused 1 0
+END
+
+expect 'no book and no text' <<'END'
+refused 2 0
+END
+
+printf 'ab' >text.bin
+expect 'no book' <<'END'
+refused 2 0
+END
+
+book_a
+expect 'no text' <<'END'
+rest 0 0
+END
+
+book_a
+letters 6000 b >text.bin
+awk 'BEGIN { for (i = 0; i < 6000; i++) print i, 2, i, 1; print "rest 6000 0" }' >../lines
+expect '6,000 tokens' <../lines
+
+book_a
+letters 6001 b >text.bin
+expect '6,001 tokens' <<'END'
+refused 15 6001
+END
+
+book_a
+letters 65536 b >text.bin
+expect 'a text of 65,536 bytes' <<'END'
+refused 15 65536
+END
+
+book_a
+letters 65537 b >text.bin
+expect 'a text of 65,537 bytes' <<'END'
+refused 14 0
+END
+
+exit $failed
