@@ -27,8 +27,8 @@ use Rattle.answer.specs.declared.PrintAnswer.the-variants as print
 -- ==== demand 1
 
 -- That every call ends and does nothing undefined is what the proof of each function shows, and the operations ask nothing of their
--- callers. The contracts equate each answer with an outcome, in every case, so a refusal has the number that the outcome's definition gives.
--- Here: what stands in the lent buffers after a refusal, and past the count after an accepted call.
+-- callers. The contracts equate each answer with an outcome, in every case, so a refusal has the number that the definition of the outcome
+-- gives. Here: what stands in the lent buffers after a refusal, and past the count after an accepted call.
 
 -- a refused cut leaves the records as they were
 abbrev pub RefusedCut : Type 0
