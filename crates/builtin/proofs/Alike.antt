@@ -1,4 +1,4 @@
--- Two bytes of one class are moved alike by every built-in rule: one test, computed over the class table. Assumes nothing.
+-- Bytes of one class lead each built-in rule to the same states: one test, computed over the class table. Assumes nothing.
 use mathlib.Core.Path.{_≡_, refl, sym, _∙_, ap}
 use mathlib.Core.Bool.{Bool, true, false, _||_}
 use mathlib.Core.List.{List, [], _∷_}

@@ -1,9 +1,10 @@
--- The built-in book of document 01: its command bytes, and the rules that they say.
+-- The built-in book: its command bytes, and the rules that they say (document 01, 'The built-in book', sentences 1 to 6). What the rules
+-- match is said in Patterns.
 use mathlib.Core.List.{List, [], _∷_, _++_}
 use Prim.Native.Nat.{ℕ}
 use Rattle.automaton.specs.Rule.{Transition, Rule}
 
--- Tag 1, plain: "[", two digits, ":", two digits, ".", two digits, "]".
+-- a timestamp: sentence 1
 abbrev pub timestampBytes : List ℕ
 timestampBytes =
     0x01 ∷ 0x00 ∷ 0x01 ∷ 0x00 ∷ 0x02 ∷ 0x00 ∷ 0x03 ∷ 0x0B ∷ 0x04 ∷ 0x0A ∷
@@ -19,7 +20,7 @@ timestampBytes =
     0x05 ∷ 0x09 ∷ 0x5D ∷ 0x0A ∷
     0x07 ∷ []
 
--- Tag 2, plain, a word: one or more bytes of 21 to 7E without 5B and 5D, or of 80 to FF.
+-- a word: sentence 2
 abbrev pub wordBytes : List ℕ
 wordBytes =
     0x01 ∷ 0x00 ∷ 0x02 ∷ 0x00 ∷ 0x02 ∷ 0x00 ∷ 0x03 ∷ 0x02 ∷ 0x04 ∷ 0x01 ∷
@@ -33,7 +34,7 @@ wordBytes =
     0x06 ∷ 0x01 ∷ 0x80 ∷ 0xFF ∷ 0x01 ∷
     0x07 ∷ []
 
--- Tag 3, separator: one or more of 20 and 09.
+-- blanks and tabs: sentence 3
 abbrev pub blanksBytes : List ℕ
 blanksBytes =
     0x01 ∷ 0x00 ∷ 0x03 ∷ 0x01 ∷ 0x02 ∷ 0x00 ∷ 0x03 ∷ 0x02 ∷ 0x04 ∷ 0x01 ∷
@@ -43,14 +44,14 @@ blanksBytes =
     0x05 ∷ 0x01 ∷ 0x09 ∷ 0x01 ∷
     0x07 ∷ []
 
--- Tag 4, separator: one 0A.
+-- a newline: sentence 4
 abbrev pub newlineBytes : List ℕ
 newlineBytes =
     0x01 ∷ 0x00 ∷ 0x04 ∷ 0x01 ∷ 0x02 ∷ 0x00 ∷ 0x03 ∷ 0x02 ∷ 0x04 ∷ 0x01 ∷
     0x05 ∷ 0x00 ∷ 0x0A ∷ 0x01 ∷
     0x07 ∷ []
 
--- Tag 5, plain: one 5B or one 5D.
+-- a bracket: sentence 5
 abbrev pub bracketBytes : List ℕ
 bracketBytes =
     0x01 ∷ 0x00 ∷ 0x05 ∷ 0x00 ∷ 0x02 ∷ 0x00 ∷ 0x03 ∷ 0x02 ∷ 0x04 ∷ 0x01 ∷

@@ -1,4 +1,4 @@
--- The byte classes of document 01.
+-- The byte classes of the built-in book (document 01, 'The built-in book', sentences 6 and 7).
 use mathlib.Core.Path.{_≡_}
 use mathlib.Core.Bool.{Bool, _&&_, _||_}
 use mathlib.Core.List.{List, [], _∷_}
@@ -12,7 +12,7 @@ use Rattle.builtin.specs.Book.{builtinRules}
 abbrev pub within : ℕ → ℕ → ℕ → Bool
 within low high b = leb low b && leb b high
 
--- "0 for 00–08, 0B–1F and 7F; 1 for 09 and 20; 2 for 0A; 3 for 30–39; 4 for 5B; 5 for 5D; 6 for 3A; 7 for 2E; 8 for all else"
+-- the class of a byte: the list in sentence 6
 unfoldable pub classOf : ℕ → ℕ
 classOf b =
     if (within 0x00 0x08 b || (within 0x0B 0x1F b || eqb b 0x7F)) 0
@@ -29,13 +29,13 @@ unfoldable pub tabulate : (ℕ → ℕ) → ℕ → ℕ → List ℕ
 tabulate f i zero = []
 tabulate f i (suc n) = f i ∷ tabulate f (suc i) n
 
--- "a table of 256 byte classes"
+-- the classes of all bytes
 unfoldable pub classTable : List ℕ
 classTable = tabulate classOf 0 256
 
 abbrev pub classAt : ℕ → ℕ
 classAt b = getD classTable b 0
 
--- "Two bytes of one class are moved alike by every rule", from every state.
+-- From each state of each rule, bytes of one class lead to the same state: sentence 7, its first half.
 abbrev pub MovedAlike : Type 0
 MovedAlike = All (λ (r : Rule). (s a b : ℕ) → a < 256 → b < 256 → classAt a ≡ classAt b → step r s a ≡ step r s b) builtinRules

@@ -1,4 +1,4 @@
-// The built-in book of document 01 as command bytes.
+// The command bytes of the built-in book (document 01, 'The built-in book', sentence 6).
 ghost use mathlib.Core.Path.{_≡_};
 ghost use Rattle.builtin.specs.Book.{builtinBytes};
 

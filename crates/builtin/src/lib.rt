@@ -99,7 +99,8 @@ fn lex_lent(
     }
 }
 
-// Lexes `text` by the built-in book: the same as lexing it by the book's command bytes.
+// Lexes `text` by the built-in book. Answer and records are those of `lexer::lex` with the book's command bytes (document 01,
+// 'The built-in book', sentence 7, its second half).
 pub fn lex_builtin(text: &[u8], records: &mut [u8]) -> LexAnswer
     ensures { λ r. ⌜ r ≡ (lexOutcome builtinBytes (now (text .entry)) (now (records .entry))) .answer ⌝ }
     ensures { λ r. ⌜ now (records .exit) ≡ (lexOutcome builtinBytes (now (text .entry)) (now (records .entry))) .records ⌝ }

@@ -1,4 +1,4 @@
-// The byte classes of document 01, and one automaton for all five built-in rules.
+// The byte classes (document 01, 'The built-in book', sentence 6), and one automaton for all five built-in rules.
 // A local array of each is made once for a text and lent to the loops: a constant that is indexed in a loop would be laid out anew
 // at every turn.
 ghost use mathlib.Core.Path.{_≡_};
