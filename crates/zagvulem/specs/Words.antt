@@ -1,14 +1,18 @@
 -- An answer in 64 bits: bits 56 to 63 the refusal's number, 0 where accepted. Refused: bits 0 to 55 the place. Accepted: bits 28 to 55
 -- the first value, bits 0 to 27 the second. A value that has more bits than its part is answered as the largest of the part: no
 -- buffer that a machine can lend has such a place, and no accepted call such a value.
-use Prim.Native.Nat.{ℕ, _+_, _*_, min}
+use Prim.Native.Nat.{ℕ, _+_, _*_, _/_, _%_, min}
+use lib.Dec.{eqb}
 use Rattle.answer.specs.declared.Refusal.{Refusal}
 use Rattle.answer.specs.declared.BookAnswer.{BookAnswer}
 use Rattle.answer.specs.declared.LexAnswer.{LexAnswer}
 use Rattle.answer.specs.declared.PrintAnswer.{PrintAnswer}
+use Rattle.automaton.specs.Choice.{if}
 use Rattle.answer.specs.declared.BookAnswer.the-variants as book
 use Rattle.answer.specs.declared.LexAnswer.the-variants as lexer
 use Rattle.answer.specs.declared.PrintAnswer.the-variants as printer
+
+-- ---- An answer's word.
 
 abbrev pub largestPlace : ℕ
 largestPlace = 72057594037927935
@@ -36,3 +40,29 @@ lexWord (lexer.Refused f) = refusalWord f
 abbrev pub printWord : PrintAnswer → ℕ
 printWord (printer.Printed bytes) = acceptedWord bytes 0
 printWord (printer.Refused f) = refusalWord f
+
+-- ---- What a word says, as zgv_number, zgv_place, zgv_first and zgv_second of include/zagvulem.h read it.
+
+abbrev pub numberIn : ℕ → ℕ
+numberIn w = w / 72057594037927936
+
+abbrev pub placeIn : ℕ → ℕ
+placeIn w = w % 72057594037927936
+
+abbrev pub firstIn : ℕ → ℕ
+firstIn w = w / 268435456 % 268435456
+
+abbrev pub secondIn : ℕ → ℕ
+secondIn w = w % 268435456
+
+abbrev pub refusalIn : ℕ → Refusal
+refusalIn w = record { number = numberIn w; place = placeIn w }
+
+abbrev pub bookAnswerIn : ℕ → BookAnswer
+bookAnswerIn w = if (eqb (numberIn w) 0) (book.Accepted (firstIn w)) (book.Refused (refusalIn w))
+
+abbrev pub lexAnswerIn : ℕ → LexAnswer
+lexAnswerIn w = if (eqb (numberIn w) 0) (lexer.Lexed (firstIn w) (secondIn w)) (lexer.Refused (refusalIn w))
+
+abbrev pub printAnswerIn : ℕ → PrintAnswer
+printAnswerIn w = if (eqb (numberIn w) 0) (printer.Printed (firstIn w)) (printer.Refused (refusalIn w))

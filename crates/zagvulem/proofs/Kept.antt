@@ -1,0 +1,93 @@
+-- An answer is had back from its word. Assumes nothing.
+use mathlib.Core.Path.{_≡_, refl}
+use mathlib.Core.Bool.{false}
+use mathlib.Core.List.{List}
+use Prim.Native.Nat.{ℕ, _≤_}
+use native.Mathlib.Nat.{max-le}
+use native.Mathlib.Omega.{arith}
+use lib.Dec.{eqb}
+use borrow.Author.Tests.{ne-eqb}
+use Rattle.answer.specs.declared.Refusal.{Refusal}
+use Rattle.answer.specs.declared.BookAnswer.{BookAnswer}
+use Rattle.answer.specs.declared.LexAnswer.{LexAnswer}
+use Rattle.answer.specs.declared.PrintAnswer.{PrintAnswer}
+use Rattle.automaton.specs.Choice.{among}
+use Rattle.automaton.proofs.Tests.{clash}
+use Rattle.book.specs.Limits.{maxText}
+use Rattle.reader.specs.Reading.{readBook, answer}
+use Rattle.lexer.specs.Outcome.{lexOutcome}
+use Rattle.printer.specs.Outcome.{printOutcome}
+use Rattle.separated.specs.Outcome.{separatedOutcome}
+use Rattle.zagvulem.specs.Words.{largestPlace, largestValue, refusalWord, acceptedWord, bookWord, lexWord, printWord}
+use Rattle.zagvulem.specs.Words.{numberIn, placeIn, firstIn, secondIn, refusalIn, bookAnswerIn, lexAnswerIn, printAnswerIn}
+use Rattle.zagvulem.specs.Numbers.{printNumbers, separatedNumbers, Refused}
+use Rattle.zagvulem.specs.Kept.{BookWordKept, LexWordKept, PrintWordKept, SeparatedWordKept}
+use Rattle.zagvulem.proofs.Refused.{BookWithin, LexWithin, PrintWithin, book-within, lex-within, print-within}
+use Rattle.zagvulem.proofs.Refused.{farthest, separated-within}
+use Rattle.answer.specs.declared.BookAnswer.the-variants as books
+use Rattle.answer.specs.declared.LexAnswer.the-variants as lexes
+use Rattle.answer.specs.declared.PrintAnswer.the-variants as prints
+
+-- ---- words
+
+-- two values, each in its part
+module _ (first second : ℕ) (l : first ≤ largestValue) (m : second ≤ largestValue) where
+  accepted-number : numberIn (acceptedWord first second) ≡ 0
+  accepted-number = omega arith
+
+  accepted-first : firstIn (acceptedWord first second) ≡ first
+  accepted-first = omega arith
+
+  accepted-second : secondIn (acceptedWord first second) ≡ second
+  accepted-second = omega arith
+
+-- a refusal, by a number other than 0 and at a place in its part
+module _ {numbers : List ℕ} {most : ℕ} {f : Refusal} (r : Refused numbers most f) (l : most ≤ largestPlace) where
+  refused-number : numberIn (refusalWord f) ≡ f .number
+  refused-number = omega (arith, r .place-within)
+
+  refused-place : placeIn (refusalWord f) ≡ f .place
+  refused-place = omega (arith, r .place-within)
+
+  refusal-kept : refusalIn (refusalWord f) ≡ f
+  refusal-kept = rw (refused-number, refused-place)
+
+  refused-some : among 0 numbers ≡ false → eqb (numberIn (refusalWord f)) 0 ≡ false
+  refused-some e = rw refused-number (ne-eqb (f .number) 0 (λ z. clash (rw z at (r .number-among)) e))
+
+-- ---- answers
+
+book-kept : (a : BookAnswer) → BookWithin a → bookAnswerIn (bookWord a) ≡ a
+book-kept (books.Accepted n) w = rw (accepted-number n 0 (omega arith) (omega arith), accepted-first n 0 (omega arith) (omega arith))
+book-kept (books.Refused f) w = rw (refused-some w (omega arith) refl, refusal-kept w (omega arith))
+
+lex-kept : (a : LexAnswer) → LexWithin a → lexAnswerIn (lexWord a) ≡ a
+lex-kept (lexes.Lexed tokens rest) (l, m) = rw (
+  accepted-number tokens rest (omega arith) (omega arith),
+  accepted-first tokens rest (omega arith) (omega arith),
+  accepted-second tokens rest (omega arith) (omega arith),
+)
+lex-kept (lexes.Refused f) w = rw (refused-some w (omega arith) refl, refusal-kept w (omega arith))
+
+print-kept : (numbers : List ℕ) (most : ℕ) → among 0 numbers ≡ false → most ≤ largestPlace → (a : PrintAnswer)
+    → PrintWithin numbers most a → printAnswerIn (printWord a) ≡ a
+print-kept numbers most e l (prints.Printed n) w =
+    rw (accepted-number n 0 (omega arith) (omega arith), accepted-first n 0 (omega arith) (omega arith))
+print-kept numbers most e l (prints.Refused f) w = rw (refused-some w l e, refusal-kept w l)
+
+-- ---- calls
+
+pub book-word-kept : BookWordKept
+book-word-kept book = book-kept (answer (readBook book)) (book-within book)
+
+pub lex-word-kept : LexWordKept
+lex-word-kept book text records = lex-kept ((lexOutcome book text records) .answer) (lex-within book text records)
+
+pub print-word-kept : PrintWordKept
+print-word-kept book records pool out =
+    print-kept printNumbers maxText refl (omega arith) ((printOutcome book records pool out) .answer) (print-within book records pool out)
+
+pub separated-word-kept : SeparatedWordKept
+separated-word-kept book sep mode records pool out l =
+    print-kept separatedNumbers (farthest records) refl (max-le (omega arith) l) ((separatedOutcome book sep mode records pool out) .answer)
+    (separated-within book sep mode records pool out)

@@ -1,0 +1,34 @@
+-- An answer's word loses nothing: read as C reads it, it says the answer of the call, in every case.
+use mathlib.Core.Path.{_≡_}
+use mathlib.Core.List.{List}
+use Prim.Native.Nat.{ℕ, _≤_}
+use Rattle.reader.specs.Reading.{readBook, answer}
+use Rattle.record.specs.Records.{recordCount}
+use Rattle.record.specs.declared.TokenRecord.{TokenRecord}
+use Rattle.lexer.specs.Outcome.{lexOutcome}
+use Rattle.printer.specs.Outcome.{printOutcome}
+use Rattle.separated.specs.Outcome.{separatedOutcome}
+use Rattle.zagvulem.specs.Words.{largestPlace, bookWord, lexWord, printWord, bookAnswerIn, lexAnswerIn, printAnswerIn}
+
+-- zgv_read_book
+abbrev pub BookWordKept : Type 0
+BookWordKept = (book : List ℕ) → bookAnswerIn (bookWord (answer (readBook book))) ≡ answer (readBook book)
+
+-- zgv_lex, and zgv_lex_builtin, whose book is `builtinBytes`
+abbrev pub LexWordKept : Type 0
+LexWordKept =
+    (book text records : List ℕ)
+    → lexAnswerIn (lexWord ((lexOutcome book text records) .answer)) ≡ (lexOutcome book text records) .answer
+
+-- zgv_print
+abbrev pub PrintWordKept : Type 0
+PrintWordKept =
+    (book records pool out : List ℕ)
+    → printAnswerIn (printWord ((printOutcome book records pool out) .answer)) ≡ (printOutcome book records pool out) .answer
+
+-- zgv_print_separated: the separator token is refused at the list's length, which no limit holds down
+abbrev pub SeparatedWordKept : Type 0
+SeparatedWordKept =
+    (book : List ℕ) (sep : TokenRecord) (mode : ℕ) (records pool out : List ℕ) → recordCount records ≤ largestPlace
+    → printAnswerIn (printWord ((separatedOutcome book sep mode records pool out) .answer))
+    ≡ (separatedOutcome book sep mode records pool out) .answer

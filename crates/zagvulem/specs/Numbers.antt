@@ -1,0 +1,28 @@
+-- The numbers by which each operation refuses (document 01, 'What each operation refuses').
+use mathlib.Core.Path.{_≡_}
+use mathlib.Core.Bool.{true}
+use mathlib.Core.List.{List, [], _∷_, _++_}
+use Prim.Native.Nat.{ℕ, _≤_}
+use Rattle.answer.specs.declared.Refusal.{Refusal}
+use Rattle.automaton.specs.Choice.{among}
+
+-- reading a book
+abbrev pub bookNumbers : List ℕ
+bookNumbers = 1 ∷ 2 ∷ 3 ∷ 4 ∷ 5 ∷ 6 ∷ 7 ∷ 8 ∷ 9 ∷ 10 ∷ 11 ∷ 12 ∷ 13 ∷ []
+
+-- cutting
+abbrev pub lexNumbers : List ℕ
+lexNumbers = bookNumbers ++ (14 ∷ 15 ∷ [])
+
+-- plain writing
+abbrev pub printNumbers : List ℕ
+printNumbers = bookNumbers ++ (16 ∷ 17 ∷ 18 ∷ 19 ∷ 20 ∷ 21 ∷ 22 ∷ [])
+
+-- spacing
+abbrev pub separatedNumbers : List ℕ
+separatedNumbers = bookNumbers ++ (23 ∷ 24 ∷ 17 ∷ 18 ∷ 19 ∷ 25 ∷ 16 ∷ 26 ∷ 20 ∷ 22 ∷ [])
+
+-- a refusal by one of these numbers, at a place of at most `most`
+pub record Refused (numbers : List ℕ) (most : ℕ) (f : Refusal) : Type 0 where
+  pub number-among : among (f .number) numbers ≡ true
+  pub place-within : f .place ≤ most
