@@ -36,6 +36,7 @@ use Rattle.separated.proofs.RoundTrip.{spelled-rest, spelled-back, spelled-inje
 use Rattle.separated.proofs.Sides.{all-map}
 use Rattle.builtin.specs.Book.{builtinBytes, builtinRules}
 use Rattle.builtin.proofs.Accepted.{read-builtin}
+use Rattle.zagvulem.proofs.Refused.{lex-refused, print-refused, separated-refused}
 use Rattle.demands.specs.Calls.{Form, Lent, recordsIn, countIn, firstIn, pastIn, listIn, Cut, Print, Space}
 use Rattle.demands.specs.Words.{Bytes, Book, LongestMatch, Unrefused}
 use Rattle.demands.specs.Demands.{RefusedCut, PastTheTokens, RefusedPrint, RefusedSpace, PastTheBytes, PastTheSpaced}
@@ -55,9 +56,11 @@ use Rattle.printer.proofs.RoundTrip as trip
 -- ==== demand 1
 
 pub refused-cut : RefusedCut
-refused-cut f book text entry exit r c =
-    same-in f exit entry (c .exit-typed) (c .entry-typed)
-    (c .leaves ∙ cut-leaves text (recordsIn f entry) book r (sym (c .answers)))
+refused-cut f book text entry exit r c = (
+  lex-refused book text (recordsIn f entry) r (sym (c .answers)) .number-among,
+  same-in f exit entry (c .exit-typed) (c .entry-typed)
+      (c .leaves ∙ cut-leaves text (recordsIn f entry) book r (sym (c .answers))),
+)
 
 pub past-the-tokens : PastTheTokens
 past-the-tokens f book text entry exit n place c =
@@ -66,10 +69,16 @@ past-the-tokens f book text entry exit n place c =
     (sym (past-in f n exit) ∙ ap (drop (10 * n)) (c .leaves) ∙ q ∙ past-in f n entry)
 
 pub refused-print : RefusedPrint
-refused-print f book list pool entry exit r c = c .leaves ∙ print-leaves entry (recordsIn f list) pool book r (sym (c .answers))
+refused-print f book list pool entry exit r c = (
+  print-refused book (recordsIn f list) pool entry r (sym (c .answers)) .number-among,
+  c .leaves ∙ print-leaves entry (recordsIn f list) pool book r (sym (c .answers)),
+)
 
 pub refused-space : RefusedSpace
-refused-space book sep mode records pool entry exit r c = c .leaves ∙ space-leaves entry records pool sep mode book r (sym (c .answers))
+refused-space book sep mode records pool entry exit r c = (
+  separated-refused book sep mode records pool entry r (sym (c .answers)) .number-among,
+  c .leaves ∙ space-leaves entry records pool sep mode book r (sym (c .answers)),
+)
 
 pub past-the-bytes : PastTheBytes
 past-the-bytes f book list pool entry exit n c = ap (drop n) (c .leaves)

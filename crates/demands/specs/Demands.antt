@@ -9,7 +9,7 @@ use lib.ListN.{length, take, drop}
 use Rattle.answer.specs.declared.LexAnswer.{LexAnswer}
 use Rattle.answer.specs.declared.PrintAnswer.{PrintAnswer}
 use Rattle.answer.specs.declared.Refusal.{Refusal}
-use Rattle.automaton.specs.Choice.{All}
+use Rattle.automaton.specs.Choice.{All, among}
 use Rattle.automaton.specs.Rule.{Rule, matches}
 use Rattle.book.specs.Draft.{tagged}
 use Rattle.book.specs.Limits.{maxText}
@@ -19,6 +19,7 @@ use Rattle.record.specs.declared.TokenRecord.{TokenRecord}
 use Rattle.token_list.specs.Faults.{aloneIn}
 use Rattle.spacing.specs.Separators.{dropSeparators, spelled}
 use Rattle.builtin.specs.Book.{builtinBytes, builtinRules}
+use Rattle.zagvulem.specs.Numbers.{lexNumbers, printNumbers, separatedNumbers}
 use Rattle.demands.specs.Calls.{Form, Lent, countIn, firstIn, pastIn, listIn, Cut, Print, Space}
 use Rattle.demands.specs.Words.{Book, LongestMatch, Separable, Unlimited, Unrefused}
 use Rattle.answer.specs.declared.LexAnswer.the-variants as lexed
@@ -28,26 +29,27 @@ use Rattle.answer.specs.declared.PrintAnswer.the-variants as print
 
 -- That every call ends and does nothing undefined is what the proof of each function shows, and the operations ask nothing of their
 -- callers. The contracts equate each answer with an outcome, in every case, so a refusal has the number that the definition of the outcome
--- gives. Here: what stands in the lent buffers after a refusal, and past the count after an accepted call.
+-- gives. Here: that the number is one of the operation's own, what stands in the lent buffers after a refusal, and past the count after an
+-- accepted call.
 
--- a refused cut leaves the records as they were
+-- a refused cut is refused by one of its numbers, and leaves the records as they were
 abbrev pub RefusedCut : Type 0
 RefusedCut = (f : Form) (book text : List ℕ) (entry exit : Lent f) (r : Refusal) → Cut f book text entry exit (lexed.Refused r)
-    → exit ≡ entry
+    → (among (r .number) lexNumbers ≡ true) × (exit ≡ entry)
 
 -- an accepted one leaves what lies past its tokens
 abbrev pub PastTheTokens : Type 0
 PastTheTokens = (f : Form) (book text : List ℕ) (entry exit : Lent f) (n place : ℕ) → Cut f book text entry exit (lexed.Lexed n place)
     → pastIn f n exit ≡ pastIn f n entry
 
--- a printer that refuses leaves the output as it was
+-- a printer that refuses does so by one of its numbers, and leaves the output as it was
 abbrev pub RefusedPrint : Type 0
 RefusedPrint = (f : Form) (book : List ℕ) (list : Lent f) (pool entry exit : List ℕ) (r : Refusal)
-    → Print f book list pool entry exit (print.Refused r) → exit ≡ entry
+    → Print f book list pool entry exit (print.Refused r) → (among (r .number) printNumbers ≡ true) × (exit ≡ entry)
 
 abbrev pub RefusedSpace : Type 0
 RefusedSpace = (book : List ℕ) (sep : TokenRecord) (mode : ℕ) (records pool entry exit : List ℕ) (r : Refusal)
-    → Space book sep mode records pool entry exit (print.Refused r) → exit ≡ entry
+    → Space book sep mode records pool entry exit (print.Refused r) → (among (r .number) separatedNumbers ≡ true) × (exit ≡ entry)
 
 -- one that accepts leaves what lies past the bytes that it wrote
 abbrev pub PastTheBytes : Type 0
