@@ -89,10 +89,10 @@ word-ranges b = go (byte 0x5B b) (byte 0x5C b) (byte 0x5D b) (leb b 0x5A) refl r
     go false false true t p q r o = rw (eqb-true b 0x5D r)
     go false false false true p q r o =
         let l : b ≤ 0x5A = leb-true b 0x5A o in
-        rw (p, q, r, o, lt-leb 0x5E b (omega arith), le-leb b 0x7E (omega arith)) (simp (or-false, and-true))
+        simp (p, q, r, o, lt-leb 0x5E b (omega arith), le-leb b 0x7E (omega arith), or-false, and-true)
     go false false false false p q r o =
         let l : 0x5E ≤ b = omega (arith, eqb-false b 0x5B p, eqb-false b 0x5C q, eqb-false b 0x5D r, leb-false b 0x5A o) in
-        rw (p, q, r, o, le-leb 0x5E b l, le-leb 0x21 b (omega arith)) (simp and-true)
+        simp (p, q, r, o, le-leb 0x5E b l, le-leb 0x21 b (omega arith), and-true)
 
 -- ---- the five rules
 
@@ -140,6 +140,4 @@ rules-say = (
 )
 
 pub builtin-patterns : BuiltinPatterns
-builtin-patterns rules e =
-    let q : builtinRules ≡ rules = cc read-builtin in
-    rw (← q) rules-say
+builtin-patterns = (read-builtin, rules-say)

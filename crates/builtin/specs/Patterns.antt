@@ -7,7 +7,7 @@ use Prim.Native.Nat.{ℕ}
 use lib.Dec.{eqb}
 use Rattle.automaton.specs.Rule.{Rule, matches}
 use Rattle.reader.specs.Reading.{readBook, accepted}
-use Rattle.builtin.specs.Book.{builtinBytes}
+use Rattle.builtin.specs.Book.{builtinBytes, builtinRules}
 use Rattle.builtin.specs.Classes.{within}
 
 -- ---- byte strings
@@ -79,6 +79,6 @@ Pairwise R [] (y ∷ ys) = ⊥
 Pairwise R (x ∷ xs) [] = ⊥
 Pairwise R (x ∷ xs) (y ∷ ys) = R x y × Pairwise R xs ys
 
--- the rules that the command bytes are read as are those that the patterns say, in this order
+-- the command bytes are read as the book's rules, and these are what the patterns say, in this order
 abbrev pub BuiltinPatterns : Type 0
-BuiltinPatterns = (rules : List Rule) → readBook builtinBytes ≡ accepted rules → Pairwise Says patterns rules
+BuiltinPatterns = (readBook builtinBytes ≡ accepted builtinRules) × Pairwise Says patterns builtinRules
