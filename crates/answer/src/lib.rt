@@ -77,6 +77,20 @@ impl BookAnswer {
     }
 }
 
+// What asking for one rule of a book answers: its tag and its kind, or a refusal.
+pub enum RuleAnswer {
+    Rule { tag: usize, kind: usize },
+    Refused(Refusal),
+}
+
+impl RuleAnswer {
+    pub fn refused(number: u8, place: usize) -> RuleAnswer
+        ensures { λ r. ⌜ r ≡ RuleAnswer.Refused (record { number = number; place = place }) ⌝ }
+    {
+        RuleAnswer::Refused(Refusal { number, place })
+    }
+}
+
 // What lexing a text answers: the number of tokens and the place of the rest, or a refusal.
 pub enum LexAnswer {
     Lexed { tokens: usize, rest: usize },

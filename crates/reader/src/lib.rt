@@ -1,17 +1,22 @@
-// The reader of rule books: `read` answers the number of rules or the refusal; `load` fills a lent table, for the crates that use the
-// rules.
+// The reader of rule books: `read` answers the number of rules or the refusal, `rule` the tag and kind of one rule; `load` fills a lent
+// table, for the crates that use the rules.
 use answer::BookAnswer;
 use answer::Refusal;
+use answer::RuleAnswer;
 use automaton::STATES;
 use book::Book;
 use book::Progress;
 use command::Cursor;
 use command::Decoded;
 ghost use mathlib.Core.Path.{_≡_};
+ghost use mathlib.Core.List.{List};
 ghost use Prim.Native.Nat.{_≤_};
 ghost use lib.ListN.{length};
+ghost use Rattle.automaton.specs.Rule.{Rule};
+ghost use Rattle.automaton.specs.Contracts.{Holds, Held};
 ghost use Rattle.book.specs.Contracts.{Fresh};
 ghost use Rattle.reader.specs.Reading.{readBook, answer};
+ghost use Rattle.reader.specs.Rules.{numbered, ruleAnswer, ruleOutcome};
 ghost use Rattle.reader.specs.Contracts.{smallBook, Lent, Loaded};
 
 // Checks a book and fills the table with its rules; where the book is refused, what it holds is of no account.
@@ -84,4 +89,54 @@ fn read_large(book: &[u8]) -> BookAnswer
 {
     let mut table = [0u64; Book::TABLE];
     load(book, &mut table)
+}
+
+// The tag and the kind of rule number `index`, from 0, or the refusal: the book's, or 18 past the last rule, its place the number of rules.
+pub fn rule(book: &[u8], index: usize) -> RuleAnswer
+    ensures { λ r. ⌜ r ≡ ruleOutcome (now (book .entry)) index ⌝ }
+{
+    if book.len() <= Book::SMALL {
+        rule_small(book, index)
+    } else {
+        rule_large(book, index)
+    }
+}
+
+fn rule_small(book: &[u8], index: usize) -> RuleAnswer
+    requires { ⌜ length (now book) ≤ smallBook ⌝ }
+    ensures { λ r. ⌜ r ≡ ruleOutcome (now (book .entry)) index ⌝ }
+{
+    let mut table = [0u64; Book::SMALL_TABLE];
+    rule_with(book, &mut table, index)
+}
+
+fn rule_large(book: &[u8], index: usize) -> RuleAnswer
+    ensures { λ r. ⌜ r ≡ ruleOutcome (now (book .entry)) index ⌝ }
+{
+    let mut table = [0u64; Book::TABLE];
+    rule_with(book, &mut table, index)
+}
+
+fn rule_with(book: &[u8], table: &mut [u64], index: usize) -> RuleAnswer
+    requires { ⌜ Lent (length (now book)) (now table) ⌝ }
+    ensures { λ r. ⌜ r ≡ ruleOutcome (now (book .entry)) index ⌝ }
+{
+    match load(book, table) {
+        BookAnswer::Accepted(_) => rule_in(table, index),
+        BookAnswer::Refused(refusal) => RuleAnswer::Refused(refusal),
+    }
+}
+
+// Among the rules that the table holds.
+fn rule_in(table: &[u64], index: usize) -> RuleAnswer
+    requires { ⌜ Held (now table) ⌝ }
+    ensures { λ r. ⌜ ((rs : List Rule) → Holds (now (table .entry)) rs → r ≡ ruleAnswer (numbered rs index) (length rs)) ⌝ }
+{
+    let rules = automaton::count_of(table);
+    if rules <= index {
+        return RuleAnswer::refused(Refusal::UNKNOWN_TAG, rules);
+    }
+    let tag = automaton::tag_of(table, index) as usize;
+    let kind = automaton::kind_of(table, index) as usize;
+    RuleAnswer::Rule { tag, kind }
 }

@@ -9,22 +9,26 @@ use lib.Dec.{eqb}
 use borrow.Author.Tests.{ne-eqb}
 use Rattle.answer.specs.declared.Refusal.{Refusal}
 use Rattle.answer.specs.declared.BookAnswer.{BookAnswer}
+use Rattle.answer.specs.declared.RuleAnswer.{RuleAnswer}
 use Rattle.answer.specs.declared.LexAnswer.{LexAnswer}
 use Rattle.answer.specs.declared.PrintAnswer.{PrintAnswer}
 use Rattle.automaton.specs.Choice.{among}
 use Rattle.automaton.proofs.Tests.{clash}
 use Rattle.book.specs.Limits.{maxText}
 use Rattle.reader.specs.Reading.{readBook, answer}
+use Rattle.reader.specs.Rules.{ruleOutcome}
 use Rattle.lexer.specs.Outcome.{lexOutcome}
 use Rattle.printer.specs.Outcome.{printOutcome}
 use Rattle.separated.specs.Outcome.{separatedOutcome}
-use Rattle.zagvulem.specs.Words.{largestPlace, largestValue, refusalWord, acceptedWord, bookWord, lexWord, printWord}
-use Rattle.zagvulem.specs.Words.{numberIn, placeIn, firstIn, secondIn, refusalIn, bookAnswerIn, lexAnswerIn, printAnswerIn}
+use Rattle.zagvulem.specs.Words.{largestPlace, largestValue, refusalWord, acceptedWord, bookWord, ruleWord, lexWord, printWord}
+use Rattle.zagvulem.specs.Words.{numberIn, placeIn, firstIn, secondIn, refusalIn}
+use Rattle.zagvulem.specs.Words.{bookAnswerIn, ruleAnswerIn, lexAnswerIn, printAnswerIn}
 use Rattle.zagvulem.specs.Numbers.{printNumbers, separatedNumbers, Refused}
-use Rattle.zagvulem.specs.Kept.{BookWordKept, LexWordKept, PrintWordKept, SeparatedWordKept}
-use Rattle.zagvulem.proofs.Refused.{BookWithin, LexWithin, PrintWithin, book-within, lex-within, print-within}
-use Rattle.zagvulem.proofs.Refused.{farthest, separated-within}
+use Rattle.zagvulem.specs.Kept.{BookWordKept, RuleWordKept, LexWordKept, PrintWordKept, SeparatedWordKept}
+use Rattle.zagvulem.proofs.Refused.{BookWithin, RuleWithin, TagAndKind, LexWithin, PrintWithin, farthest}
+use Rattle.zagvulem.proofs.Refused.{book-within, rule-within, lex-within, print-within, separated-within}
 use Rattle.answer.specs.declared.BookAnswer.the-variants as books
+use Rattle.answer.specs.declared.RuleAnswer.the-variants as ruled
 use Rattle.answer.specs.declared.LexAnswer.the-variants as lexes
 use Rattle.answer.specs.declared.PrintAnswer.the-variants as prints
 
@@ -61,6 +65,14 @@ book-kept : (a : BookAnswer) → BookWithin a → bookAnswerIn (bookWord a) ≡ 
 book-kept (books.Accepted n) w = rw (accepted-number n 0 (omega arith) (omega arith), accepted-first n 0 (omega arith) (omega arith))
 book-kept (books.Refused f) w = rw (refused-some w (omega arith) refl, refusal-kept w (omega arith))
 
+rule-kept : (a : RuleAnswer) → RuleWithin TagAndKind a → ruleAnswerIn (ruleWord a) ≡ a
+rule-kept (ruled.Rule tag kind) (l, m) = rw (
+  accepted-number tag kind (omega arith) (omega arith),
+  accepted-first tag kind (omega arith) (omega arith),
+  accepted-second tag kind (omega arith) (omega arith),
+)
+rule-kept (ruled.Refused f) w = rw (refused-some w (omega arith) refl, refusal-kept w (omega arith))
+
 lex-kept : (a : LexAnswer) → LexWithin a → lexAnswerIn (lexWord a) ≡ a
 lex-kept (lexes.Lexed tokens rest) (l, m) = rw (
   accepted-number tokens rest (omega arith) (omega arith),
@@ -79,6 +91,9 @@ print-kept numbers most e l (prints.Refused f) w = rw (refused-some w l e, refus
 
 pub book-word-kept : BookWordKept
 book-word-kept book = book-kept (answer (readBook book)) (book-within book)
+
+pub rule-word-kept : RuleWordKept
+rule-word-kept book bytes index = rule-kept (ruleOutcome book index) (rule-within book bytes index)
 
 pub lex-word-kept : LexWordKept
 lex-word-kept book text records = lex-kept ((lexOutcome book text records) .answer) (lex-within book text records)

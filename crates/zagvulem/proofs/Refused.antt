@@ -11,9 +11,10 @@ use lib.ListN.{length, length-append}
 use borrow.Author.Tests.{leb-false, ltb-true, ltb-false, eqb-true}
 use Rattle.answer.specs.declared.Refusal.{Refusal}
 use Rattle.answer.specs.declared.BookAnswer.{BookAnswer}
+use Rattle.answer.specs.declared.RuleAnswer.{RuleAnswer}
 use Rattle.answer.specs.declared.LexAnswer.{LexAnswer}
 use Rattle.answer.specs.declared.PrintAnswer.{PrintAnswer}
-use Rattle.automaton.specs.Choice.{if, any, among}
+use Rattle.automaton.specs.Choice.{if, All, any, among}
 use Rattle.automaton.specs.Rule.{Transition, Rule, overlaps}
 use Rattle.automaton.proofs.Tests.{clash}
 use Rattle.command.specs.declared.Command.{Command}
@@ -24,6 +25,8 @@ use Rattle.book.specs.Limits.{maxBytes, maxRules, maxTransitions, maxText, maxT
 use Rattle.book.specs.Draft.{Draft, between, isSet, isUnset, stateOf, ruleOf, tagged, isEmpty}
 use Rattle.book.specs.Draft.{Verdict, goes, accepts, refuses, check, move, apply}
 use Rattle.reader.specs.Reading.{Reading, accepted, refused, goOn, takeIn, readFrom, readBook, answer}
+use Rattle.reader.specs.Rules.{numbered, ruleAnswer, ruleReading, ruleOutcome}
+use Rattle.reader.proofs.Accepted.{accepted-valid}
 use Rattle.longest_match.specs.Lexer.{Token, lex, join, extends, or}
 use Rattle.longest_match.proofs.Lexing.{lex-few}
 use Rattle.record.specs.Records.{recordCount}
@@ -33,13 +36,16 @@ use Rattle.lexer.specs.Outcome.{lexRefused, lexAccepted, lexRules, lexReading, 
 use Rattle.token_list.specs.Faults.{aloneIn, faultOf}
 use Rattle.token_list.specs.Checks.{refuse, refuseBy, firstFault, firstExtended}
 use Rattle.printer.specs.Outcome.{PrintOutcome, refusedIf, unless, printChecked, printRules, printReading, printOutcome}
+use Rattle.printer.proofs.RoundTrip.{byte-below}
 use Rattle.used_bytes.specs.Kinds.{separates}
 use Rattle.used_bytes.specs.Bytes.{lowestFrom, shared, sharedByte}
 use Rattle.spacing.specs.Separators.{spelled}
 use Rattle.separated.specs.Refusals.{orElse, separatorFault, plainFault, sharing, listRefusal, separatedRefusal}
 use Rattle.separated.specs.Outcome.{writing, separatedRules, separatedReading, separatedOutcome}
-use Rattle.zagvulem.specs.Numbers.{bookNumbers, lexNumbers, printNumbers, separatedNumbers, Refused}
+use Rattle.separated.proofs.Sides.{all-map}
+use Rattle.zagvulem.specs.Numbers.{bookNumbers, ruleNumbers, lexNumbers, printNumbers, separatedNumbers, Refused}
 use Rattle.answer.specs.declared.BookAnswer.the-variants as books
+use Rattle.answer.specs.declared.RuleAnswer.the-variants as ruled
 use Rattle.answer.specs.declared.LexAnswer.the-variants as lexes
 use Rattle.answer.specs.declared.PrintAnswer.the-variants as prints
 use Rattle.command.specs.declared.Decoded.the-variants as decoded
@@ -49,6 +55,10 @@ use Rattle.command.specs.declared.Decoded.the-variants as decoded
 abbrev pub BookWithin : BookAnswer → Type 0
 BookWithin (books.Accepted rules) = rules ≤ maxRules
 BookWithin (books.Refused f) = Refused bookNumbers maxBytes f
+
+abbrev pub RuleWithin : (ℕ → ℕ → Type 0) → RuleAnswer → Type 0
+RuleWithin P (ruled.Rule tag kind) = P tag kind
+RuleWithin P (ruled.Refused f) = Refused ruleNumbers maxBytes f
 
 abbrev pub LexWithin : LexAnswer → Type 0
 LexWithin (lexes.Lexed tokens rest) = (tokens ≤ maxText) × (rest ≤ maxText)
@@ -210,6 +220,43 @@ book-refused book f e = subst BookWithin e (book-within book)
 
 pub book-accepted : (book : List ℕ) (rules : ℕ) → answer (readBook book) ≡ books.Accepted rules → rules ≤ maxRules
 book-accepted book rules e = subst BookWithin e (book-within book)
+
+-- ---- a rule by its number
+
+numbered-within : (P : ℕ → ℕ → Type 0) (book : List ℕ)
+    → ((rules : List Rule) → readBook book ≡ accepted rules → All (λ (r : Rule). P r.tag r.kind) rules) → (index : ℕ)
+    → RuleWithin P (ruleOutcome book index)
+unfolding ruleOutcome numbered
+numbered-within P book h index = go (readBook book) refl (book-read book)
+  where
+    told : (count : ℕ) → count ≤ maxRules → (rules : List Rule) (k : ℕ) → All (λ (r : Rule). P r.tag r.kind) rules
+        → RuleWithin P (ruleAnswer (numbered rules k) count)
+    told count l [] k a = by 18 count refl (omega arith)
+    told count l (r ∷ rs) zero (p, a) = p
+    told count l (r ∷ rs) (suc k) (p, a) = told count l rs k a
+
+    go : (o : Reading) → readBook book ≡ o → ReadWithin maxBytes o → RuleWithin P (ruleReading o index)
+    go (accepted rules) e w = told (length rules) w rules index (h rules e)
+    go (refused number place) e w = of-book (18 ∷ []) (omega arith) w
+
+pub rule-refused : (book : List ℕ) (index : ℕ) (f : Refusal) → ruleOutcome book index ≡ ruled.Refused f → Refused ruleNumbers maxBytes f
+rule-refused book index f e = subst (RuleWithin _) e (numbered-within (λ tag kind. Unit {0}) book (λ rules z. each rules) index)
+  where
+    each : (rules : List Rule) → All (λ (r : Rule). Unit {0}) rules
+    each [] = tt
+    each (r ∷ rs) = (tt, each rs)
+
+-- of a book that is a run of bytes
+abbrev pub TagAndKind : ℕ → ℕ → Type 0
+TagAndKind tag kind = (tag < 65536) × (kind ≤ 1)
+
+pub rule-within : (book : List ℕ) → All (λ (b : ℕ). b < 256) book → (index : ℕ) → RuleWithin TagAndKind (ruleOutcome book index)
+rule-within book bytes = numbered-within TagAndKind book (λ rules e.
+    all-map _ _ (λ r v. (v .tag-below, v .kind)) rules (accepted-valid book rules (byte-below book bytes) e .rules-valid .each))
+
+pub rule-accepted : (book : List ℕ) → All (λ (b : ℕ). b < 256) book → (index tag kind : ℕ) → ruleOutcome book index ≡ ruled.Rule tag kind
+    → (tag < 65536) × (kind ≤ 1)
+rule-accepted book bytes index tag kind e = subst (RuleWithin TagAndKind) e (rule-within book bytes index)
 
 -- ---- lexing
 

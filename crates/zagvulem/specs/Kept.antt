@@ -1,18 +1,27 @@
 -- An answer's word loses nothing: read as C reads it, it says the answer of the call, in every case.
 use mathlib.Core.Path.{_≡_}
 use mathlib.Core.List.{List}
-use Prim.Native.Nat.{ℕ, _≤_}
+use Prim.Native.Nat.{ℕ, _<_, _≤_}
+use Rattle.automaton.specs.Choice.{All}
 use Rattle.reader.specs.Reading.{readBook, answer}
+use Rattle.reader.specs.Rules.{ruleOutcome}
 use Rattle.record.specs.Records.{recordCount}
 use Rattle.record.specs.declared.TokenRecord.{TokenRecord}
 use Rattle.lexer.specs.Outcome.{lexOutcome}
 use Rattle.printer.specs.Outcome.{printOutcome}
 use Rattle.separated.specs.Outcome.{separatedOutcome}
-use Rattle.zagvulem.specs.Words.{largestPlace, bookWord, lexWord, printWord, bookAnswerIn, lexAnswerIn, printAnswerIn}
+use Rattle.zagvulem.specs.Words.{largestPlace, bookWord, ruleWord, lexWord, printWord}
+use Rattle.zagvulem.specs.Words.{bookAnswerIn, ruleAnswerIn, lexAnswerIn, printAnswerIn}
 
 -- zgv_read_book
 abbrev pub BookWordKept : Type 0
 BookWordKept = (book : List ℕ) → bookAnswerIn (bookWord (answer (readBook book))) ≡ answer (readBook book)
+
+-- zgv_rule, of a book that is a run of bytes: two of them make a tag
+abbrev pub RuleWordKept : Type 0
+RuleWordKept =
+    (book : List ℕ) → All (λ (b : ℕ). b < 256) book → (index : ℕ)
+    → ruleAnswerIn (ruleWord (ruleOutcome book index)) ≡ ruleOutcome book index
 
 -- zgv_lex, and zgv_lex_builtin, whose book is `builtinBytes`
 abbrev pub LexWordKept : Type 0

@@ -10,6 +10,10 @@ use Rattle.automaton.specs.Choice.{among}
 abbrev pub bookNumbers : List ℕ
 bookNumbers = 1 ∷ 2 ∷ 3 ∷ 4 ∷ 5 ∷ 6 ∷ 7 ∷ 8 ∷ 9 ∷ 10 ∷ 11 ∷ 12 ∷ 13 ∷ []
 
+-- asking for one rule, which that page does not have: 18 past the last
+abbrev pub ruleNumbers : List ℕ
+ruleNumbers = bookNumbers ++ (18 ∷ [])
+
 -- cutting
 abbrev pub lexNumbers : List ℕ
 lexNumbers = bookNumbers ++ (14 ∷ 15 ∷ [])

@@ -1,14 +1,16 @@
 -- An answer in 64 bits: bits 56 to 63 the refusal's number, 0 where accepted. Refused: bits 0 to 55 the place. Accepted: bits 28 to 55
 -- the first value, bits 0 to 27 the second. A value that has more bits than its part is answered as the largest of the part: no
--- buffer that a machine can lend has such a place, and no accepted call such a value.
+-- buffer that a machine can lend has such a place, and no accepted call such a value (Kept).
 use Prim.Native.Nat.{ℕ, _+_, _*_, _/_, _%_, min}
 use lib.Dec.{eqb}
 use Rattle.answer.specs.declared.Refusal.{Refusal}
 use Rattle.answer.specs.declared.BookAnswer.{BookAnswer}
+use Rattle.answer.specs.declared.RuleAnswer.{RuleAnswer}
 use Rattle.answer.specs.declared.LexAnswer.{LexAnswer}
 use Rattle.answer.specs.declared.PrintAnswer.{PrintAnswer}
 use Rattle.automaton.specs.Choice.{if}
 use Rattle.answer.specs.declared.BookAnswer.the-variants as book
+use Rattle.answer.specs.declared.RuleAnswer.the-variants as rule
 use Rattle.answer.specs.declared.LexAnswer.the-variants as lexer
 use Rattle.answer.specs.declared.PrintAnswer.the-variants as printer
 
@@ -30,6 +32,11 @@ acceptedWord first second = min first largestValue * 268435456 + min second larg
 abbrev pub bookWord : BookAnswer → ℕ
 bookWord (book.Accepted rules) = acceptedWord rules 0
 bookWord (book.Refused f) = refusalWord f
+
+-- tag, kind
+abbrev pub ruleWord : RuleAnswer → ℕ
+ruleWord (rule.Rule tag kind) = acceptedWord tag kind
+ruleWord (rule.Refused f) = refusalWord f
 
 -- token count, place of the rest
 abbrev pub lexWord : LexAnswer → ℕ
@@ -60,6 +67,9 @@ refusalIn w = record { number = numberIn w; place = placeIn w }
 
 abbrev pub bookAnswerIn : ℕ → BookAnswer
 bookAnswerIn w = if (eqb (numberIn w) 0) (book.Accepted (firstIn w)) (book.Refused (refusalIn w))
+
+abbrev pub ruleAnswerIn : ℕ → RuleAnswer
+ruleAnswerIn w = if (eqb (numberIn w) 0) (rule.Rule (firstIn w) (secondIn w)) (rule.Refused (refusalIn w))
 
 abbrev pub lexAnswerIn : ℕ → LexAnswer
 lexAnswerIn w = if (eqb (numberIn w) 0) (lexer.Lexed (firstIn w) (secondIn w)) (lexer.Refused (refusalIn w))

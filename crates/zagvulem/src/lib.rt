@@ -3,14 +3,16 @@
 pub mod words;
 
 use answer::BookAnswer;
+use answer::RuleAnswer;
 use record::TokenRecord;
 ghost use mathlib.Core.Path.{_≡_};
 ghost use Rattle.reader.specs.Reading.{readBook, answer};
+ghost use Rattle.reader.specs.Rules.{ruleOutcome};
 ghost use Rattle.lexer.specs.Outcome.{lexOutcome};
 ghost use Rattle.builtin.specs.Book.{builtinBytes};
 ghost use Rattle.printer.specs.Outcome.{printOutcome};
 ghost use Rattle.separated.specs.Outcome.{separatedOutcome};
-ghost use Rattle.zagvulem.specs.Words.{bookWord, lexWord, printWord};
+ghost use Rattle.zagvulem.specs.Words.{bookWord, ruleWord, lexWord, printWord};
 ghost use Rattle.zagvulem.specs.Separator.{separator};
 
 // Reads a book: the number of its rules and 0, or the refusal.
@@ -21,6 +23,17 @@ pub extern "C" fn zgv_read_book(book: &[u8]) -> u64
     match reader::read(book) {
         BookAnswer::Accepted(rules) => crate::words::accepted(rules, 0),
         BookAnswer::Refused(refusal) => crate::words::refused(refusal),
+    }
+}
+
+// The tag and the kind of a rule of a book by its number, from 0, or the refusal.
+#[no_mangle]
+pub extern "C" fn zgv_rule(book: &[u8], index: u32) -> u64
+    ensures { λ r. ⌜ r ≡ ruleWord (ruleOutcome (now (book .entry)) index) ⌝ }
+{
+    match reader::rule(book, index as usize) {
+        RuleAnswer::Rule { tag, kind } => crate::words::accepted(tag, kind),
+        RuleAnswer::Refused(refusal) => crate::words::refused(refusal),
     }
 }
 
