@@ -16,7 +16,13 @@ pub fn lex_into(book: &[u8], text: &[u8], mut tokens: [TokenRecord; 4]) -> Fille
 }
 
 // Prints the first `count` tokens.
-pub fn print_from(book: &[u8], tokens: [TokenRecord; 4], count: usize, pool: &[u8], out: &mut [u8]) -> PrintAnswer
+pub fn print_from(
+    book: &[u8],
+    tokens: [TokenRecord; 4],
+    count: usize,
+    pool: &[u8],
+    out: &mut [u8],
+) -> PrintAnswer
     requires { ⌜ count ≤ 4 ⌝ }
 {
     slices::print_tokens(book, &tokens[..count], pool, out)
