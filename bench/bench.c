@@ -9,9 +9,7 @@
 #include "chains.h"
 #include "dense.h"
 #include "zagvulem.h"
-#ifdef HAVE_FLEX
-#include "flex_lexer.h"
-#endif
+#include "generated.h"
 
 #include <stdio.h>
 #include <stdlib.h>
@@ -172,6 +170,10 @@ static void lines_dense(void) { EACH_LINE(dense_lex(table, line, LINE, records))
 static void sheet_flex(void) { sink = flex_lex((char *)sheet, sheet_len, records); }
 static void lines_flex(void) { EACH_LINE(flex_lex((char *)line, LINE, records)); }
 #endif
+#ifdef HAVE_RE2C
+static void sheet_re2c(void) { sink = re2c_lex((char *)sheet, sheet_len, records); }
+static void lines_re2c(void) { EACH_LINE(re2c_lex((char *)line, LINE, records)); }
+#endif
 
 /* All contenders must give the same records before any is timed. */
 static void check_same(void)
@@ -181,7 +183,10 @@ static void check_same(void)
     size_t used;
     void (*others[])(void) = {sheet_builtin, sheet_chains, sheet_dense, sheet_counted, sheet_builtin_counted,
 #ifdef HAVE_FLEX
-                              sheet_flex
+                              sheet_flex,
+#endif
+#ifdef HAVE_RE2C
+                              sheet_re2c,
 #endif
     };
     size_t i;
@@ -214,6 +219,9 @@ static void bench_lexers(void)
 #ifdef HAVE_FLEX
         {"flex, full tables", sheet_flex, 0, 0},
 #endif
+#ifdef HAVE_RE2C
+        {"re2c", sheet_re2c, 0, 0},
+#endif
         {"`zgv_lex`, fewer records than bytes", sheet_counted, 0, 0},
         {"`zgv_lex_builtin`, fewer records than bytes", sheet_builtin_counted, 0, 0},
     };
@@ -224,6 +232,9 @@ static void bench_lexers(void)
         {"one dense table in C, built before", lines_dense, 0, 0},
 #ifdef HAVE_FLEX
         {"flex, full tables", lines_flex, 0, 0},
+#endif
+#ifdef HAVE_RE2C
+        {"re2c", lines_re2c, 0, 0},
 #endif
     };
     size_t i;
@@ -323,24 +334,29 @@ static void make_line_lists(void)
 }
 
 static void lines_print(void) { EACH_LINE(zgv_print(book, book_len, line_list[i], line_list_len[i], line, LINE, out, SHEET)); }
-static void lines_mode_2(void)
+static void lines_mode(uint32_t mode)
 {
-    EACH_LINE(zgv_print_separated(book, book_len, line_blank[i].tag, line_blank[i].place, line_blank[i].length, ZGV_MODE_SPARE,
+    EACH_LINE(zgv_print_separated(book, book_len, line_blank[i].tag, line_blank[i].place, line_blank[i].length, mode,
                                   line_plain[i], line_plain_len[i], line, LINE, out, SHEET));
 }
+static void lines_mode_1(void) { lines_mode(ZGV_MODE_ALL); }
+static void lines_mode_2(void) { lines_mode(ZGV_MODE_SPARE); }
 
+/* The bytes that a printer writes for a line: the lines are alike in length, though not in where separators go. */
 static void bench_line_printers(void)
 {
-    contender all[] = {{"`zgv_print`", lines_print, (double)LINES * LINE, 0},
-                       {"`zgv_print_separated`, mode 2", lines_mode_2, (double)LINES * LINE, 0}};
+    contender all[] = {{"`zgv_print`", lines_print, 0, 0},
+                       {"`zgv_print_separated`, mode 1", lines_mode_1, 0, 0},
+                       {"`zgv_print_separated`, mode 2", lines_mode_2, 0, 0}};
     size_t i;
     make_line_lists();
-    for (i = 0; i < 2; i++) {
+    for (i = 0; i < 3; i++) {
         all[i].run();
         if (zgv_number(sink) != ZGV_ACCEPTED)
             fail("a printer refuses a line");
+        all[i].bytes = (double)LINES * (double)zgv_first(sink);
     }
-    print_table("### Printing the tokens of a line", all, 2, LINES);
+    print_table("### Printing the tokens of a line of 30 bytes, a call for each line", all, 3, LINES);
 }
 
 /* ---- An earlier library beside this one, its calls renamed */
@@ -614,6 +630,134 @@ static void bench_growth(void)
         moves_spread(moves[i]);
 }
 
+/* ---- Hostile inputs */
+
+static size_t hostile_len;
+static uint8_t hostile_text[SHEET + 2]; /* bytes "a", and behind them zeros, the first of which is a separator */
+static uint8_t *hostile_list;
+static size_t hostile_tokens;
+
+static void hostile_zgv(void) { sink = zgv_lex(wide_book, wide_len, hostile_text, hostile_len, records, ROOM); }
+static void hostile_counted(void)
+{
+    sink = zgv_lex(wide_book, wide_len, hostile_text, hostile_len, records, (hostile_len - 1) * ZGV_RECORD_BYTES);
+}
+static void hostile_chains(void) { sink = chains_lex(wide_book, wide_len, hostile_text, hostile_len, records, ROOM); }
+static void hostile_dense(void) { sink = dense_lex(table, hostile_text, hostile_len, records); }
+#ifdef HAVE_FLEX
+static void hostile_flex(void) { sink = flex_hostile((char *)hostile_text, hostile_len, records); }
+#endif
+#ifdef HAVE_RE2C
+static void hostile_re2c(void) { sink = re2c_hostile((char *)hostile_text, hostile_len, records); }
+#endif
+static void hostile_print(void)
+{
+    sink = zgv_print(wide_book, wide_len, hostile_list, hostile_tokens * ZGV_RECORD_BYTES, hostile_text, hostile_len, out, SHEET);
+}
+static void hostile_mode(uint32_t mode)
+{
+    sink = zgv_print_separated(wide_book, wide_len, 2, (uint32_t)hostile_len, 1, mode, hostile_list,
+                               hostile_tokens * ZGV_RECORD_BYTES, hostile_text, hostile_len + 1, out, SHEET);
+}
+static void hostile_mode_1(void) { hostile_mode(ZGV_MODE_ALL); }
+static void hostile_mode_2(void) { hostile_mode(ZGV_MODE_SPARE); }
+
+/* A list of so many tokens of one length, all at the text's start. */
+static void make_list(size_t tokens, size_t length)
+{
+    zgv_token token = {1, 0, 0};
+    size_t i;
+    token.length = (uint32_t)length;
+    hostile_tokens = tokens;
+    for (i = 0; i < tokens; i++)
+        zgv_put_record(hostile_list, i, token);
+}
+static void single_bytes(void) { make_list(hostile_len, 1); }
+static void half_the_bytes(void) { make_list(hostile_len / 2, 1); }
+static void whole_texts(void) { make_list(hostile_len, hostile_len); }
+
+/* A last byte that no rule matches: one token less than bytes, so that records can be enough and fewer. */
+static void stray_end(void) { hostile_text[hostile_len - 1] = 'c'; }
+
+/* A rule for a's, plain, and one for the byte 00, separator. The first matches "a" and any number of a's with a "b" behind
+   them, or, where `runs`, one or more a's. */
+static void make_hostile_book(int runs)
+{
+    wide_len = 0;
+    open_rule(1, runs ? 2 : 1);
+    put((const uint8_t *)"\x04\x03", 2);
+    step(0, 'a', runs ? 2 : 1);
+    step(0, 'b', 3);
+    step(1, 'a', 2);
+    step(1, 'b', 3);
+    step(2, 'a', 2);
+    step(2, 'b', 3);
+    end_rule();
+    open_rule(2, 1);
+    wide_book[wide_len - 7] = ZGV_KIND_SEPARATOR;
+    step(0, 0, 1);
+    end_rule();
+    end_book();
+}
+
+/* A line of a table: seconds for texts of a quarter and a half of the limit, each the best of three runs, and for one of the
+   limit, one run. */
+static void hostile_line(const char *name, void (*run)(void), unsigned number, void (*prepare)(void))
+{
+    size_t part;
+    printf("| %s |", name);
+    for (part = 4; part > 0; part /= 2) {
+        double best = 1e9;
+        int round;
+        hostile_len = SHEET / part;
+        memset(hostile_text, 0, sizeof hostile_text);
+        memset(hostile_text, 'a', hostile_len);
+        if (prepare != NULL)
+            prepare();
+        for (round = 0; round < (part == 1 ? 1 : 3); round++) {
+            double begin = now(), spent;
+            run();
+            spent = now() - begin;
+            if (spent < best)
+                best = spent;
+        }
+        if (zgv_number(sink) != number || (number == ZGV_ACCEPTED && prepare == NULL && zgv_first(sink) != hostile_len))
+            fail("a hostile input is answered otherwise");
+        printf(" %.3f |", best);
+        fflush(stdout);
+    }
+    printf("\n");
+}
+
+static void bench_hostile(void)
+{
+    const char *head = "| | 16,384 bytes | 32,768 | 65,536 |\n|---|---:|---:|---:|\n";
+    hostile_list = malloc(ROOM);
+    if (hostile_list == NULL)
+        fail("out of memory");
+    make_hostile_book(0);
+    if (!dense_build(table, wide_book, wide_len))
+        fail("the hostile book has no dense table");
+    printf("\n### Hostile texts, seconds\n\n%s", head);
+    hostile_line("`zgv_lex`", hostile_zgv, ZGV_ACCEPTED, NULL);
+    hostile_line("`zgv_lex`, fewer records than bytes", hostile_counted, ZGV_ACCEPTED, stray_end);
+    hostile_line("chains in C", hostile_chains, ZGV_ACCEPTED, NULL);
+    hostile_line("one dense table in C, built before", hostile_dense, ZGV_ACCEPTED, NULL);
+#ifdef HAVE_FLEX
+    hostile_line("flex, full tables", hostile_flex, ZGV_ACCEPTED, NULL);
+#endif
+#ifdef HAVE_RE2C
+    hostile_line("re2c", hostile_re2c, ZGV_ACCEPTED, NULL);
+#endif
+    printf("\n### Hostile lists, seconds\n\n%s", head);
+    hostile_line("`zgv_print`, a token for each byte", hostile_print, ZGV_ACCEPTED, single_bytes);
+    hostile_line("`zgv_print_separated`, mode 2, the same", hostile_mode_2, ZGV_ACCEPTED, single_bytes);
+    hostile_line("`zgv_print_separated`, mode 1, half as many", hostile_mode_1, ZGV_ACCEPTED, half_the_bytes);
+    make_hostile_book(1);
+    hostile_line("`zgv_print`, for each byte a token of the whole text", hostile_print, ZGV_OUTPUT_TOO_LONG, whole_texts);
+    hostile_line("`zgv_print_separated`, mode 2, the same", hostile_mode_2, ZGV_OUTPUT_TOO_LONG, whole_texts);
+}
+
 int main(int argc, char **argv)
 {
     sheet = calloc(1, SHEET + 2);
@@ -638,5 +782,6 @@ int main(int argc, char **argv)
 #endif
     bench_growth();
     bench_reading();
+    bench_hostile();
     return 0;
 }

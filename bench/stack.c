@@ -1,8 +1,12 @@
 /*
  * stack.c - how deep each call goes on the stack
  *
- * A thread gets a stack that is painted with one byte, makes one call and ends; what is no longer painted was used.
- * The use of a thread that makes no call is taken off.
+ *    stack BOOK            prints a table
+ *    stack BOOK HEADER     holds the bytes that the header states (STACK) to what is measured: each must be 4,096 above it
+ *
+ * Each call is the first one of a process of its own, in a thread whose stack is painted with one byte; what is no longer
+ * painted was used. The use of a thread that makes no call is taken off. Nothing here calls memset() before, and the program is
+ * linked with -z lazy, so that binding it counts too.
  */
 #define _GNU_SOURCE
 
@@ -12,13 +16,16 @@
 #include <stdio.h>
 #include <stdlib.h>
 #include <string.h>
+#include <sys/wait.h>
+#include <unistd.h>
 
-enum { STACK = 1 << 20, PAINT = 0xC7 };
+enum { STACK = 1 << 20, PAINT = 0xC7, MARGIN = 4096, SIZES = 3 };
 
 static uint8_t book[ZGV_BOOK_BYTES];
 static size_t book_len;
 static const uint8_t text[] = "[00:12.50]oh yes [fade]\n[00:1";
 static uint8_t records[sizeof text * ZGV_RECORD_BYTES];
+static uint8_t plain[2 * ZGV_RECORD_BYTES];
 static uint8_t out[256];
 static volatile uint64_t sink;
 
@@ -30,6 +37,11 @@ static void *nothing(void *unused)
 static void *read_book(void *unused)
 {
     sink = zgv_read_book(book, book_len);
+    return unused;
+}
+static void *rule(void *unused)
+{
+    sink = zgv_rule(book, book_len, 2);
     return unused;
 }
 static void *lex(void *unused)
@@ -49,21 +61,42 @@ static void *print(void *unused)
 }
 static void *print_separated(void *unused)
 {
-    static uint8_t plain[2 * ZGV_RECORD_BYTES];
-    memcpy(plain, records, ZGV_RECORD_BYTES);
-    memcpy(plain + ZGV_RECORD_BYTES, records + ZGV_RECORD_BYTES, ZGV_RECORD_BYTES);
     sink = zgv_print_separated(book, book_len, 3, 12, 1, ZGV_MODE_SPARE, plain, sizeof plain, text, sizeof text - 1, out,
                                sizeof out);
     return unused;
 }
 
-/* A book that needs the largest table: in place of END, seven plain rules more, which take letters. */
-static void enlarge(void)
+static const struct {
+    const char *name;
+    void *(*call)(void *);
+} calls[] = {{"zgv_read_book", read_book},
+             {"zgv_rule", rule},
+             {"zgv_lex", lex},
+             {"zgv_lex_builtin", lex_builtin},
+             {"zgv_print", print},
+             {"zgv_print_separated", print_separated}};
+
+enum { CALLS = sizeof calls / sizeof calls[0] };
+
+/* The first three tokens of the text, for the printers. */
+static void fill_records(void)
 {
+    static const zgv_token tokens[] = {{1, 0, 10}, {2, 10, 2}, {3, 12, 1}};
+    size_t i;
+    for (i = 0; i < 3; i++)
+        zgv_put_record(records, i, tokens[i]);
+    for (i = 0; i < 2; i++)
+        zgv_put_record(plain, i, tokens[i]);
+}
+
+/* A larger book: in place of END so many plain rules more, which take letters, each of 2,511 bytes. */
+static void enlarge(unsigned count)
+{
+    static uint8_t tag = 90;
     unsigned rule, state, letter;
     book_len--;
-    for (rule = 0; rule < 7; rule++) {
-        const uint8_t head[] = {1, 0, (uint8_t)(90 + rule), 0, 2, 0, 3, 255, 4, 1};
+    for (rule = 0; rule < count; rule++) {
+        const uint8_t head[] = {1, 0, tag++, 0, 2, 0, 3, 255, 4, 1};
         memcpy(book + book_len, head, sizeof head);
         book_len += sizeof head;
         for (state = 0; state < 20; state++)
@@ -80,58 +113,110 @@ static void enlarge(void)
     book[book_len++] = 8;
 }
 
-static size_t depth(void *(*call)(void *))
+/* The stack that a thread takes which makes the call; 0 where the call refuses. */
+static size_t thread_depth(void *(*call)(void *))
 {
     pthread_attr_t attributes;
     pthread_t thread;
-    size_t untouched = 0;
-    uint8_t *stack = aligned_alloc(4096, STACK);
+    size_t untouched = 0, i;
+    volatile uint8_t *stack = aligned_alloc(4096, STACK);
     if (stack == NULL)
         exit(EXIT_FAILURE);
-    memset(stack, PAINT, STACK);
-    if (pthread_attr_init(&attributes) != 0 || pthread_attr_setstack(&attributes, stack, STACK) != 0
+    for (i = 0; i < STACK; i++)
+        stack[i] = PAINT;
+    if (pthread_attr_init(&attributes) != 0 || pthread_attr_setstack(&attributes, (void *)stack, STACK) != 0
         || pthread_create(&thread, &attributes, call, NULL) != 0 || pthread_join(thread, NULL) != 0)
         exit(EXIT_FAILURE);
     while (untouched < STACK && stack[untouched] == PAINT)
         untouched++;
-    free(stack);
-    return STACK - untouched;
+    return zgv_number(sink) == ZGV_ACCEPTED ? STACK - untouched : 0;
+}
+
+/* The same in a process of its own, in which it is the first call. */
+static size_t depth(const char *name, void *(*call)(void *))
+{
+    size_t used = 0;
+    int ends[2], status;
+    pid_t child;
+    if (pipe(ends) != 0 || (child = fork()) < 0)
+        exit(EXIT_FAILURE);
+    if (child == 0) {
+        used = thread_depth(call);
+        _exit(write(ends[1], &used, sizeof used) == sizeof used ? EXIT_SUCCESS : EXIT_FAILURE);
+    }
+    close(ends[1]);
+    if (read(ends[0], &used, sizeof used) != sizeof used || waitpid(child, &status, 0) != child || status != 0 || used == 0) {
+        fprintf(stderr, "stack: %s refuses or fails\n", name);
+        exit(EXIT_FAILURE);
+    }
+    close(ends[0]);
+    return used;
+}
+
+/* Reads "zgv_NAME() ... BYTES" lines of the header's comment. Of two lines for one call, the second is for the largest book. */
+static int hold_header(const char *header, size_t used[SIZES][CALLS])
+{
+    size_t stated[SIZES][CALLS] = {{0}}, i, size;
+    int held = 1;
+    char line[256];
+    FILE *file = fopen(header, "r");
+    if (file == NULL) {
+        perror(header);
+        return 0;
+    }
+    while (fgets(line, sizeof line, file) != NULL && strstr(line, "#ifndef") == NULL) {
+        char name[32], *bytes = strrchr(line, ' ');
+        if (sscanf(line, " * %31[a-z_](", name) != 1 || bytes == NULL)
+            continue;
+        for (i = 0; i < CALLS; i++)
+            if (strcmp(name, calls[i].name) == 0) {
+                char *c, digits[16];
+                size_t n = 0;
+                for (c = bytes; *c != '\0' && n < 15; c++)
+                    if (*c >= '0' && *c <= '9')
+                        digits[n++] = *c;
+                digits[n] = '\0';
+                for (size = stated[0][i] == 0 ? 0 : SIZES - 1; size < SIZES; size++)
+                    stated[size][i] = (size_t)atol(digits);
+            }
+    }
+    fclose(file);
+    for (size = 0; size < SIZES; size++)
+        for (i = 0; i < CALLS; i++)
+            if (stated[size][i] < used[size][i] + MARGIN || stated[size][i] > ZGV_STACK_BYTES) {
+                fprintf(stderr, "stack: %s takes %lu, %s states %lu\n", calls[i].name, (unsigned long)used[size][i], header,
+                        (unsigned long)stated[size][i]);
+                held = 0;
+            }
+    return held;
 }
 
 int main(int argc, char **argv)
 {
-    static const struct {
-        const char *name;
-        void *(*call)(void *);
-    } calls[] = {{"zgv_read_book", read_book},
-                 {"zgv_lex", lex},
-                 {"zgv_lex_builtin", lex_builtin},
-                 {"zgv_print", print},
-                 {"zgv_print_separated", print_separated}};
-    size_t i, base, size, used[2][sizeof calls / sizeof calls[0]];
-    FILE *file = argc == 2 ? fopen(argv[1], "rb") : NULL;
+    size_t i, base, size, used[SIZES][CALLS], lengths[SIZES];
+    FILE *file = argc == 2 || argc == 3 ? fopen(argv[1], "rb") : NULL;
     if (file == NULL) {
-        fputs("usage: stack BOOK\n", stderr);
+        fputs("usage: stack BOOK [HEADER]\n", stderr);
         return EXIT_FAILURE;
     }
     book_len = fread(book, 1, sizeof book, file);
     fclose(file);
-    base = depth(nothing);
-    for (size = 0; size < 2; size++) {
-        for (i = 0; i < sizeof calls / sizeof calls[0]; i++) {
-            size_t all = depth(calls[i].call);
-            if (zgv_number(sink) != ZGV_ACCEPTED) {
-                fprintf(stderr, "stack: %s refuses\n", calls[i].name);
-                return EXIT_FAILURE;
-            }
+    fill_records();
+    base = depth("nothing", nothing);
+    for (size = 0; size < SIZES; size++) {
+        lengths[size] = book_len;
+        for (i = 0; i < CALLS; i++) {
+            size_t all = depth(calls[i].name, calls[i].call);
             used[size][i] = all > base ? all - base : 0;
         }
-        if (size == 0)
-            enlarge();
+        enlarge(size == 0 ? 3 : 4);
     }
-    printf("\n### Stack of a call, bytes\n\n| call | small book, short list | book of %lu bytes |\n|---|---:|---:|\n",
-           (unsigned long)book_len);
-    for (i = 0; i < sizeof calls / sizeof calls[0]; i++)
-        printf("| `%s` | %lu | %lu |\n", calls[i].name, (unsigned long)used[0][i], (unsigned long)used[1][i]);
+    if (argc == 3)
+        return hold_header(argv[2], used) ? EXIT_SUCCESS : EXIT_FAILURE;
+    printf("\n### Stack of a first call, bytes\n\n| call | book of %lu bytes | of %lu | of %lu |\n|---|---:|---:|---:|\n",
+           (unsigned long)lengths[0], (unsigned long)lengths[1], (unsigned long)lengths[2]);
+    for (i = 0; i < CALLS; i++)
+        printf("| `%s` | %lu | %lu | %lu |\n", calls[i].name, (unsigned long)used[0][i], (unsigned long)used[1][i],
+               (unsigned long)used[2][i]);
     return EXIT_SUCCESS;
 }

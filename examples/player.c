@@ -1,15 +1,22 @@
 /*
  * player.c - a player that changes the cues of a timed lyric sheet
  *
- *    player BOOK SHEET [SECONDS [OLD NEW]]
+ *    player [-l] [-r] BOOK SHEET [SECONDS [OLD NEW]]
  *
- * Cuts SHEET by BOOK and prints its cues, moves every time stamp by SECONDS
- * (default 2), puts the word NEW in the place of the word OLD (default "boats" and
- * "ships"), writes the changed list with one blank as the separator, and reads back
- * what it wrote: cut again, separators dropped, it must be the same list.
+ * Cuts SHEET by BOOK, moves its time stamps, [mm:ss.hh], by SECONDS, puts the
+ * word NEW in the place of the word OLD, and writes the sheet to standard output:
+ * all its tokens, those that separate and its line feeds among them, joined by
+ * zgv_print(). With -l it writes the cue list instead: the plain tokens alone, on
+ * one line, by zgv_print_separated(), with a separator only where two would
+ * touch. What is written has been read back and is the same list.
  *
- * The book must have the tags of the built-in book (examples/builtin.bin).
- * The exit status is 0 where the sheet came back as the same list.
+ * Which tokens separate is what the book says: the kinds of its rules.
+ *
+ * A rest is text that no rule of the book matches. Where one is left nothing is
+ * written; with -r what was cut before it is.
+ *
+ * Standard error says what is done. The exit status is 0 where a text was
+ * written, 1 where nothing was, 2 where the command line is wrong.
  */
 #include "zagvulem.h"
 
@@ -17,49 +24,7 @@
 #include <stdlib.h>
 #include <string.h>
 
-enum { STAMP = 1, WORD = 2, BLANKS = 3, NEWLINE = 4, STAMP_LENGTH = 10 };
-
-/* What each refusal number says. */
-static const char *const refusals[] = {
-    "accepted",
-    "the book is longer than 32,768 bytes",
-    "the book is cut off",
-    "no command, or one that may not stand here",
-    "bytes follow the book's END",
-    "more than 32 rules, or more than 512 moves in a rule",
-    "tag 0, a kind above 1, or low above high",
-    "two rules have this tag",
-    "START or ERROR is there twice, or missing",
-    "two moves from one state cover one byte",
-    "a move leaves the error state",
-    "the error state is final",
-    "the start is final",
-    "the book has no rule",
-    "the text is longer than 65,536 bytes",
-    "too few records",
-    "more than 65,536 tokens",
-    "a token lies outside the pool",
-    "a token's tag is not in the book",
-    "a token alone is not cut as itself",
-    "more than 65,536 bytes to be written",
-    "a token would be read on into what follows it",
-    "the output is too short",
-    "a plain and a separator rule share a byte",
-    "there is no such mode",
-    "the separator token is of plain kind",
-    "a token of the list is a separator"
-};
-
-static int refused(const char *what, uint64_t answer)
-{
-    unsigned number = zgv_number(answer);
-    const char *why = "unknown";
-    if (number < sizeof refusals / sizeof refusals[0])
-        why = refusals[number];
-    fprintf(stderr, "%s refused: %s (number %u, place %llu)\n", what, why, number,
-            (unsigned long long)zgv_place(answer));
-    return EXIT_FAILURE;
-}
+enum { WRONG_USE = 2, STAMP_LENGTH = 10, MOST_SECONDS = 5999, LAST_STAMP = 599999 };
 
 /* Bytes with room for more: a file, or a pool of token bytes that grows. */
 typedef struct buffer {
@@ -67,24 +32,54 @@ typedef struct buffer {
     size_t length, room;
 } buffer;
 
+/* A list of tokens; their bytes stand in a pool that goes with it. */
+typedef struct list {
+    uint8_t *records;
+    size_t count;
+} list;
+
+/* The book, and for each tag whether its rule is of separator kind. */
+typedef struct rules {
+    buffer book;
+    uint8_t separates[65536];
+} rules;
+
+/* What the command line asks for. */
+typedef struct task {
+    const char *book, *sheet, *old_word, *new_word;
+    long seconds;
+    int as_list, leave_rest;
+} task;
+
+/* ---- Memory and files */
+
+static void *allocate(size_t length)
+{
+    void *bytes = malloc(length > 0 ? length : 1);
+    if (bytes == NULL) {
+        fputs("player: out of memory\n", stderr);
+        exit(EXIT_FAILURE);
+    }
+    return bytes;
+}
+
 /* Adds bytes at the end, and says where they begin. `bytes` is not in `b`. */
-static size_t append(buffer *b, const void *bytes, size_t length)
+static uint32_t append(buffer *b, const void *bytes, size_t length)
 {
     size_t place = b->length;
-    if (b->bytes == NULL || length > b->room - b->length) {
+    if (length > b->room - b->length) {
         size_t room = 2 * (b->length + length) + 64;
-        uint8_t *more = realloc(b->bytes, room);
-        if (more == NULL) {
-            fputs("out of memory\n", stderr);
-            exit(EXIT_FAILURE);
-        }
+        uint8_t *more = allocate(room);
+        if (b->length > 0)
+            memcpy(more, b->bytes, b->length);
+        free(b->bytes);
         b->bytes = more;
         b->room = room;
     }
     if (length > 0)
         memcpy(b->bytes + place, bytes, length);
     b->length += length;
-    return place;
+    return (uint32_t)place;
 }
 
 static buffer read_file(const char *name)
@@ -97,7 +92,6 @@ static buffer read_file(const char *name)
         perror(name);
         exit(EXIT_FAILURE);
     }
-    append(&b, "", 0);
     while ((n = fread(part, 1, sizeof part, file)) > 0)
         append(&b, part, n);
     if (ferror(file)) {
@@ -108,203 +102,326 @@ static buffer read_file(const char *name)
     return b;
 }
 
-static uint8_t *allocate(size_t length)
+/* ---- What is said */
+
+/* A refusal in words, with what its place counts. */
+static void say_refused(const char *what, uint64_t answer)
 {
-    uint8_t *bytes = malloc(length > 0 ? length : 1);
-    if (bytes == NULL) {
-        fputs("out of memory\n", stderr);
+    unsigned number = zgv_number(answer);
+    unsigned long place = (unsigned long)zgv_place(answer);
+    fprintf(stderr, "%s: refused: %s (number %u", what, zgv_refusal_text(number), number);
+    switch (number) {
+    case ZGV_TEXT_TOO_LONG:
+    case ZGV_TOO_MANY_TOKENS:
+    case ZGV_OUTPUT_TOO_LONG:
+    case ZGV_UNKNOWN_MODE:
+        break;
+    case ZGV_TOO_FEW_RECORDS:
+    case ZGV_OUTPUT_TOO_SHORT:
+        fprintf(stderr, ", %lu needed", place);
+        break;
+    case ZGV_SHARED_BYTE:
+        fprintf(stderr, ", byte %02lX", place);
+        break;
+    default:
+        fprintf(stderr, number <= ZGV_NO_RULE ? ", byte %lu of the book" : ", token %lu", place);
+    }
+    fputs(")\n", stderr);
+}
+
+static unsigned long line_of(const uint8_t *text, size_t place)
+{
+    unsigned long line = 1;
+    size_t i;
+    for (i = 0; i < place; i++)
+        line += text[i] == '\n';
+    return line;
+}
+
+static void say_rest(const char *name, const buffer *sheet, size_t rest)
+{
+    fprintf(stderr, "%s: not cut from byte %lu on, which is %02X, in line %lu: %lu of %lu bytes are left\n", name,
+            (unsigned long)rest, (unsigned)sheet->bytes[rest], line_of(sheet->bytes, rest),
+            (unsigned long)(sheet->length - rest), (unsigned long)sheet->length);
+}
+
+/* ---- Books, lists and cuts */
+
+/* Reads a book and its rules' kinds; 0 where it is refused. */
+static int read_rules(rules *r, const char *name)
+{
+    uint64_t answer;
+    uint32_t count, i;
+    r->book = read_file(name);
+    memset(r->separates, 0, sizeof r->separates);
+    answer = zgv_read_book(r->book.bytes, r->book.length);
+    if (zgv_number(answer) != ZGV_ACCEPTED) {
+        say_refused(name, answer);
+        return 0;
+    }
+    count = zgv_first(answer);
+    for (i = 0; i < count; i++) {
+        answer = zgv_rule(r->book.bytes, r->book.length, i);
+        r->separates[zgv_first(answer)] = zgv_second(answer) == ZGV_KIND_SEPARATOR;
+    }
+    return 1;
+}
+
+/* Cuts a text into a list that it allocates, with records enough for every text that is not too long. */
+static uint64_t cut(const rules *r, const uint8_t *text, size_t length, list *l)
+{
+    size_t room = (length < ZGV_TEXT_BYTES ? length : ZGV_TEXT_BYTES) * ZGV_RECORD_BYTES;
+    uint64_t answer;
+    l->records = allocate(room);
+    answer = zgv_lex(r->book.bytes, r->book.length, text, length, l->records, room);
+    l->count = zgv_number(answer) == ZGV_ACCEPTED ? zgv_first(answer) : 0;
+    return answer;
+}
+
+/* Whether a word alone is cut as one token; then that token, with the word's bytes added to the pool. */
+static int one_token(const rules *r, const char *word, size_t length, buffer *pool, zgv_token *token)
+{
+    list l;
+    uint64_t answer = cut(r, (const uint8_t *)word, length, &l);
+    int one = l.count == 1 && zgv_second(answer) == length;
+    if (one) {
+        *token = zgv_get_record(l.records, 0);
+        token->place = append(pool, word, length);
+    }
+    free(l.records);
+    return one;
+}
+
+/* A token to separate by: a blank where the book has it so, else the lowest byte that it has so. */
+static int find_separator(const rules *r, buffer *pool, zgv_token *separator)
+{
+    int byte;
+    for (byte = -1; byte < 256; byte++) {
+        char c = byte < 0 ? ' ' : (char)byte;
+        if (one_token(r, &c, 1, pool, separator) && r->separates[separator->tag])
+            return 1;
+    }
+    return 0;
+}
+
+/* ---- Changing a sheet */
+
+static int is_stamp(const uint8_t *b, size_t length)
+{
+    static const char form[STAMP_LENGTH + 1] = "[00:00.00]";
+    size_t i;
+    if (length != STAMP_LENGTH)
+        return 0;
+    for (i = 0; i < STAMP_LENGTH; i++)
+        if (form[i] == '0' ? b[i] < '0' || b[i] > '9' : b[i] != (uint8_t)form[i])
+            return 0;
+    return 1;
+}
+
+static long two_digits(const uint8_t *b)
+{
+    return (b[0] - '0') * 10 + (b[1] - '0');
+}
+
+/* Moves a stamp; 0 where it would leave 00:00.00 to 99:59.99. */
+static int move_stamp(buffer *pool, zgv_token *t, long seconds)
+{
+    const uint8_t *b = pool->bytes + t->place;
+    long time = (two_digits(b + 1) * 60 + two_digits(b + 4) + seconds) * 100 + two_digits(b + 7);
+    char stamp[64];
+    if (time < 0 || time > LAST_STAMP)
+        return 0;
+    sprintf(stamp, "[%02ld:%02ld.%02ld]", time / 6000, time / 100 % 60, time % 100);
+    t->place = append(pool, stamp, STAMP_LENGTH);
+    return 1;
+}
+
+/* Changes a list in place, but for a cue list leaves out what separates; new bytes go to the pool's end. */
+static int change(const task *asked, const rules *r, buffer *pool, list *l)
+{
+    size_t i, kept = 0, stamps = 0, words = 0;
+    zgv_token new_token = {0, 0, 0};
+    if (asked->new_word != NULL
+        && (!one_token(r, asked->new_word, strlen(asked->new_word), pool, &new_token) || r->separates[new_token.tag])) {
+        fprintf(stderr, "player: by this book \"%s\" is not one plain token\n", asked->new_word);
+        return 0;
+    }
+    for (i = 0; i < l->count; i++) {
+        zgv_token t = zgv_get_record(l->records, i);
+        const uint8_t *bytes = pool->bytes + t.place;
+        if (r->separates[t.tag]) {
+            if (asked->as_list)
+                continue;
+        } else if (asked->seconds != 0 && is_stamp(bytes, t.length)) {
+            if (!move_stamp(pool, &t, asked->seconds)) {
+                fprintf(stderr, "%s: line %lu: %.*s moved by %ld s leaves 00:00.00 to 99:59.99\n", asked->sheet,
+                        line_of(pool->bytes, t.place), STAMP_LENGTH, (const char *)bytes, asked->seconds);
+                return 0;
+            }
+            stamps++;
+        } else if (asked->old_word != NULL && t.length == strlen(asked->old_word)
+                   && memcmp(bytes, asked->old_word, t.length) == 0) {
+            t = new_token;
+            words++;
+        }
+        zgv_put_record(l->records, kept++, t);
+    }
+    l->count = kept;
+    fprintf(stderr, "%s: %lu stamps moved, %lu words changed\n", asked->sheet, (unsigned long)stamps, (unsigned long)words);
+    return 1;
+}
+
+/* ---- Writing, and reading back */
+
+static uint64_t print_list(const task *asked, const rules *r, buffer *pool, const list *l, uint8_t *out)
+{
+    size_t records_len = l->count * ZGV_RECORD_BYTES;
+    zgv_token separator;
+    if (!asked->as_list)
+        return zgv_print(r->book.bytes, r->book.length, l->records, records_len, pool->bytes, pool->length, out,
+                         ZGV_TEXT_BYTES);
+    if (!find_separator(r, pool, &separator)) {
+        fputs("player: the book has no separator of one byte\n", stderr);
         exit(EXIT_FAILURE);
     }
-    return bytes;
+    return zgv_print_separated(r->book.bytes, r->book.length, separator.tag, separator.place, separator.length,
+                               ZGV_MODE_SPARE, l->records, records_len, pool->bytes, pool->length, out, ZGV_TEXT_BYTES);
 }
 
-/*
- * Cuts a text into records that it allocates. The first call lends none and is
- * told how many there are; the second lends as many.
- */
-static uint64_t cut(const buffer *book, const uint8_t *text, size_t length, uint8_t **records)
+/* Of the refusals that name a token: which it is, and what follows it. */
+static void say_token(const list *l, const buffer *pool, uint64_t answer)
 {
-    uint64_t answer = zgv_lex(book->bytes, book->length, text, length, NULL, 0);
-    size_t room = 0;
-    if (zgv_number(answer) == ZGV_TOO_FEW_RECORDS)
-        room = (size_t)zgv_place(answer) * ZGV_RECORD_BYTES;
-    *records = allocate(room);
-    return zgv_lex(book->bytes, book->length, text, length, *records, room);
+    size_t i = (size_t)zgv_place(answer);
+    zgv_token t, next;
+    if (zgv_number(answer) != ZGV_READ_ON || i + 1 >= l->count)
+        return;
+    t = zgv_get_record(l->records, i);
+    next = zgv_get_record(l->records, i + 1);
+    fprintf(stderr, "player: \"%.*s\" and \"%.*s\" would touch; -l writes a separator between\n", (int)t.length,
+            (const char *)pool->bytes + t.place, (int)next.length, (const char *)pool->bytes + next.place);
 }
 
-static int is_separator(zgv_token t)
+/* Whether a text is cut, without a rest, into the tokens of a list: of a cue list those that do not separate. */
+static int reads_back(const task *asked, const rules *r, const uint8_t *text, size_t length, const list *l,
+                      const buffer *pool)
 {
-    return t.tag == BLANKS || t.tag == NEWLINE;
-}
-
-static void print_cues(const uint8_t *records, size_t count, const uint8_t *pool)
-{
-    size_t i;
-    int open = 0;
-    for (i = 0; i < count; i++) {
-        zgv_token t = zgv_get_record(records, i);
-        if (is_separator(t))
-            continue;
-        if (t.tag == STAMP && open) {
-            putchar('\n');
-            open = 0;
-        }
-        printf(t.tag == STAMP ? "  cue %.*s" : " %.*s", (int)t.length, (const char *)pool + t.place);
-        open = 1;
-    }
-    if (open)
-        putchar('\n');
-}
-
-static unsigned two_digits(const uint8_t *b)
-{
-    return (unsigned)(b[0] - '0') * 10 + (unsigned)(b[1] - '0');
-}
-
-/* The stamp `[mm:ss.hh]` moved by some seconds, kept between 00:00 and 99:59. */
-static void move_stamp(char out[64], const uint8_t *stamp, long seconds)
-{
-    long time = (long)(two_digits(stamp + 1) * 60 + two_digits(stamp + 4));
-    unsigned moved;
-    if (seconds > 6000)
-        seconds = 6000;
-    if (seconds < -12000)
-        seconds = -12000;
-    time += seconds;
-    if (time < 0)
-        time = 0;
-    if (time > 5999)
-        time = 5999;
-    moved = (unsigned)time;
-    sprintf(out, "[%02u:%02u.%02u]", moved / 60 % 100, moved % 60, two_digits(stamp + 7));
-}
-
-/* The plain tokens of a list, moved and renamed; new bytes go to the pool's end. */
-static size_t change(buffer *pool, const uint8_t *records, size_t count, uint8_t *changed,
-                     long seconds, const char *old_word, const char *new_word)
-{
-    size_t kept = 0, i;
-    for (i = 0; i < count; i++) {
-        zgv_token t = zgv_get_record(records, i);
-        if (is_separator(t))
-            continue;
-        if (t.tag == STAMP && t.length == STAMP_LENGTH) {
-            char stamp[64];
-            move_stamp(stamp, pool->bytes + t.place, seconds);
-            t.place = (uint32_t)append(pool, stamp, STAMP_LENGTH);
-        } else if (t.tag == WORD && t.length == strlen(old_word)
-                   && memcmp(pool->bytes + t.place, old_word, t.length) == 0) {
-            t.length = (uint32_t)strlen(new_word);
-            t.place = (uint32_t)append(pool, new_word, t.length);
-        }
-        zgv_put_record(changed, kept++, t);
-    }
-    return kept;
-}
-
-/* Compares the plain tokens of a text that was cut with a list: tag by tag, byte by byte. */
-static int same_list(const uint8_t *records, size_t count, const uint8_t *text,
-                     const uint8_t *list, size_t list_count, const uint8_t *pool)
-{
+    list again;
+    uint64_t answer = cut(r, text, length, &again);
     size_t i, k = 0;
-    for (i = 0; i < count; i++) {
-        zgv_token a = zgv_get_record(records, i), b;
-        if (is_separator(a))
+    int same = zgv_number(answer) == ZGV_ACCEPTED && zgv_second(answer) == length;
+    for (i = 0; same && i < again.count; i++) {
+        zgv_token a = zgv_get_record(again.records, i), b;
+        if (asked->as_list && r->separates[a.tag])
             continue;
-        if (k == list_count) {
-            fprintf(stderr, "read back: more tokens than were written\n");
-            return 0;
+        same = k < l->count;
+        if (same) {
+            b = zgv_get_record(l->records, k++);
+            same = a.tag == b.tag && a.length == b.length
+                   && memcmp(text + a.place, pool->bytes + b.place, a.length) == 0;
         }
-        b = zgv_get_record(list, k);
-        if (a.tag != b.tag || a.length != b.length
-            || memcmp(text + a.place, pool + b.place, a.length) != 0) {
-            fprintf(stderr, "read back: token %lu differs\n", (unsigned long)k);
-            return 0;
-        }
-        k++;
     }
-    if (k != list_count)
-        fprintf(stderr, "read back: %lu of %lu tokens\n", (unsigned long)k, (unsigned long)list_count);
-    return k == list_count;
+    free(again.records);
+    return same && k == l->count;
 }
 
-/* Writes a list with blanks between, shows the text, and reads it back. */
-static int write_and_read_back(const buffer *book, const buffer *pool, zgv_token blank,
-                               const uint8_t *list, size_t count)
+static int write_list(const task *asked, const rules *r, buffer *pool, const list *l)
 {
-    uint8_t *out = allocate(ZGV_TEXT_BYTES), *records;
-    uint64_t answer;
-    size_t length;
-    int same;
-    answer = zgv_print_separated(book->bytes, book->length, blank.tag, blank.place, blank.length,
-                                 ZGV_MODE_SPARE, list, count * ZGV_RECORD_BYTES,
-                                 pool->bytes, pool->length, out, ZGV_TEXT_BYTES);
+    uint8_t *out = allocate(ZGV_TEXT_BYTES);
+    uint64_t answer = print_list(asked, r, pool, l, out);
+    int done = 0;
     if (zgv_number(answer) != ZGV_ACCEPTED) {
-        free(out);
-        return refused("writing", answer);
+        say_refused(asked->as_list ? "the cue list" : "the changed sheet", answer);
+        say_token(l, pool, answer);
+    } else if (!reads_back(asked, r, out, zgv_first(answer), l, pool)) {
+        fputs("player: what was printed is not read back as the same list\n", stderr);
+    } else if (fwrite(out, 1, zgv_first(answer), stdout) != zgv_first(answer) || fflush(stdout) != 0) {
+        perror("player");
+    } else {
+        fprintf(stderr, "%s: %lu tokens written in %lu bytes, and read back as the same list\n", asked->sheet,
+                (unsigned long)l->count, (unsigned long)zgv_first(answer));
+        done = 1;
     }
-    length = zgv_first(answer);
-    printf("written, %lu bytes:\n%.*s\n", (unsigned long)length, (int)length, (const char *)out);
-
-    answer = cut(book, out, length, &records);
-    if (zgv_number(answer) != ZGV_ACCEPTED) {
-        free(records);
-        free(out);
-        return refused("reading back", answer);
-    }
-    same = zgv_second(answer) == length
-           && same_list(records, zgv_first(answer), out, list, count, pool->bytes);
-    if (same)
-        printf("read back: %lu tokens, the same list\n", (unsigned long)count);
-    else
-        fprintf(stderr, "read back: NOT the list that was written\n");
-    free(records);
     free(out);
-    return same ? EXIT_SUCCESS : EXIT_FAILURE;
+    return done;
+}
+
+/* ---- The command line */
+
+static int usage(void)
+{
+    fputs("usage: player [-l] [-r] BOOK SHEET [SECONDS [OLD NEW]]\n"
+          "  -l   write the cue list, not the sheet\n"
+          "  -r   write what was cut although a rest is left\n",
+          stderr);
+    return 0;
+}
+
+/* A whole number of seconds that a stamp can be moved by. */
+static int read_seconds(const char *word, long *seconds)
+{
+    const char *digits = word[0] == '-' ? word + 1 : word;
+    size_t n = strspn(digits, "0123456789");
+    if (n == 0 || n > 6 || digits[n] != '\0' || labs(*seconds = strtol(word, NULL, 10)) > MOST_SECONDS) {
+        fprintf(stderr, "player: SECONDS is a whole number from -%d to %d, not \"%s\"\n", MOST_SECONDS, MOST_SECONDS, word);
+        return 0;
+    }
+    return 1;
+}
+
+static int read_task(int argc, char **argv, task *asked)
+{
+    int i = 1;
+    memset(asked, 0, sizeof *asked);
+    for (; i < argc && argv[i][0] == '-'; i++) {
+        if (strcmp(argv[i], "-l") == 0)
+            asked->as_list = 1;
+        else if (strcmp(argv[i], "-r") == 0)
+            asked->leave_rest = 1;
+        else
+            return usage();
+    }
+    argv += i;
+    argc -= i;
+    if (argc != 2 && argc != 3 && argc != 5)
+        return usage();
+    asked->book = argv[0];
+    asked->sheet = argv[1];
+    if (argc == 5) {
+        asked->old_word = argv[3];
+        asked->new_word = argv[4];
+    }
+    return argc == 2 || read_seconds(argv[2], &asked->seconds);
 }
 
 int main(int argc, char **argv)
 {
-    buffer book, sheet;
-    uint8_t *records, *changed;
+    static rules r;
+    buffer sheet;
+    list l;
+    task asked;
     uint64_t answer;
-    size_t count, kept;
-    zgv_token blank;
-    long seconds = argc > 3 ? strtol(argv[3], NULL, 10) : 2;
-    const char *old_word = argc > 5 ? argv[4] : "boats";
-    const char *new_word = argc > 5 ? argv[5] : "ships";
-    int status;
-    if (argc != 3 && argc != 4 && argc != 6) {
-        fprintf(stderr, "usage: %s BOOK SHEET [SECONDS [OLD NEW]]\n", argv[0]);
-        return 2;
+    int done = 0;
+    if (!read_task(argc, argv, &asked))
+        return WRONG_USE;
+    if (!read_rules(&r, asked.book))
+        return EXIT_FAILURE;
+    sheet = read_file(asked.sheet);
+    answer = cut(&r, sheet.bytes, sheet.length, &l);
+    if (zgv_number(answer) != ZGV_ACCEPTED) {
+        say_refused(asked.sheet, answer);
+    } else {
+        size_t rest = zgv_second(answer);
+        if (rest < sheet.length) {
+            say_rest(asked.sheet, &sheet, rest);
+            fputs(asked.leave_rest ? "player: writing what was cut\n" : "player: nothing is written; -r writes what was cut\n",
+                  stderr);
+        }
+        if (rest == sheet.length || asked.leave_rest)
+            /* From here on the sheet's bytes are the pool: new words and stamps are added behind. */
+            done = change(&asked, &r, &sheet, &l) && write_list(&asked, &r, &sheet, &l);
     }
-    book = read_file(argv[1]);
-    sheet = read_file(argv[2]);
-
-    answer = zgv_read_book(book.bytes, book.length);
-    if (zgv_number(answer) != ZGV_ACCEPTED)
-        return refused("the book", answer);
-    printf("%s: %u rules\n", argv[1], (unsigned)zgv_first(answer));
-
-    answer = cut(&book, sheet.bytes, sheet.length, &records);
-    if (zgv_number(answer) != ZGV_ACCEPTED)
-        return refused("the sheet", answer);
-    count = zgv_first(answer);
-    printf("%s: %lu tokens, rest of %lu bytes\n", argv[2], (unsigned long)count,
-           (unsigned long)(sheet.length - zgv_second(answer)));
-    print_cues(records, count, sheet.bytes);
-
-    /* From here on the sheet's bytes are the pool: new words and stamps are added behind. */
-    blank.tag = BLANKS;
-    blank.place = (uint32_t)append(&sheet, " ", 1);
-    blank.length = 1;
-    changed = allocate(count * ZGV_RECORD_BYTES);
-    kept = change(&sheet, records, count, changed, seconds, old_word, new_word);
-    status = write_and_read_back(&book, &sheet, blank, changed, kept);
-
-    free(changed);
-    free(records);
+    free(l.records);
     free(sheet.bytes);
-    free(book.bytes);
-    return status;
+    free(r.book.bytes);
+    return done ? EXIT_SUCCESS : EXIT_FAILURE;
 }

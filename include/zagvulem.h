@@ -2,29 +2,37 @@
  * zagvulem.h - a lexer by rule book, and two printers that undo it
  *
  * A rule book is data: a run of bytes that describes up to 32 rules, each a
- * finite automaton with a tag (docs/FORMAT.md). zgv_lex() cuts a text by a book
- * into tokens, always the longest match, the earliest rule on a tie.
- * zgv_print() joins tokens to a text again, and refuses a list that would not
- * be cut back as it is. zgv_print_separated() joins tokens with separators
+ * finite automaton with a tag; FORMAT.md says how one is written. zgv_lex() cuts
+ * a text by a book into tokens, always the longest match, the earliest rule on a
+ * tie. zgv_print() joins tokens to a text again, and refuses a list that would
+ * not be cut back as it is. zgv_print_separated() joins tokens with separators
  * between them, so that cutting what it wrote and dropping the separators gives
  * the same list back.
  *
+ * The library is for x86-64 Linux. FORMAT.md and PERFORMANCE.md, which this
+ * header names, come with it: in share/doc/zagvulem where it is installed, in
+ * docs/ of a tarball.
+ *
  * WHAT HOLDS FOR EVERY CALL
  *
- *  - It is total: every book, text, list and buffer has an answer. Nothing needs
- *    to be checked before a call.
+ *  - Every book, text, list and buffer has an answer, however damaged: nothing
+ *    that stands in a buffer needs to be checked before a call.
  *  - It keeps no state between calls, allocates nothing and reads no file, clock
- *    or locale. Calls may run in several threads at once, as long as no thread
- *    writes a buffer that another one's running call was lent.
- *  - It answers either "accepted" with a count, or "refused" with a number and a
- *    place. After a refusal every buffer holds what it held before the call.
+ *    or locale.
+ *  - It answers either "accepted" with two values, or "refused" with a number and
+ *    a place. After a refusal every buffer holds what it held before the call.
  *    After an accepted call, what lies past the reported count is untouched.
- *  - Each buffer is a pointer and its length in bytes. The pointer may be NULL
- *    where the length is 0.
+ *
+ * WHAT THE CALLER SEES TO
+ *
+ *  - Each buffer is a pointer and its length in bytes, and so many bytes are
+ *    there. The pointer may be NULL where the length is 0. It needs no alignment.
  *  - A buffer that the call may write (`records` of the two lexing calls, `out`
- *    of the two printing calls) must not share a byte with any other buffer lent
- *    to the same call. Buffers that are only read may overlap freely.
- *  - Buffers need no alignment.
+ *    of the two printing calls) shares no byte with any other buffer of the same
+ *    call. Buffers that are only read may overlap freely.
+ *  - Calls may run in several threads at once, but no thread writes a buffer
+ *    that another one's running call was given.
+ *  - The thread has stack enough (STACK below).
  *
  * ANSWERS
  *
@@ -35,6 +43,7 @@
  *    accepted:    bits 28-55 the first value, bits 0-27 the second
  *
  * Take it apart with zgv_number(), zgv_place(), zgv_first() and zgv_second().
+ * zgv_refusal_text() says a number in words.
  *
  * TOKENS
  *
@@ -48,13 +57,41 @@
  * STACK
  *
  * The table of a book and the scratch of a printer are local to the call. Bytes
- * of stack, as bench/stack.c measures them on x86-64:
+ * of stack to leave free for one:
  *
- *    zgv_lex_builtin()                          under 1 KiB
- *    zgv_lex(), a book of up to 8,192 bytes     18,500
- *    zgv_lex(), a longer book                   84,700
- *    zgv_read_book()                            67,400
- *    zgv_print(), zgv_print_separated()         134,400
+ *    zgv_lex_builtin()                          8,192
+ *    zgv_lex(), a book of up to 8,192 bytes     24,576
+ *    zgv_lex(), a longer book                   92,160
+ *    zgv_read_book()                            73,728
+ *    zgv_rule()                                 73,728
+ *    zgv_print()                                143,360
+ *    zgv_print_separated()                      143,360
+ *
+ * Each is at least 4,096 more than bench/stack.c of the sources measures, for the
+ * first call of a program that binds memset() only then. ZGV_STACK_BYTES is
+ * enough for every call.
+ *
+ * COST
+ *
+ * Cutting and printing a usual text is linear in its length (PERFORMANCE.md). A
+ * book can be made so that it is not. At worst, for a book of r rules:
+ *
+ *    a cut of n bytes           r * n * n / 2 steps, since at each token every
+ *                               rule walks on as far as it can go; twice that
+ *                               where `records` has room for fewer than n tokens
+ *    printing n bytes           the same r * n * n / 2, and r steps more for each
+ *                               byte of each token, also where 20 is answered
+ *                               in the end: tokens may overlap in the pool, so
+ *                               that the sum of their lengths has no other limit
+ *                               than 65,536 times the pool's
+ *    reading a book             its length, and for each move the moves that left
+ *                               the same state before it: under 10 ms
+ *
+ * A step looks through the moves that leave a state one by one, at most 256. On
+ * the machine of PERFORMANCE.md one rule that matches "a", and also any number of
+ * a's with a "b" behind them, takes 9 s to cut 65,536 a's. Who takes books or
+ * lists from others sets limits of its own to the length of a text and to the sum
+ * of the lengths of a list.
  */
 #ifndef ZAGVULEM_H
 #define ZAGVULEM_H
@@ -66,6 +103,20 @@
 extern "C" {
 #endif
 
+/* A definition that a program need not use. */
+#if defined(__GNUC__)
+#define ZGV_UNUSED __attribute__((unused))
+#else
+#define ZGV_UNUSED
+#endif
+
+/* ---- Version ------------------------------------------------------------ */
+
+#define ZGV_VERSION       "0.1.0"
+#define ZGV_VERSION_MAJOR 0
+#define ZGV_VERSION_MINOR 1
+#define ZGV_VERSION_PATCH 0
+
 /* ---- Limits ------------------------------------------------------------- */
 
 #define ZGV_BOOK_BYTES       32768  /* bytes of a book */
@@ -74,6 +125,7 @@ extern "C" {
 #define ZGV_TEXT_BYTES       65536  /* bytes of a text, to be cut or written */
 #define ZGV_LIST_TOKENS      65536  /* tokens of a list */
 #define ZGV_RECORD_BYTES     10     /* bytes of a token's record */
+#define ZGV_STACK_BYTES      147456 /* stack that is enough for every call */
 
 /* Kinds of a rule, as in its RULE command. */
 #define ZGV_KIND_PLAIN     0
@@ -88,7 +140,7 @@ extern "C" {
 
 /*
  * The number of an answer. A number is answered in the case named for it, if
- * nothing earlier applies. The text behind each says what the place is.
+ * nothing earlier applies. The text behind each says what the place counts.
  */
 enum {
     ZGV_ACCEPTED = 0,
@@ -96,20 +148,20 @@ enum {
     /*
      * The book, in every call that takes one. Commands are checked from the
      * front; within one command the order is 3, 2, 5, 6, 7, 8, at a CLOSE 8, 9,
-     * 10, 11, 12, at END 13, 4. The place is the first byte of the command,
-     * unless said otherwise.
+     * 10, 11, 12, at END 13, 4. The place is a byte of the book, from 0: the
+     * first one of the command, unless said otherwise.
      */
     ZGV_BOOK_TOO_LONG     = 1,   /* over 32,768 bytes; place 0 */
     ZGV_CUT_OFF           = 2,   /* operands cut off; or the book stops before
                                     END, then the place is its length */
     ZGV_MISPLACED         = 3,   /* no command, or one not allowed here */
     ZGV_BYTES_AFTER_END   = 4,   /* bytes follow END; place of the first */
-    ZGV_TOO_MANY          = 5,   /* a 33rd rule, or a rule's 513th transition */
+    ZGV_TOO_MANY          = 5,   /* a 33rd rule, or a rule's 513th move */
     ZGV_OUT_OF_RANGE      = 6,   /* tag 0, kind above 1, low above high */
     ZGV_TAG_TAKEN         = 7,   /* an earlier rule has this tag */
     ZGV_TWICE_OR_MISSING  = 8,   /* a second START or ERROR, or at CLOSE none */
-    ZGV_OVERLAP           = 9,   /* two transitions of a state share a byte */
-    ZGV_LEAVES_ERROR      = 10,  /* a transition from the error state */
+    ZGV_OVERLAP           = 9,   /* two moves of a state share a byte */
+    ZGV_LEAVES_ERROR      = 10,  /* a move from the error state */
     ZGV_ERROR_FINAL       = 11,  /* the error state is final */
     ZGV_START_FINAL       = 12,  /* the start is final */
     ZGV_NO_RULE           = 13,  /* END before any rule */
@@ -119,12 +171,15 @@ enum {
     ZGV_TOO_FEW_RECORDS   = 15,  /* the place is the number of tokens */
 
     /*
-     * Printing. For 17 to 19, 21 and 26 the place is the token's number, from 0;
-     * for 17 to 19 and 25 of the separator token it is the list's length.
+     * Printing. For 17 to 19, 21 and 26 the place is the token's number in the
+     * list, from 0; for 17 to 19 and 25 of the separator token it is the number
+     * of tokens in the list.
      */
     ZGV_TOO_MANY_TOKENS   = 16,  /* over 65,536 tokens; place 0 */
-    ZGV_PAST_THE_POOL     = 17,  /* place plus length passes the pool */
-    ZGV_UNKNOWN_TAG       = 18,  /* no rule of the book has the tag */
+    ZGV_PAST_THE_POOL     = 17,  /* the token passes the pool's end */
+    ZGV_UNKNOWN_TAG       = 18,  /* no rule of the book has the tag; of
+                                    zgv_rule(): the book has no such rule, and
+                                    the place is the number of its rules */
     ZGV_NOT_ALONE         = 19,  /* its rule does not match the token's bytes, or
                                     an earlier rule does too */
     ZGV_OUTPUT_TOO_LONG   = 20,  /* over 65,536 bytes to be written; place 0 */
@@ -140,6 +195,42 @@ enum {
     ZGV_SEPARATOR_IN_LIST = 26   /* a token of the list is of separator kind */
 };
 
+/* What a number says, in a few English words; for numbers that no call answers
+   too. */
+static inline const char *zgv_refusal_text(unsigned number)
+{
+    switch (number) {
+    case ZGV_ACCEPTED:          return "accepted";
+    case ZGV_BOOK_TOO_LONG:     return "the book has more than 32,768 bytes";
+    case ZGV_CUT_OFF:           return "the book stops before its END, or inside a command";
+    case ZGV_MISPLACED:         return "no command of a book, or one that may not stand here";
+    case ZGV_BYTES_AFTER_END:   return "bytes follow the book's END";
+    case ZGV_TOO_MANY:          return "the book has a 33rd rule, or a rule a 513th move";
+    case ZGV_OUT_OF_RANGE:      return "a tag is 0, a kind above 1, or a move's low above its high";
+    case ZGV_TAG_TAKEN:         return "an earlier rule of the book has the same tag";
+    case ZGV_TWICE_OR_MISSING:  return "a rule has START or ERROR twice, or not at all";
+    case ZGV_OVERLAP:           return "two moves of a rule leave one state at the same byte";
+    case ZGV_LEAVES_ERROR:      return "a move leaves a rule's error state";
+    case ZGV_ERROR_FINAL:       return "a rule's error state is final";
+    case ZGV_START_FINAL:       return "a rule's start is final";
+    case ZGV_NO_RULE:           return "the book has no rule";
+    case ZGV_TEXT_TOO_LONG:     return "the text has more than 65,536 bytes";
+    case ZGV_TOO_FEW_RECORDS:   return "there is room for fewer records than the text has tokens";
+    case ZGV_TOO_MANY_TOKENS:   return "the list has more than 65,536 tokens";
+    case ZGV_PAST_THE_POOL:     return "a token passes the end of the pool";
+    case ZGV_UNKNOWN_TAG:       return "the book has no such rule";
+    case ZGV_NOT_ALONE:         return "a token alone is not cut as itself";
+    case ZGV_OUTPUT_TOO_LONG:   return "more than 65,536 bytes would be written";
+    case ZGV_READ_ON:           return "a token would be read on into what follows it";
+    case ZGV_OUTPUT_TOO_SHORT:  return "the output has too little room";
+    case ZGV_SHARED_BYTE:       return "a plain and a separator rule of the book use the same byte";
+    case ZGV_UNKNOWN_MODE:      return "there is no such mode";
+    case ZGV_NO_SEPARATOR:      return "the separator token is of a plain rule";
+    case ZGV_SEPARATOR_IN_LIST: return "a token of the list is of a separator rule";
+    default:                    return "no number that a call answers";
+    }
+}
+
 /* ---- Reading an answer -------------------------------------------------- */
 
 /* The refusal's number, ZGV_ACCEPTED (0) where the call was accepted. */
@@ -154,13 +245,13 @@ static inline uint64_t zgv_place(uint64_t answer)
     return answer & (((uint64_t)1 << 56) - 1);
 }
 
-/* Of an accepted call: the first value (rules, tokens or bytes). */
+/* Of an accepted call: the first value (rules, tokens, bytes or a tag). */
 static inline uint32_t zgv_first(uint64_t answer)
 {
     return (uint32_t)(answer >> 28) & 0x0FFFFFFFu;
 }
 
-/* Of an accepted call: the second value (of lexing, the place of the rest). */
+/* Of an accepted call: the second value (the place of the rest, or a kind). */
 static inline uint32_t zgv_second(uint64_t answer)
 {
     return (uint32_t)answer & 0x0FFFFFFFu;
@@ -213,15 +304,28 @@ static inline void zgv_put_record(uint8_t *records, size_t index, zgv_token toke
 uint64_t zgv_read_book(const uint8_t *book, size_t book_len);
 
 /*
+ * Says the tag and the kind of rule number `index` of a book, from 0 in the
+ * book's order. zgv_read_book() says how many rules there are.
+ *
+ * Accepted: first value the tag, second the kind, ZGV_KIND_PLAIN or
+ * ZGV_KIND_SEPARATOR. Refused: 1 to 13 for the book; 18 where `index` is past the
+ * last rule, its place the number of rules.
+ */
+uint64_t zgv_rule(const uint8_t *book, size_t book_len, uint32_t index);
+
+/*
  * Cuts `text` by `book` and stores a record of each token, in order, from the
  * start of `records`. Cutting ends at the text's end, or at the first place
- * where no rule matches; what is left there is the rest.
+ * where no rule matches; what is left there is the rest. Look at it: a text whose
+ * second value is below text_len was not cut to its end.
  *
- * Accepted: first value the number of tokens, second the place of the rest,
- * which is text_len where nothing is left. Each token's place counts in `text`.
+ * Accepted: first value the number of tokens, second the place of the rest in
+ * `text`, which is text_len where nothing is left. A token's place counts in
+ * `text` too.
  * Refused: 1 to 13 for the book; 14; 15 where `records` has room for fewer
- * tokens than the cut has. The place of 15 is the number of records to lend. A token
- * has at least one byte, so text_len records are always enough.
+ * tokens than the cut has. The place of 15 is the number of tokens, so that a
+ * call with no records says how many are needed. A token has at least one byte,
+ * so text_len records are always enough.
  */
 uint64_t zgv_lex(const uint8_t *book, size_t book_len,
                  const uint8_t *text, size_t text_len,
@@ -236,17 +340,43 @@ uint64_t zgv_lex(const uint8_t *book, size_t book_len,
  *    tag 4, separator    one line feed
  *    tag 5, plain        one [ or one ]
  *
+ * No rule matches a byte of 00 to 08, 0B to 1F or 7F: cutting ends at the first
+ * one, and the rest begins there. Carriage return, 0D, is such a byte: of a sheet
+ * with CR LF line ends no more than the first line is cut. Take the CRs out of it
+ * before, or cut it by a book that has a rule for them (FORMAT.md has one).
+ *
  * Accepted: as zgv_lex(). Refused: 14, 15.
  */
 uint64_t zgv_lex_builtin(const uint8_t *text, size_t text_len,
                          uint8_t *records, size_t records_len);
 
 /*
+ * The built-in book as bytes, for calls that take a book: zgv_lex() by it answers
+ * as zgv_lex_builtin(), and the printers print what either has cut.
+ */
+static const uint8_t zgv_builtin_book[168] ZGV_UNUSED = {
+    0x01, 0x00, 0x01, 0x00, 0x02, 0x00, 0x03, 0x0B, 0x04, 0x0A, 0x05, 0x00,
+    0x5B, 0x01, 0x06, 0x01, 0x30, 0x39, 0x02, 0x06, 0x02, 0x30, 0x39, 0x03,
+    0x05, 0x03, 0x3A, 0x04, 0x06, 0x04, 0x30, 0x39, 0x05, 0x06, 0x05, 0x30,
+    0x39, 0x06, 0x05, 0x06, 0x2E, 0x07, 0x06, 0x07, 0x30, 0x39, 0x08, 0x06,
+    0x08, 0x30, 0x39, 0x09, 0x05, 0x09, 0x5D, 0x0A, 0x07, 0x01, 0x00, 0x02,
+    0x00, 0x02, 0x00, 0x03, 0x02, 0x04, 0x01, 0x06, 0x00, 0x21, 0x5A, 0x01,
+    0x05, 0x00, 0x5C, 0x01, 0x06, 0x00, 0x5E, 0x7E, 0x01, 0x06, 0x00, 0x80,
+    0xFF, 0x01, 0x06, 0x01, 0x21, 0x5A, 0x01, 0x05, 0x01, 0x5C, 0x01, 0x06,
+    0x01, 0x5E, 0x7E, 0x01, 0x06, 0x01, 0x80, 0xFF, 0x01, 0x07, 0x01, 0x00,
+    0x03, 0x01, 0x02, 0x00, 0x03, 0x02, 0x04, 0x01, 0x05, 0x00, 0x20, 0x01,
+    0x05, 0x00, 0x09, 0x01, 0x05, 0x01, 0x20, 0x01, 0x05, 0x01, 0x09, 0x01,
+    0x07, 0x01, 0x00, 0x04, 0x01, 0x02, 0x00, 0x03, 0x02, 0x04, 0x01, 0x05,
+    0x00, 0x0A, 0x01, 0x07, 0x01, 0x00, 0x05, 0x00, 0x02, 0x00, 0x03, 0x02,
+    0x04, 0x01, 0x05, 0x00, 0x5B, 0x01, 0x05, 0x00, 0x5D, 0x01, 0x07, 0x08
+};
+
+/*
  * Writes the bytes of the tokens of `records`, joined, from the start of `out`.
  * The tokens' bytes stand anywhere in `pool`; they may overlap and be used twice.
  *
- * The list is every record that `records` has room for: lend exactly
- * 10 * (number of tokens) bytes of it.
+ * The list is every record that `records` has room for: records_len is 10 times
+ * the number of tokens, not the length of a larger buffer.
  *
  * Accepted: first value the number of bytes written, second 0. Cutting them by
  * the same book gives the same tags and bytes, and no rest. The output of an
@@ -261,14 +391,16 @@ uint64_t zgv_print(const uint8_t *book, size_t book_len,
 /*
  * The same with a separator token between neighbours, never after the last. Its
  * bytes stand in `pool` too, separator_length of them at separator_place, and its
- * tag is that of a separator rule. The tokens of the list are of plain rules.
+ * tag is that of a separator rule. The tokens of the list are of plain rules;
+ * zgv_rule() says which tags those are.
  *
  * `mode` says where a separator goes: ZGV_MODE_ALL between all neighbours,
  * ZGV_MODE_SPARE only after a token that some rule would read on into what is
  * written after it, ZGV_MODE_DEFAULT as ZGV_MODE_ALL.
  *
- * The plain and the separator rules of the book must have no byte in common on
- * transitions that avoid the error state (23).
+ * The plain and the separator rules of the book have no byte in common on
+ * moves that do not lead to the error state; else 23 is answered, for every list
+ * (FORMAT.md says what to do about it).
  *
  * Accepted: first value the number of bytes written, second 0. Cutting them by
  * the same book, and leaving out each token of a separator rule, gives the same

@@ -1,25 +1,18 @@
 #!/bin/sh
-# Runs cutlist on books and texts and compares what it prints: tests/cutlist.sh PROGRAM (as target/bin/cutlist).
-# It goes through what only the program itself shows: files that are missing, a refused book, and its 6,000 records.
-set -u
-program=$(cd "$(dirname "$1")" && pwd)/$(basename "$1")
-dir=$(mktemp -d) || exit 1
-trap 'rm -rf "$dir"' EXIT
-cd "$dir" || exit 1
-failed=0
+# cutlist, on books and texts in files: what only the program itself shows, as files that are missing, and its 6,000 records.
+. "$(dirname "$0")/common"
+needs build/cutlist
+program=$PWD/build/cutlist
+mkdir "$tmp/case" && cd "$tmp/case" || exit 1
+runs=0
 
-# What cutlist prints in this folder must be what standard input says; then the folder is emptied for the next case.
+# What cutlist prints in this folder is what standard input says; then the folder is emptied for the next case.
 expect() { # NAME
-    cat >../expected.$$
-    "$program" >../printed.$$
-    if cmp -s ../expected.$$ ../printed.$$; then
-        echo "cutlist: $1"
-    else
-        echo "cutlist: $1: FAILED; expected, then printed, the first lines:"
-        head -n 3 ../expected.$$ ../printed.$$
-        failed=1
-    fi
-    rm -f book.bin text.bin ../expected.$$ ../printed.$$
+    cat >"$tmp/expected"
+    "$program" >"$tmp/printed"
+    cmp -s "$tmp/expected" "$tmp/printed" || fail "cutlist, $1: it prints $(head -n 3 "$tmp/printed")"
+    rm -f book.bin text.bin
+    runs=$((runs + 1))
 }
 
 # Book A of document 01: 1 matches a and abc, 2 b, 3 c; 4, a separator, blanks. State 9 is every rule's error state.
@@ -34,8 +27,6 @@ book_a() {
 letters() { # COUNT LETTER
     head -c "$1" /dev/zero | tr '\0' "$2"
 }
-
-mkdir case && cd case || exit 1
 
 # document 01's book whose one rule matches a
 printf '\1\0\1\0\2\0\3\2\4\1\5\0a\1\7\10' >book.bin
@@ -94,8 +85,8 @@ END
 
 book_a
 letters 6000 b >text.bin
-awk 'BEGIN { for (i = 0; i < 6000; i++) print i, 2, i, 1; print "rest 6000 0" }' >../lines
-expect '6,000 tokens' <../lines
+awk 'BEGIN { for (i = 0; i < 6000; i++) print i, 2, i, 1; print "rest 6000 0" }' >"$tmp/lines"
+expect '6,000 tokens' <"$tmp/lines"
 
 book_a
 letters 6001 b >text.bin
@@ -115,4 +106,4 @@ expect 'a text of 65,537 bytes' <<'END'
 refused 14 0
 END
 
-exit $failed
+echo "cutlist: $runs runs print what they should"

@@ -1,7 +1,7 @@
 #!/bin/sh
-# Holds the documents to the repository: tests/links.sh. Every link of README.md and docs/ leads to a file that is there; in docs/PROMISES.md a link's
-# name is declared in the file that it leads to, and every must-fail edit is named by a row.
-cd "$(dirname "$0")/.." || exit 1
+# The documents: every link of README.md and docs/ leads to a file that is there. In docs/PROMISES.md a link's name is declared in the file that it
+# leads to, and every must-fail edit is named by a row; docs/ASSUMPTIONS.md has every file of definitions, with its number of lines.
+. "$(dirname "$0")/common"
 failed=0
 say() {
     echo "links: $*"
@@ -26,8 +26,7 @@ declares() { # FILE NAME
 }
 
 tab=$(printf '\t')
-list=$(mktemp) || exit 1
-trap 'rm -f "$list" "$list.lines"' EXIT
+list=$tmp/links
 for document in README.md docs/*.md docs/landings/*.md; do
     [ -f "$document" ] || continue
     links_of "$document" >"$list"
@@ -51,13 +50,13 @@ for edit in crates/*/must-fail/*.edit; do
     cut -f2 "$list" | grep -qxF "$edit" || say "docs/PROMISES.md: no row names $edit"
 done
 # docs/ASSUMPTIONS.md names every file of definitions, with its number of lines.
-sed -n 's/^| \[[^]]*\](\.\.\/\(crates\/[^)]*\.antt\)) | \([0-9]*\) |.*/\1 \2/p' docs/ASSUMPTIONS.md >"$list.lines"
+sed -n 's/^| \[[^]]*\](\.\.\/\(crates\/[^)]*\.antt\)) | \([0-9]*\) |.*/\1 \2/p' docs/ASSUMPTIONS.md >"$tmp/lines"
 while read -r path lines; do
     [ "$(wc -l <"$path")" -eq "$lines" ] || say "docs/ASSUMPTIONS.md: $path has $(wc -l <"$path") lines"
-done <"$list.lines"
+done <"$tmp/lines"
 for path in crates/*/specs/*.antt; do
     case $path in */Contracts.antt | */Lib.antt | */Valid.antt) continue ;; esac
-    grep -q "^$path " "$list.lines" || say "docs/ASSUMPTIONS.md: no row names $path"
+    grep -q "^$path " "$tmp/lines" || say "docs/ASSUMPTIONS.md: no row names $path"
 done
 
 [ $failed -eq 0 ] && echo "links: $(wc -l <"$list") links of docs/PROMISES.md lead where they say"

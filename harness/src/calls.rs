@@ -1,23 +1,31 @@
-//! A call of one of the five operations, and what it leaves.
+//! A call of one of the six operations, and what it leaves.
 
 use crate::reference::{self, Cut, Record, Refusal};
 
 #[derive(Clone, Copy, Debug, PartialEq, Eq, PartialOrd, Ord)]
 pub enum Operation {
     ReadBook,
+    Rule,
     Lex,
     LexBuiltin,
     Print,
     PrintSeparated,
 }
 
-pub const OPERATIONS: [Operation; 5] =
-    [Operation::ReadBook, Operation::Lex, Operation::LexBuiltin, Operation::Print, Operation::PrintSeparated];
+pub const OPERATIONS: [Operation; 6] = [
+    Operation::ReadBook,
+    Operation::Rule,
+    Operation::Lex,
+    Operation::LexBuiltin,
+    Operation::Print,
+    Operation::PrintSeparated,
+];
 
 impl Operation {
     pub fn name(self) -> &'static str {
         match self {
             Operation::ReadBook => "zgv_read_book",
+            Operation::Rule => "zgv_rule",
             Operation::Lex => "zgv_lex",
             Operation::LexBuiltin => "zgv_lex_builtin",
             Operation::Print => "zgv_print",
@@ -37,6 +45,8 @@ pub struct Call {
     pub out: Vec<u8>,
     pub separator: Record,
     pub mode: u32,
+    /// The number of a rule.
+    pub index: u32,
 }
 
 const NO_RECORD: Record = Record { tag: 0, place: 0, length: 0 };
@@ -51,11 +61,16 @@ impl Call {
             out: Vec::new(),
             separator: NO_RECORD,
             mode: 0,
+            index: 0,
         }
     }
 
     pub fn read_book(book: &[u8]) -> Call {
         Call { book: book.to_vec(), ..Call::new(Operation::ReadBook) }
+    }
+
+    pub fn rule(book: &[u8], index: u32) -> Call {
+        Call { book: book.to_vec(), index, ..Call::new(Operation::Rule) }
     }
 
     pub fn lex(book: &[u8], text: &[u8], records: Vec<u8>) -> Call {
@@ -92,7 +107,7 @@ impl Call {
     /// The buffers lent, with the names of the header.
     pub fn buffers(&self) -> Vec<(&'static str, &Vec<u8>)> {
         match self.operation {
-            Operation::ReadBook => vec![("book", &self.book)],
+            Operation::ReadBook | Operation::Rule => vec![("book", &self.book)],
             Operation::Lex => vec![("book", &self.book), ("text", &self.text), ("records", &self.records)],
             Operation::LexBuiltin => vec![("text", &self.text), ("records", &self.records)],
             Operation::Print | Operation::PrintSeparated => {
@@ -162,6 +177,10 @@ pub fn expected(call: &Call) -> Outcome {
     let room = call.records.len() / reference::RECORD_BYTES;
     let answer = match call.operation {
         Operation::ReadBook => reference::read_book(&call.book).map(|rules| accepted(rules, 0)),
+        Operation::Rule => {
+            let named = reference::rule(&call.book, call.index as usize);
+            named.map(|(tag, kind)| accepted(tag as usize, kind as usize))
+        }
         Operation::Lex => reference::lex(&call.book, &call.text, room).map(|c| store(c, &mut after.records)),
         Operation::LexBuiltin => reference::lex(BUILTIN, &call.text, room).map(|c| store(c, &mut after.records)),
         Operation::Print => {

@@ -71,6 +71,7 @@ pub fn calls() -> Vec<(String, Call)> {
         if call.operation == Operation::ReadBook {
             let record = bytes_of(&[record(1, 0, 1)]);
             let between = Record { tag: 2, place: 1, length: 1 };
+            all.push((format!("{name}, its first rule"), Call::rule(&call.book, 0)));
             all.push((format!("{name}, cutting"), Call::lex(&call.book, b"abca", room(4))));
             all.push((format!("{name}, writing"), Call::print(&call.book, record.clone(), b"a", vec![0xEE; 2])));
             let call = Call::print_separated(&call.book, between, 2, record, b"a ", vec![0xEE; 2]);
@@ -79,6 +80,7 @@ pub fn calls() -> Vec<(String, Call)> {
         all.push((name.to_string(), call));
     };
     books(&mut add);
+    rules(&mut add);
     faults(&mut add);
     cuts(&mut add);
     prints(&mut add);
@@ -148,6 +150,32 @@ fn books(add: Add) {
     let error_starts = Rule { tag: 1, kind: 0, start: 0, error: 0, finals: vec![1], moves: vec![(2, 0, 255, 1)] };
     let bytes = book(vec![error_starts, letter(2, 0, b'a', true)]).bytes();
     add("a rule that starts in its error state", Call::lex(&bytes, b"aab", room(3)));
+}
+
+/// Each rule of a book by its number, and numbers past the last one.
+fn rules(add: Add) {
+    for count in [1, 2, 31, 32, 33] {
+        // tags that fall, with both bytes in use; kinds that alternate
+        let tag = |k: u16| 65_535 - 257 * k;
+        let bytes = book((0..count).map(|k| letter(tag(k), (k % 2) as u8, k as u8, true)).collect()).bytes();
+        for index in (0..40).chain([255, 256, 65_535, 65_536, 1 << 31, u32::MAX]) {
+            add(&format!("rule {index} of {count}"), Call::rule(&bytes, index));
+        }
+    }
+    for index in 0..6 {
+        add("a rule of the built-in book", Call::rule(BUILTIN, index));
+    }
+    // bytes of a rule that are RULE's code, but no command
+    let odd =
+        Rule { tag: 0x0101, kind: 1, start: 1, error: 0, finals: vec![2], moves: vec![(1, 1, 1, 2), (2, 1, 8, 1)] };
+    let bytes = book(vec![odd, letter(0x0100, 0, 1, false), letter(1, 1, 1, true)]).bytes();
+    for index in 0..4 {
+        add("rules with RULE's code among their operands", Call::rule(&bytes, index));
+    }
+    let full = crowded(32_768);
+    for index in [0, 1, 15, 16, 17, 31, 32] {
+        add("a rule of a book full of moves", Call::rule(&full, index));
+    }
 }
 
 /// Small books around every refusal: cut off at each byte, changed at each byte, and with several faults at once.

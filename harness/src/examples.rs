@@ -129,6 +129,7 @@ fn said(call: &Call, outcome: &Outcome) -> String {
     }
     match call.operation {
         Operation::ReadBook => format!("{count} rule"),
+        Operation::Rule => format!("tag {count}, kind {}", answer.second()),
         Operation::Print | Operation::PrintSeparated => {
             format!("{:?}", String::from_utf8_lossy(&outcome.buffers[3][..count]))
         }

@@ -525,6 +525,9 @@ pub fn case(r: &mut Random) -> Vec<Call> {
     let out = vec![0; paper::TEXT_BYTES];
     let call = Call::print_separated(&bytes, spaced.separator, mode, records, &spaced.pool, out);
     calls.push(with_room(r, call, false));
+
+    let index = if r.once_in(20) { r.next() as u32 } else { r.from(0, rules.rules.len()) as u32 };
+    calls.push(Call::rule(&bytes, index));
     calls
 }
 

@@ -1,6 +1,6 @@
 //! Compares libzagvulem.a with a second implementation of document 01: answers, places and every byte of every lent buffer.
 //!
-//! harness [--cases N] [--seed S] [--case K] [--plant FAULT] [--threads N] [--verbose]
+//! harness [--cases N] [--seed S] [--case K] [--plant FAULT] [--threads N] [--verbose] [--count]
 
 mod calls;
 mod edges;
@@ -27,17 +27,19 @@ struct Options {
     plant: Option<Fault>,
     threads: u64,
     verbose: bool,
+    count: bool,
 }
 
 fn usage() -> ! {
-    eprintln!("usage: harness [--cases N] [--seed S] [--case K] [--plant FAULT] [--threads N] [--verbose]");
+    eprintln!("usage: harness [--cases N] [--seed S] [--case K] [--plant FAULT] [--threads N] [--verbose] [--count]");
     eprintln!("faults: {}", plant::FAULTS.iter().map(|f| f.name()).collect::<Vec<_>>().join(", "));
     std::process::exit(2)
 }
 
 fn options() -> Options {
     let threads = std::thread::available_parallelism().map_or(1, |n| n.get() as u64);
-    let mut options = Options { cases: 20_000, seed: 1, only: None, plant: None, threads, verbose: false };
+    let mut options =
+        Options { cases: 20_000, seed: 1, only: None, plant: None, threads, verbose: false, count: false };
     let mut words = std::env::args().skip(1);
     while let Some(word) = words.next() {
         let mut number = || words.next().and_then(|n| n.parse().ok()).unwrap_or_else(|| usage());
@@ -51,6 +53,7 @@ fn options() -> Options {
             }
             "--threads" => options.threads = number(),
             "--verbose" => options.verbose = true,
+            "--count" => options.count = true,
             _ => usage(),
         }
     }
@@ -116,6 +119,7 @@ fn possible(operation: Operation) -> Vec<u8> {
     let book = 0..=13;
     match operation {
         Operation::ReadBook => book.collect(),
+        Operation::Rule => book.chain([18]).collect(),
         Operation::Lex => book.chain(14..=15).collect(),
         Operation::LexBuiltin => vec![0, 14, 15],
         Operation::Print => book.chain(16..=22).collect(),
@@ -183,7 +187,7 @@ impl Work<'_> {
         let mut state = self.state.lock().unwrap();
         state.running.remove(&number);
         if let Err(difference) = result {
-            if state.first.as_ref().is_none_or(|(n, _)| number < *n) {
+            if state.first.as_ref().map_or(true, |(n, _)| number < *n) {
                 state.first = Some((number, difference));
             }
         }
@@ -220,6 +224,10 @@ fn differs(difference: &str) -> ! {
 
 pub fn main() {
     let options = options();
+    if options.count {
+        println!("{} edges", edges::calls().len());
+        return;
+    }
     if let Some(case) = options.only {
         if let Err(difference) = Run::new(options.plant).case(options.seed, case) {
             differs(&difference);

@@ -21,9 +21,11 @@ pub enum Fault {
     Neighbours,
     /// Mode 2 decides from the front, by a token and its neighbour.
     FromTheFront,
+    /// A rule past the last one is answered as the last one.
+    LastRule,
 }
 
-pub const FAULTS: [Fault; 7] = [
+pub const FAULTS: [Fault; 8] = [
     Fault::Tie,
     Fault::Need,
     Fault::PastTheCount,
@@ -31,6 +33,7 @@ pub const FAULTS: [Fault; 7] = [
     Fault::LastSeparator,
     Fault::Neighbours,
     Fault::FromTheFront,
+    Fault::LastRule,
 ];
 
 impl Fault {
@@ -43,6 +46,7 @@ impl Fault {
             Fault::LastSeparator => "last-separator",
             Fault::Neighbours => "neighbours",
             Fault::FromTheFront => "from-the-front",
+            Fault::LastRule => "last-rule",
         }
     }
 
@@ -54,8 +58,9 @@ impl Fault {
 /// Calls the library, with the fault where one is planted.
 pub fn run(fault: Option<Fault>, library: &mut Library, call: &Call, against: Against) -> Result<Outcome, String> {
     let sound = library.run(call, against)?;
-    let Some(fault) = fault else {
-        return Ok(sound);
+    let fault = match fault {
+        Some(fault) => fault,
+        None => return Ok(sound),
     };
     Ok(match fault {
         Fault::Tie => tie(library, call, against, sound)?,
@@ -65,6 +70,7 @@ pub fn run(fault: Option<Fault>, library: &mut Library, call: &Call, against: Ag
         Fault::LastSeparator => last_separator(call, sound),
         Fault::Neighbours => neighbours(library, call, against, sound)?,
         Fault::FromTheFront => from_the_front(library, call, against, sound)?,
+        Fault::LastRule => last_rule(library, call, against, sound)?,
     })
 }
 
@@ -176,4 +182,12 @@ fn from_the_front(library: &mut Library, call: &Call, against: Against, sound: O
         }
     }
     Ok(written(call, &text))
+}
+
+fn last_rule(library: &mut Library, call: &Call, against: Against, sound: Outcome) -> Result<Outcome, String> {
+    let answer = Answer(sound.answer);
+    if call.operation != Operation::Rule || answer.number() != 18 {
+        return Ok(sound);
+    }
+    library.run(&Call::rule(&call.book, answer.place() as u32 - 1), against)
 }

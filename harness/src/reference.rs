@@ -108,8 +108,9 @@ pub fn read_book(book: &[u8]) -> Result<usize, Refusal> {
         if !allowed {
             return refuse(3, at);
         }
-        let Some(o) = book.get(at + 1..at + 1 + operands_of(code)) else {
-            return refuse(2, at);
+        let o = match book.get(at + 1..at + 1 + operands_of(code)) {
+            Some(o) => o,
+            None => return refuse(2, at),
         };
         match (code, open.as_mut()) {
             (RULE, _) => {
@@ -173,8 +174,9 @@ pub fn read_book(book: &[u8]) -> Result<usize, Refusal> {
 }
 
 fn fault_at_close(rule: &Open) -> Option<u8> {
-    let (Some(start), Some(error)) = (rule.starts.first(), rule.errors.first()) else {
-        return Some(8);
+    let (start, error) = match (rule.starts.first(), rule.errors.first()) {
+        (Some(start), Some(error)) => (start, error),
+        _ => return Some(8),
     };
     let mut covered: BTreeSet<(u8, u8)> = BTreeSet::new();
     for &(from, low, high) in &rule.moves {
@@ -234,6 +236,15 @@ pub fn tag_of(rule: &[u8]) -> u16 {
 
 pub fn is_separator(rule: &[u8]) -> bool {
     rule[3] == 1
+}
+
+/// The tag and the kind of a rule: the operands of the RULE command of that number.
+pub fn rule(book: &[u8], index: usize) -> Result<(u16, u8), Refusal> {
+    let count = read_book(book)?;
+    match commands(book).filter(|c| c.0 == RULE).nth(index) {
+        Some((_, o)) => Ok((u16::from_be_bytes([o[0], o[1]]), o[2])),
+        None => refuse(18, count),
+    }
 }
 
 fn step(rule: &[u8], state: u8, byte: u8) -> u8 {
@@ -334,11 +345,13 @@ impl<'a> Tags<'a> {
 
     /// A token's bytes and its rule's rank, or 17, 18, 19 at `place`.
     fn check<'p>(&self, r: Record, pool: &'p [u8], place: usize) -> Result<(&'p [u8], usize), Refusal> {
-        let Some(bytes) = r.bytes(pool) else {
-            return refuse(17, place);
+        let bytes = match r.bytes(pool) {
+            Some(bytes) => bytes,
+            None => return refuse(17, place),
         };
-        let Some(&rank) = self.ranks.get(&r.tag) else {
-            return refuse(18, place);
+        let rank = match self.ranks.get(&r.tag) {
+            Some(&rank) => rank,
+            None => return refuse(18, place),
         };
         let first = self.rules.iter().position(|rule| matches(rule, bytes));
         if first != Some(rank) {

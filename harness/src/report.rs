@@ -95,6 +95,9 @@ pub fn reproduction(call: &Call, ours: &Result<Outcome, String>, second: &Outcom
         let s = call.separator;
         lines.push(format!("  separator tag {} place {} length {}, mode {}", s.tag, s.place, s.length, call.mode));
     }
+    if call.operation == Operation::Rule {
+        lines.push(format!("  index {}", call.index));
+    }
     for (name, bytes) in call.buffers() {
         lines.push(format!("  {name}, {}", hex(bytes)));
     }

@@ -1,0 +1,91 @@
+#!/bin/sh
+# docs/FORMAT.md: its commands print what it says, and its numbers are so.
+. "$(dirname "$0")/common"
+needs build/cutlist build/player
+cutlist=$PWD/build/cutlist
+PATH=$PWD/examples:$PATH
+
+# run from a folder that has what the commands ask for
+mkdir "$tmp/top" "$tmp/top/build"
+cp -R examples "$tmp/top/"
+cp build/cutlist build/player "$tmp/top/build/"
+printf 'all:\n' >"$tmp/top/Makefile"
+awk -v LANG=sh -f tests/blocks.awk docs/FORMAT.md >"$tmp/commands"
+awk -v LANG=text -f tests/blocks.awk docs/FORMAT.md >"$tmp/wanted"
+[ "$(grep -c '^echo @@$' "$tmp/commands")" -ge 8 ] || fail 'docs/FORMAT.md has fewer commands than it had'
+(cd "$tmp/top" && sh "$tmp/commands") 2>&1 | grep -v '^make: ' >"$tmp/printed"
+diff "$tmp/wanted" "$tmp/printed" || fail 'the commands of docs/FORMAT.md print something else'
+
+# 23: the second way out that it names, and a catch-all over all bytes
+player=$PWD/build/player
+cd "$tmp/top/build/try" || exit 1
+hex() { od -An -v -tx1 "$1" | tr -d '\n'; }
+hex comments.bin | sed 's/01 00 03 01/01 00 03 00/' | make-book.sh >feeds.bin
+[ "$("$player" -l feeds.bin sheet 2>/dev/null)" = "$(printf 'oh no # twice\nyes')" ] || fail 'the line feed as the only separator'
+builtin=$tmp/top/examples/builtin.bin
+{ hex "$builtin" | sed 's/08$//'; echo ' 01 00 06 00 02 00 03 02 04 01 06 00 00 ff 01 07 08'; } | make-book.sh >book.bin
+printf 'oh\r\n' >text.bin
+[ "$("$cutlist" | tr '\n' /)" = '0 2 0 2/1 6 2 1/2 4 3 1/rest 4 0/' ] || fail 'a catch-all over all bytes'
+"$player" -l book.bin text.bin >/dev/null 2>said && fail 'a catch-all over all bytes is not refused by 23'
+grep -q '(number 23, byte 09)' said || fail "of a catch-all over all bytes the player says: $(cat said)"
+
+cd "$tmp" || exit 1
+# reads STATUS-LINE: what cutlist says of book.bin with an empty text
+: >text.bin
+reads() {
+    said=$("$cutlist")
+    [ "$said" = "$1" ] || fail "$2: $said"
+}
+
+# moves COUNT WIDTH: a book of 32 rules with so many moves, of 4 or 5 bytes each, spread evenly
+moves() {
+    awk -v count="$1" -v width="$2" 'BEGIN {
+        for (rule = 1; rule <= 32; rule++) {
+            printf "01 00 %02x 00 02 00 03 ff 04 01\n", rule
+            own = int(count / 32) + (rule <= count % 32)
+            for (i = 0; i < own; i++)
+                printf width == 4 ? "05 %02x %02x 01\n" : "06 %02x %02x %02x 01\n", int(i / 256), i % 256, i % 256
+            print "07"
+        }
+        print "08"
+    }' | make-book.sh >book.bin
+}
+moves 8103 4; reads 'rest 0 0' '8,103 STEPs in 32 rules'
+moves 8104 4; reads 'refused 1 0' '8,104 STEPs in 32 rules'
+moves 6483 5; reads 'rest 0 0' '6,483 SPANs in 32 rules'
+moves 6484 5; reads 'refused 1 0' '6,484 SPANs in 32 rules'
+
+# words RULES: a book of so many rules, each of 42 words of six letters that share no beginning but for the last two letters
+words() {
+    awk -v rules="$1" 'BEGIN {
+        for (rule = 1; rule <= rules; rule++) {
+            printf "01 00 %02x 00 02 00 03 ff\n", rule
+            state = 0
+            for (word = 0; word < 42; word++) {
+                from = 0
+                for (letter = 0; letter < 6; letter++) {
+                    state++
+                    printf "05 %02x %02x %02x\n", from, letter == 0 ? 65 + word : 97 + letter, state
+                    from = state
+                }
+                printf "04 %02x\n", from
+            }
+            print "07"
+        }
+        print "08"
+    }' | make-book.sh >book.bin
+}
+words 29; reads 'rest 0 0' '29 rules of 42 words of six letters'
+words 30; reads 'refused 1 0' '30 rules of 42 words of six letters'
+words 1
+printf 'AbcdefBbcdefjbcdef' >text.bin
+[ "$("$cutlist" | tail -n 1)" = 'rest 18 0' ] || fail 'words of a list are not cut'
+
+# refusals of a faulty hexadecimal text and of books that are no books
+echo '01 0' | make-book.sh >bad 2>said && fail 'make-book.sh takes a byte of one digit'
+grep -q 'line 1: not a byte of two hexadecimal digits: 0' said || fail "make-book.sh says: $(cat said)"
+printf '\001\000' >bad
+list-book.sh bad >listed && fail 'list-book.sh takes a book that is cut off'
+[ "$(cat listed)" = '    0  RULE, cut off' ] || fail "list-book.sh says: $(cat listed)"
+
+echo "format: $(grep -c '^echo @@$' commands) commands print what the document says, and its numbers hold"

@@ -1,0 +1,135 @@
+/* Holds what include/zagvulem.h says to the library: the argument is examples/builtin.bin, standard input a sheet. C99 and C++. */
+#include "zagvulem.h"
+#include "zagvulem.h"
+
+#include <stdio.h>
+#include <stdlib.h>
+#include <string.h>
+
+#define HOLDS(fact)                                                    \
+    do {                                                               \
+        if (!(fact)) {                                                 \
+            fprintf(stderr, "header.c:%d: not so: %s\n", __LINE__, #fact); \
+            exit(1);                                                   \
+        }                                                              \
+    } while (0)
+
+#define BOOK zgv_builtin_book, sizeof zgv_builtin_book
+
+static uint8_t sheet[ZGV_TEXT_BYTES], first[ZGV_TEXT_BYTES * ZGV_RECORD_BYTES], second[ZGV_TEXT_BYTES * ZGV_RECORD_BYTES];
+static uint8_t out[ZGV_TEXT_BYTES];
+
+static void versions(void)
+{
+    char numbers[64];
+    sprintf(numbers, "%d.%d.%d", ZGV_VERSION_MAJOR, ZGV_VERSION_MINOR, ZGV_VERSION_PATCH);
+    HOLDS(strcmp(numbers, ZGV_VERSION) == 0);
+}
+
+/* Each number has a text of its own, all others one that is none of them. */
+static void texts(void)
+{
+    unsigned i, k;
+    HOLDS(ZGV_SEPARATOR_IN_LIST == 26);
+    for (i = 0; i <= 27; i++) {
+        HOLDS(strlen(zgv_refusal_text(i)) > 5);
+        for (k = 0; k < i; k++)
+            HOLDS(strcmp(zgv_refusal_text(i), zgv_refusal_text(k)) != 0);
+    }
+    for (i = 28; i < 1000; i++)
+        HOLDS(strcmp(zgv_refusal_text(i), zgv_refusal_text(27)) == 0);
+    HOLDS(strcmp(zgv_refusal_text((unsigned)-1), zgv_refusal_text(27)) == 0);
+}
+
+static void book(const char *name)
+{
+    uint8_t bytes[ZGV_BOOK_BYTES];
+    FILE *file = fopen(name, "rb");
+    size_t length;
+    uint32_t i;
+    HOLDS(file != NULL);
+    length = fread(bytes, 1, sizeof bytes, file);
+    fclose(file);
+    HOLDS(length == sizeof zgv_builtin_book && memcmp(bytes, zgv_builtin_book, length) == 0);
+    HOLDS(zgv_first(zgv_read_book(BOOK)) == 5);
+    for (i = 0; i < 5; i++) {
+        uint64_t answer = zgv_rule(BOOK, i);
+        HOLDS(zgv_number(answer) == ZGV_ACCEPTED && zgv_first(answer) == i + 1);
+        HOLDS(zgv_second(answer) == (uint32_t)(i == 2 || i == 3 ? ZGV_KIND_SEPARATOR : ZGV_KIND_PLAIN));
+    }
+    for (i = 5; i != 0; i *= 2) {
+        uint64_t answer = zgv_rule(BOOK, i);
+        HOLDS(zgv_number(answer) == ZGV_UNKNOWN_TAG && zgv_place(answer) == 5);
+    }
+    HOLDS(zgv_number(zgv_rule(NULL, 0, 0)) == ZGV_CUT_OFF);
+}
+
+/* A text is cut alike by the built-in book as bytes and without; what is cut before a rest is printed as it was. */
+static uint64_t cut_alike(const uint8_t *text, size_t length)
+{
+    uint64_t by_book, built_in, printed;
+    memset(first, 1, sizeof first);
+    memset(second, 1, sizeof second);
+    by_book = zgv_lex(BOOK, text, length, first, sizeof first);
+    built_in = zgv_lex_builtin(text, length, second, sizeof second);
+    HOLDS(zgv_number(by_book) == ZGV_ACCEPTED && by_book == built_in && memcmp(first, second, sizeof first) == 0);
+    printed = zgv_print(BOOK, first, (size_t)zgv_first(by_book) * ZGV_RECORD_BYTES, text, length, out, sizeof out);
+    HOLDS(zgv_number(printed) == ZGV_ACCEPTED && zgv_first(printed) == zgv_second(by_book));
+    HOLDS(memcmp(out, text, zgv_first(printed)) == 0);
+    return by_book;
+}
+
+static void cuts(void)
+{
+    size_t length = fread(sheet, 1, sizeof sheet, stdin), n;
+    unsigned byte;
+    HOLDS(length > 100 && length < sizeof sheet);
+    for (n = 0; n < length; n += 7)
+        cut_alike(sheet, n);
+    HOLDS(zgv_second(cut_alike(sheet, length)) == length);
+    for (byte = 0; byte < 256; byte++) {
+        uint8_t text[4] = {'o', 'h', 0, 'o'};
+        int ends = byte <= 0x08 || (byte >= 0x0B && byte <= 0x1F) || byte == 0x7F;
+        text[2] = (uint8_t)byte;
+        HOLDS(zgv_second(cut_alike(text, 4)) == (uint32_t)(ends ? 2 : 4));
+    }
+}
+
+static void records(void)
+{
+    zgv_token token = {0xABCD, 0x01234567, 0x89ABCDEF}, same;
+    uint8_t bytes[2 * ZGV_RECORD_BYTES] = {0};
+    zgv_put_record(bytes, 1, token);
+    same = zgv_get_record(bytes, 1);
+    HOLDS(same.tag == token.tag && same.place == token.place && same.length == token.length);
+    HOLDS(memcmp(bytes + 10, "\xAB\xCD\x01\x23\x45\x67\x89\xAB\xCD\xEF", 10) == 0 && bytes[9] == 0);
+}
+
+/* Empty buffers may be NULL; 15 says how many records are needed, 22 how many bytes. */
+static void empty(void)
+{
+    const uint8_t *text = (const uint8_t *)"oh no";
+    uint64_t answer;
+    HOLDS(zgv_number(zgv_read_book(NULL, 0)) == ZGV_CUT_OFF);
+    HOLDS(zgv_lex(BOOK, NULL, 0, NULL, 0) == 0 && zgv_lex_builtin(NULL, 0, NULL, 0) == 0);
+    HOLDS(zgv_print(BOOK, NULL, 0, NULL, 0, NULL, 0) == 0);
+    answer = zgv_lex_builtin(text, 5, NULL, 0);
+    HOLDS(zgv_number(answer) == ZGV_TOO_FEW_RECORDS && zgv_place(answer) == 3);
+    HOLDS(zgv_lex_builtin(text, 5, first, 3 * ZGV_RECORD_BYTES) == ((uint64_t)3 << 28 | 5));
+    answer = zgv_print(BOOK, first, 3 * ZGV_RECORD_BYTES, text, 5, NULL, 0);
+    HOLDS(zgv_number(answer) == ZGV_OUTPUT_TOO_SHORT && zgv_place(answer) == 5);
+    answer = zgv_print_separated(BOOK, 3, 2, 1, ZGV_MODE_ALL, NULL, 0, text, 5, NULL, 0);
+    HOLDS(answer == 0);
+}
+
+int main(int argc, char **argv)
+{
+    HOLDS(argc == 2);
+    versions();
+    texts();
+    book(argv[1]);
+    cuts();
+    records();
+    empty();
+    return 0;
+}
