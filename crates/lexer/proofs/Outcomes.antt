@@ -12,11 +12,12 @@ use Rattle.answer.specs.declared.BookAnswer.{BookAnswer}
 use Rattle.answer.specs.declared.LexAnswer.{LexAnswer}
 use Rattle.automaton.specs.Choice.{if}
 use Rattle.automaton.specs.Rule.{Rule}
-use Rattle.automaton.specs.Contracts.{Holds, Held}
+use Rattle.automaton.specs.Contracts.{Holds}
 use Rattle.book.specs.Limits.{maxBytes, maxText}
 use Rattle.reader.specs.Reading.{Reading, accepted, refused, readBook, answer}
 use Rattle.reader.specs.Contracts.{Loaded}
 use Rattle.reader.proofs.Loading.{read-too-long}
+use Rattle.reader.proofs.Loaded.{loaded-rules, loaded-refusal}
 use Rattle.longest_match.specs.Lexer.{lex}
 use Rattle.longest_match.proofs.Lexing.{rest-drop}
 use Rattle.record.specs.Records.{recordCount}
@@ -26,51 +27,28 @@ use Rattle.answer.specs.declared.BookAnswer.the-variants as book
 use Rattle.answer.specs.declared.LexAnswer.the-variants as lexed
 
 module _ {bytes tb : List ℕ} {b : BookAnswer} {n : ℕ} (l : Loaded bytes b tb) (a : b ≡ book.Accepted n) where
-  -- the rules of an accepted book are in the table
-  pub loaded-rules : (rules : List Rule) × ((readBook bytes ≡ accepted rules) × Holds tb rules)
-  loaded-rules = go (readBook bytes) refl
-    where
-      go : (o : Reading) → readBook bytes ≡ o → (rules : List Rule) × ((readBook bytes ≡ accepted rules) × Holds tb rules)
-      go (accepted rules) e = (rules, (e, l .holds rules e))
-      go (refused number place) e =
-          let q : book.Accepted n ≡ book.Refused (record { number = number; place = place }) = sym a ∙ l .answered ∙ ap answer e in
-          let z : _≡_ {A = ℕ} 0 1 = cc in absurd (omega arith)
-
-  pub loaded-held : Held tb
-  loaded-held = record { rules = loaded-rules .0; holds = loaded-rules .1 .1 }
+  abbrev read : (rules : List Rule) × ((readBook bytes ≡ accepted rules) × Holds tb rules)
+  read = loaded-rules l a
 
   pub answered-book : (text records exit : List ℕ) (r : LexAnswer)
       → ((rules : List Rule) → Holds tb rules → LexAnswered (lexRules rules text records) r exit)
       → LexAnswered (lexOutcome bytes text records) r exit
   unfolding lexOutcome
-  answered-book text records exit r h = rw (loaded-rules .1 .0) (h (loaded-rules .0) (loaded-rules .1 .1))
+  answered-book text records exit r h = rw (read .1 .0) (h (read .0) (read .1 .1))
 
   pub rest-book : (text : List ℕ) (place : ℕ) → ((rules : List Rule) → Holds tb rules → RestAt text place (restRules rules text))
       → RestAt text place (restOf bytes text)
   unfolding restOf
-  rest-book text place h = rw (loaded-rules .1 .0) (h (loaded-rules .0) (loaded-rules .1 .1))
+  rest-book text place h = rw (read .1 .0) (h (read .0) (read .1 .1))
 
 module _ {bytes tb : List ℕ} {b : BookAnswer} {f : Refusal} (l : Loaded bytes b tb) (a : b ≡ book.Refused f) where
-  -- a book whose reading answers a refusal is refused so
-  pub loaded-refused : readBook bytes ≡ refused (f .number) (f .place)
-  loaded-refused = go (readBook bytes) refl
-    where
-      go : (o : Reading) → readBook bytes ≡ o → readBook bytes ≡ refused (f .number) (f .place)
-      go (accepted rules) e =
-          let q : book.Refused f ≡ book.Accepted (length rules) = sym a ∙ l .answered ∙ ap answer e in
-          let z : _≡_ {A = ℕ} 0 1 = cc in absurd (omega arith)
-      go (refused number place) e =
-          let q : book.Refused f ≡ book.Refused (record { number = number; place = place }) = sym a ∙ l .answered ∙ ap answer e in
-          let y : f ≡ record { number = number; place = place } = cc in
-          rw y e
-
   pub answered-refused : (text records : List ℕ) → LexAnswered (lexOutcome bytes text records) (lexed.Refused f) records
   unfolding lexOutcome
-  answered-refused text records = rw loaded-refused (record { answer = refl; records = refl })
+  answered-refused text records = rw (loaded-refusal l a) (record { answer = refl; records = refl })
 
   pub rest-refused : (text : List ℕ) → RestAt text 0 (restOf bytes text)
   unfolding restOf
-  rest-refused text = rw loaded-refused (record { within = omega arith; tail = refl })
+  rest-refused text = rw (loaded-refusal l a) (record { within = omega arith; tail = refl })
 
 -- a book that is too long is refused before it is read
 pub answered-too-long : (bytes text records : List ℕ) → maxBytes < length bytes

@@ -8,7 +8,7 @@ use Rattle.answer.specs.declared.PrintAnswer.{PrintAnswer}
 use Rattle.automaton.specs.Rule.{Rule}
 use Rattle.automaton.specs.Contracts.{Holds}
 use Rattle.reader.specs.Contracts.{Loaded}
-use Rattle.lexer.proofs.Outcomes.{loaded-rules, loaded-refused}
+use Rattle.reader.proofs.Loaded.{loaded-rules, loaded-refusal}
 use Rattle.printer.specs.Outcome.{printRules, printOutcome}
 use Rattle.printer.specs.Contracts.{PrintAnswered}
 use Rattle.answer.specs.declared.BookAnswer.the-variants as book
@@ -24,4 +24,4 @@ module _ {bytes tb : List ℕ} {b : BookAnswer} {n : ℕ} (l : Loaded bytes b tb
 module _ {bytes tb : List ℕ} {b : BookAnswer} {f : Refusal} (l : Loaded bytes b tb) (a : b ≡ book.Refused f) where
   pub answered-refused : (records pool out : List ℕ) → PrintAnswered (printOutcome bytes records pool out) (print.Refused f) out
   unfolding printOutcome
-  answered-refused records pool out = rw (loaded-refused l a) (record { answer = refl; out = refl })
+  answered-refused records pool out = rw (loaded-refusal l a) (record { answer = refl; out = refl })

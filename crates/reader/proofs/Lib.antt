@@ -1,4 +1,5 @@
--- `Accepted`: every accepted book is valid; `Loading`: the loop of `load`; `Rules`: one rule of a loaded table.
+-- `Accepted`: every accepted book is valid; `Loading`: the loop of `load`; `Loaded`: what its answer says; `Rules`: one rule of a book.
 pub mod Accepted
 pub mod Loading
+pub mod Loaded
 pub mod Rules

@@ -1,5 +1,5 @@
--- What a loaded table says of a book's rules, and the answer of `rule`. Assumes nothing.
-use mathlib.Core.Path.{_≡_, refl, sym, _∙_, ap}
+-- The answer of `rule`. Assumes nothing.
+use mathlib.Core.Path.{_≡_, refl}
 use mathlib.Core.Option.{none, some}
 use mathlib.Core.List.{List, [], _∷_}
 use Prim.Native.Nat.{ℕ, zero, suc, _<_, _≤_}
@@ -9,10 +9,10 @@ use Rattle.answer.specs.declared.Refusal.{Refusal}
 use Rattle.answer.specs.declared.BookAnswer.{BookAnswer}
 use Rattle.answer.specs.declared.RuleAnswer.{RuleAnswer}
 use Rattle.automaton.specs.Rule.{Rule}
-use Rattle.automaton.specs.Contracts.{ruleAt, Holds, Held}
-use Rattle.reader.specs.Reading.{Reading, accepted, refused, readBook, answer}
-use Rattle.reader.specs.Rules.{numbered, ruleAnswer, ruleReading, ruleOutcome}
+use Rattle.automaton.specs.Contracts.{ruleAt, Holds}
+use Rattle.reader.specs.Rules.{numbered, ruleAnswer, ruleOutcome}
 use Rattle.reader.specs.Contracts.{Loaded}
+use Rattle.reader.proofs.Loaded.{loaded-rules, loaded-refusal}
 use Rattle.answer.specs.declared.BookAnswer.the-variants as book
 use Rattle.answer.specs.declared.RuleAnswer.the-variants as rule
 
@@ -39,32 +39,14 @@ module _ (rules : List Rule) {index count : ℕ} (all : count ≡ length rules) 
       → rule.Rule tag kind ≡ ruleAnswer (numbered rules index) (length rules)
   rule-told l t k = rw (numbered-some rules index (omega arith), t, k)
 
--- ---- a loaded table
+-- ---- by what was loaded
 
-module _ {bytes tb : List ℕ} {b : BookAnswer} {n : ℕ} (l : Loaded bytes b tb) (a : b ≡ book.Accepted n) where
-  -- it holds the rules of an accepted book
-  pub loaded-rules : (rules : List Rule) × ((readBook bytes ≡ accepted rules) × Holds tb rules)
-  loaded-rules = go (readBook bytes) refl
-    where
-      go : (o : Reading) → readBook bytes ≡ o → (rules : List Rule) × ((readBook bytes ≡ accepted rules) × Holds tb rules)
-      go (accepted rules) e = (rules, (e, l .holds rules e))
-      go (refused number place) e =
-          let q : book.Accepted n ≡ book.Refused (record { number = number; place = place }) = sym a ∙ l .answered ∙ ap answer e in
-          let z : _≡_ {A = ℕ} 0 1 = cc in absurd (omega arith)
-
-  pub loaded-held : Held tb
-  loaded-held = record { rules = loaded-rules .0; holds = loaded-rules .1 .1 }
-
-  pub rule-accepted : (index : ℕ) (r : RuleAnswer)
-      → ((rules : List Rule) → Holds tb rules → r ≡ ruleAnswer (numbered rules index) (length rules)) → r ≡ ruleOutcome bytes index
-  unfolding ruleOutcome
-  rule-accepted index r h = rw (loaded-rules .1 .0) (h (loaded-rules .0) (loaded-rules .1 .1))
+pub rule-accepted : {bytes tb : List ℕ} {b : BookAnswer} {n : ℕ} → Loaded bytes b tb → b ≡ book.Accepted n → (index : ℕ) (r : RuleAnswer)
+    → ((rules : List Rule) → Holds tb rules → r ≡ ruleAnswer (numbered rules index) (length rules)) → r ≡ ruleOutcome bytes index
+unfolding ruleOutcome
+rule-accepted l a index r h = let k = loaded-rules l a in rw (k .1 .0) (h (k .0) (k .1 .1))
 
 pub rule-refused : {bytes tb : List ℕ} {b : BookAnswer} {f : Refusal} → Loaded bytes b tb → b ≡ book.Refused f → (index : ℕ)
     → rule.Refused f ≡ ruleOutcome bytes index
 unfolding ruleOutcome
-rule-refused {bytes} {f = f} l a index = go (readBook bytes) (sym a ∙ l .answered)
-  where
-    go : (o : Reading) → book.Refused f ≡ answer o → rule.Refused f ≡ ruleReading o index
-    go (accepted rules) e = let z : _≡_ {A = ℕ} 0 1 = cc in absurd (omega arith)
-    go (refused number place) e = let y : f ≡ record { number = number; place = place } = cc in ap rule.Refused y
+rule-refused l a index = rw (loaded-refusal l a)

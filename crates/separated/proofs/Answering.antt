@@ -19,7 +19,7 @@ use Rattle.book.specs.Limits.{maxText}
 use Rattle.reader.specs.Contracts.{Loaded}
 use Rattle.record.specs.declared.TokenRecord.{TokenRecord}
 use Rattle.record.specs.Tokens.{recordsOf}
-use Rattle.lexer.proofs.Outcomes.{loaded-rules, loaded-refused}
+use Rattle.reader.proofs.Loaded.{loaded-rules, loaded-refusal}
 use Rattle.output.specs.Contracts.{WritesOut, Stands}
 use Rattle.output.specs.declared.Placed.{Placed}
 use Rattle.token_list.proofs.Alone.{alone-first}
@@ -131,7 +131,7 @@ module _ {bytes tb : List ℕ} {b : BookAnswer} {f : Refusal} (l : Loaded bytes 
   pub answered-refused : (sep : TokenRecord) (mode : ℕ) (records pool out : List ℕ)
       → PrintAnswered (separatedOutcome bytes sep mode records pool out) (print.Refused f) out
   unfolding separatedOutcome
-  answered-refused sep mode records pool out = rw (loaded-refused l a) (record { answer = refl; out = refl })
+  answered-refused sep mode records pool out = rw (loaded-refusal l a) (record { answer = refl; out = refl })
 
 -- ---- what is put together
 

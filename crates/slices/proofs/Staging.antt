@@ -27,7 +27,7 @@ use Rattle.record.specs.Records.{recordCount}
 use Rattle.record.specs.declared.TokenRecord.{TokenRecord}
 use Rattle.record.specs.Tokens.{recordAt, recordsOf, tokensOf}
 use Rattle.record.specs.Encoding.{Fits}
-use Rattle.lexer.proofs.Outcomes.{loaded-rules}
+use Rattle.reader.proofs.Loaded.{loaded-rules}
 use Rattle.token_list.specs.Faults.{faultOf}
 use Rattle.token_list.specs.Contracts.{Spanned, Faultless}
 use Rattle.token_list.proofs.Passes.{faultless-pool, Joining, joining-start, joining-pool, joining-room, joining-next, joining-end}

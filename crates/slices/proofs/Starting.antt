@@ -8,7 +8,8 @@ use Rattle.automaton.specs.Rule.{Rule}
 use Rattle.automaton.specs.Contracts.{Holds}
 use Rattle.automaton.proofs.Tests.{clash}
 use Rattle.reader.specs.Contracts.{Loaded}
-use Rattle.lexer.proofs.Outcomes.{loaded-rules, answered-book, answered-refused}
+use Rattle.reader.proofs.Loaded.{loaded-rules}
+use Rattle.lexer.proofs.Outcomes.{answered-book, answered-refused}
 use Rattle.slices.specs.declared.lexing.Pending.{Pending}
 use Rattle.slices.specs.Contracts.{refusedPending, pendingRefusal, Opens, Begun}
 use Rattle.answer.specs.declared.BookAnswer.the-variants as book

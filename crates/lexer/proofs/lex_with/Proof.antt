@@ -1,6 +1,7 @@
 -- `lex_with`: the table holds the rules of an accepted book. Assumes nothing.
 use borrow.Author.Needs.{needs}
-use Rattle.lexer.proofs.Outcomes.{loaded-held, answered-book, answered-refused}
+use Rattle.reader.proofs.Loaded.{loaded-held}
+use Rattle.lexer.proofs.Outcomes.{answered-book, answered-refused}
 use Rattle.lexer.proofs.lex_with.Statement.{statement}
 use Rattle.lexer.proofs.lex_with.Tie as tie
 

@@ -1,6 +1,6 @@
 -- `print_with`: the table holds the rules of an accepted book. Assumes nothing.
 use borrow.Author.Needs.{needs}
-use Rattle.lexer.proofs.Outcomes.{loaded-held}
+use Rattle.reader.proofs.Loaded.{loaded-held}
 use Rattle.printer.proofs.Outcomes.{answered-book, answered-refused}
 use Rattle.printer.proofs.print_with.Statement.{statement}
 use Rattle.printer.proofs.print_with.Tie as tie

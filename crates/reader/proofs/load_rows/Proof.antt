@@ -72,32 +72,6 @@ loop-holds c =
 command-requires : tie.Need-command-requires Inv-loop μ-loop
 command-requires c κs = c .if2 .taken
 
-same-length : tie.Need-same-length Inv-loop μ-loop
-same-length c = c .before .before .before .before .before .before .loop .inv .1
-
-same-length-2 : tie.Need-same-length-2 Inv-loop μ-loop
-same-length-2 c = cells (c .before .before .before .before .before .before)
-
-returns-2 : tie.Need-returns-2 Inv-loop μ-loop
-returns-2 c =
-    let k = c .before .before .before in
-    let k₁ = k .before .before .before in
-    let e = sym (c .before .enum-told .given .1) ∙ k .command .ensures in
-    loaded-refused (going-takes (k₁ .loop .inv .0) (k .before .if2 .taken) _ e .same) (c .refused2 .ensures)
-
-same-length-3 : tie.Need-same-length-3 Inv-loop μ-loop
-same-length-3 c = c .before .before .before .before .before .before .loop .inv .1
-
-same-length-4 : tie.Need-same-length-4 Inv-loop μ-loop
-same-length-4 c = cells (c .before .before .before .before .before .before)
-
-returns-3 : tie.Need-returns-3 Inv-loop μ-loop
-returns-3 c =
-    let k = c .before .before .before in
-    let k₁ = k .before .before .before in
-    let e = sym (c .before .enum-told2 .given .1) ∙ k .command .ensures in
-    loaded-refused (going-takes (k₁ .loop .inv .0) (k .before .if2 .taken) _ e .same) (c .refused3 .ensures)
-
 apply-requires : tie.Need-apply-requires Inv-loop μ-loop
 apply-requires c κs =
     let k = here (c .before .before) in
@@ -111,41 +85,34 @@ loop-again c =
     let k = c .before .before .before in
     (taken-in (here (told k)) _ _ (kept k) (applied k .apply .ensures) (c .before .on .given .1), kept k ∙ turn (told k) .loop .inv .1)
 
-same-length-5 : tie.Need-same-length-5 Inv-loop μ-loop
-same-length-5 c = let k = c .before .before .before in kept k ∙ turn (told k) .loop .inv .1
+ends : tie.Need-returns-6 Inv-loop μ-loop
+ends c = loaded-refused (going-stops (c .before .before .before .loop .inv .0) (c .before .if2 .left)) (c .refused4 .ensures)
 
-same-length-6 : tie.Need-same-length-6 Inv-loop μ-loop
-same-length-6 c = let k = c .before .before .before in applied k .apply .kept .1 .1 .1 .1 .1 .0 ∙ cells (turn (told k))
+-- since the call too
+same-table : (c : Taken) → length (applied c .apply .last .1 .1 .1 .1 .0) ≡ length (now (entry (turn (told c)) .args .table))
+same-table c = kept c ∙ turn (told c) .loop .inv .1
 
-returns-4 : tie.Need-returns-4 Inv-loop μ-loop
-returns-4 c =
-    let k = c .before .before .before in
-    taken-in (here (told k)) _ _ (kept k) (applied k .apply .ensures) (c .before .rules .given .1)
-
-same-length-7 : tie.Need-same-length-7 Inv-loop μ-loop
-same-length-7 c = let k = c .before .before .before in kept k ∙ turn (told k) .loop .inv .1
-
-same-length-8 : tie.Need-same-length-8 Inv-loop μ-loop
-same-length-8 c = let k = c .before .before .before in applied k .apply .kept .1 .1 .1 .1 .1 .0 ∙ cells (turn (told k))
-
-returns-5 : tie.Need-returns-5 Inv-loop μ-loop
-returns-5 c =
-    let k = c .before .before .before in
-    taken-in (here (told k)) _ _ (kept k) (applied k .apply .ensures) (c .before .refusal .given .1)
-
-same-length-9 : tie.Need-same-length-9 Inv-loop μ-loop
-same-length-9 c = c .before .before .before .loop .inv .1
-
-same-length-10 : tie.Need-same-length-10 Inv-loop μ-loop
-same-length-10 c = cells (c .before .before .before)
-
-returns-6 : tie.Need-returns-6 Inv-loop μ-loop
-returns-6 c = loaded-refused (going-stops (c .before .before .before .loop .inv .0) (c .before .if2 .left)) (c .refused4 .ensures)
+same-cells : (c : Taken) → length (applied c .apply .last .1 .1 .1 .1 .1 .0) ≡ length (now (entry (turn (told c)) .args .rows))
+same-cells c = applied c .apply .kept .1 .1 .1 .1 .1 .0 ∙ cells (turn (told c))
 
 pub load-rows-spec : {M : Type 1} → statement M
 load-rows-spec =
     tie.close (tie.spec Inv-loop μ-loop (λ c κs. search needs) returns (λ c κs. search needs) (λ c κs. search needs) loop-holds
-    command-requires (λ c. search needs) (λ c κs. search needs) same-length same-length-2 returns-2 (λ c. search needs)
-    (λ c κs. search needs) same-length-3 same-length-4 returns-3 (λ c. search needs) apply-requires (λ c. search needs) loop-less loop-again
-    (λ c. search needs) same-length-5 same-length-6 returns-4 (λ c. search needs) same-length-7 same-length-8 returns-5
-    (λ c κs. search needs) same-length-9 same-length-10 returns-6)
+    command-requires (λ c. search needs) (λ c κs. search needs)
+    (λ c. c .before .before .before .before .before .before .loop .inv .1) (λ c. cells (c .before .before .before .before .before .before))
+    (λ c. let k = c .before .before .before in
+        loaded-refused (going-takes (k .before .before .before .loop .inv .0) (k .before .if2 .taken) _
+        (sym (c .before .enum-told .given .1) ∙ k .command .ensures) .same) (c .refused2 .ensures))
+    (λ c. search needs) (λ c κs. search needs)
+    (λ c. c .before .before .before .before .before .before .loop .inv .1) (λ c. cells (c .before .before .before .before .before .before))
+    (λ c. let k = c .before .before .before in
+        loaded-refused (going-takes (k .before .before .before .loop .inv .0) (k .before .if2 .taken) _
+        (sym (c .before .enum-told2 .given .1) ∙ k .command .ensures) .same) (c .refused3 .ensures))
+    (λ c. search needs) apply-requires (λ c. search needs) loop-less loop-again (λ c. search needs)
+    (λ c. same-table (c .before .before .before)) (λ c. same-cells (c .before .before .before))
+    (λ c. let k = c .before .before .before in
+        taken-in (here (told k)) _ _ (kept k) (applied k .apply .ensures) (c .before .rules .given .1)) (λ c. search needs)
+    (λ c. same-table (c .before .before .before)) (λ c. same-cells (c .before .before .before))
+    (λ c. let k = c .before .before .before in
+        taken-in (here (told k)) _ _ (kept k) (applied k .apply .ensures) (c .before .refusal .given .1)) (λ c κs. search needs)
+    (λ c. c .before .before .before .loop .inv .1) (λ c. cells (c .before .before .before)) ends)

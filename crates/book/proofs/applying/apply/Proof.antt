@@ -46,17 +46,13 @@ returns-4 c =
 
 returns-5 : tie.Need-returns-5
 unfolding apply
-returns-5 c =
-    let k = c .before .before .before .before in
-    let k₁ = k .before .before .before .before in
-    rw (k₁ .command5 .given .1) (λ d h i. k .add-transition .ensures d h i)
+returns-5 c = let k = c .before .before .before .before in
+    rw (k .before .before .before .before .command5 .given .1) (λ d h i. k .add-transition .ensures d h i)
 
 returns-6 : tie.Need-returns-6
 unfolding apply
-returns-6 c =
-    let k = c .before .before .before .before in
-    let k₁ = k .before .before .before .before in
-    rw (k₁ .command6 .given .1) (λ d h i. k .add-transition2 .ensures d h i)
+returns-6 c = let k = c .before .before .before .before in
+    rw (k .before .before .before .before .command6 .given .1) (λ d h i. k .add-transition2 .ensures d h i)
 
 returns-7 : tie.Need-returns-7
 returns-7 c = rw (c .before .before .before .before .before .enum-told .given .1) (λ d h i. c .before .before .close .ensures _ d h i)

@@ -1,6 +1,6 @@
 -- `begin`: the table holds the rules of an accepted book. Assumes nothing.
 use borrow.Author.Needs.{needs}
-use Rattle.lexer.proofs.Outcomes.{loaded-held}
+use Rattle.reader.proofs.Loaded.{loaded-held}
 use Rattle.slices.proofs.Starting.{begun-book, begun-refused}
 use Rattle.slices.proofs.lexing.begin.Statement.{statement}
 use Rattle.slices.proofs.lexing.begin.Tie as tie

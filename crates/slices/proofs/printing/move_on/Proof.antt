@@ -4,38 +4,15 @@ use borrow.Author.Needs.{needs}
 use Rattle.slices.proofs.printing.move_on.Statement.{statement}
 use Rattle.slices.proofs.printing.move_on.Tie as tie
 
-returns : tie.Need-returns
-returns c = rw (lt-ltb _ _ (c .before .if1 .taken)) (c .go .ensures)
-
-returns-2 : tie.Need-returns-2
-returns-2 c = rw (
-  le-ltb _ _ (c .before .before .before .before .if1 .left),
-  eq-eqb _ _ (c .before .before .if2 .taken),
-  lt-ltb _ _ (c .before .if3 .taken),
-) (c .refuse .ensures)
-
-returns-3 : tie.Need-returns-3
-returns-3 c = rw (
-  le-ltb _ _ (c .before .before .before .before .if1 .left),
-  eq-eqb _ _ (c .before .before .if2 .taken),
-  le-ltb _ _ (c .before .if3 .left),
-) (c .go2 .ensures)
-
-returns-4 : tie.Need-returns-4
-returns-4 c = rw (
-  le-ltb _ _ (c .before .before .before .before .before .if1 .left),
-  ne-eqb _ _ (c .before .before .before .if2 .left),
-  eq-eqb _ _ (c .before .if4 .taken),
-) (c .go3 .ensures)
-
-returns-5 : tie.Need-returns-5
-returns-5 c = rw (
-  le-ltb _ _ (c .before .before .before .before .before .if1 .left),
-  ne-eqb _ _ (c .before .before .before .if2 .left),
-  ne-eqb _ _ (c .before .if4 .left),
-) (c .end .ensures)
-
 pub move-on-spec : {M : Type 1} → statement M
 move-on-spec =
-    tie.close (tie.spec (λ c. search needs) (λ c. search needs) (λ c κs. search needs) returns (λ c κs. search needs) returns-2
-    (λ c κs. search needs) returns-3 (λ c κs. search needs) returns-4 (λ c κs. search needs) returns-5)
+    tie.close (tie.spec (λ c. search needs) (λ c. search needs)
+    (λ c κs. search needs) (λ c. rw (lt-ltb _ _ (c .before .if1 .taken)) (c .go .ensures))
+    (λ c κs. search needs) (λ c. let k = c .before .before in
+        rw (le-ltb _ _ (k .before .before .if1 .left), eq-eqb _ _ (k .if2 .taken), lt-ltb _ _ (c .before .if3 .taken)) (c .refuse .ensures))
+    (λ c κs. search needs) (λ c. let k = c .before .before in
+        rw (le-ltb _ _ (k .before .before .if1 .left), eq-eqb _ _ (k .if2 .taken), le-ltb _ _ (c .before .if3 .left)) (c .go2 .ensures))
+    (λ c κs. search needs) (λ c. let k = c .before .before .before in
+        rw (le-ltb _ _ (k .before .before .if1 .left), ne-eqb _ _ (k .if2 .left), eq-eqb _ _ (c .before .if4 .taken)) (c .go3 .ensures))
+    (λ c κs. search needs) (λ c. let k = c .before .before .before in
+        rw (le-ltb _ _ (k .before .before .if1 .left), ne-eqb _ _ (k .if2 .left), ne-eqb _ _ (c .before .if4 .left)) (c .end .ensures)))

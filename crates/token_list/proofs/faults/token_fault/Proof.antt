@@ -29,25 +29,17 @@ returns-4 c = λ rs h. checked-part h _ _
     (c .before .before .before .before .before .before .count-of .ensures rs h) (c .before .before .before .before .before .if2 .left)
     (c .before .before .before .before .choose .ensures rs _ h (part-bytes _ _ _)) (c .if4 .taken)
 
-returns-5 : tie.Need-returns-5
-returns-5 c = λ rs h. checked-other h _ _
-    (omega (arith, c .before .before .before .before .before .before .before .before .before .before .before .if1 .left))
-    (c .before .before .before .before .before .before .before .before .before .find-tag .ensures rs h)
-    (c .before .before .before .before .before .before .before .before .count-of .ensures rs h)
-    (c .before .before .before .before .before .before .before .if2 .left)
-    (c .before .before .before .before .before .before .choose .ensures rs _ h (part-bytes _ _ _))
-    (c .before .before .before .before .if3 .left) (c .before .before .if4 .left) (c .if5 .taken)
-
-returns-6 : tie.Need-returns-6
-returns-6 c = λ rs h. checked-same h _ _
-    (omega (arith, c .before .before .before .before .before .before .before .before .before .before .before .if1 .left))
-    (c .before .before .before .before .before .before .before .before .before .find-tag .ensures rs h)
-    (c .before .before .before .before .before .before .before .before .count-of .ensures rs h)
-    (c .before .before .before .before .before .before .before .if2 .left)
-    (c .before .before .before .before .before .before .choose .ensures rs _ h (part-bytes _ _ _))
-    (c .before .before .before .before .if3 .left) (c .before .before .if4 .left) (c .if5 .left)
-
 pub token-fault-spec : {M : Type 1} → statement M
 token-fault-spec =
     tie.close (tie.spec (λ c. search needs) (λ c. search needs) (λ c. search needs) returns (λ c. search needs) (λ c κs. search needs)
-    (λ c κs. search needs) returns-2 (λ c. search needs) choose-requires returns-3 returns-4 returns-5 returns-6)
+    (λ c κs. search needs) returns-2 (λ c. search needs) choose-requires returns-3 returns-4
+    (λ c rs h. let k = c .before .before .before .before .before .before in
+        checked-other h _ _ (omega (arith, k .before .before .before .before .before .if1 .left))
+        (k .before .before .before .find-tag .ensures rs h) (k .before .before .count-of .ensures rs h) (k .before .if2 .left)
+        (k .choose .ensures rs _ h (part-bytes _ _ _)) (c .before .before .before .before .if3 .left)
+        (c .before .before .if4 .left) (c .if5 .taken))
+    (λ c rs h. let k = c .before .before .before .before .before .before in
+        checked-same h _ _ (omega (arith, k .before .before .before .before .before .if1 .left))
+        (k .before .before .before .find-tag .ensures rs h) (k .before .before .count-of .ensures rs h) (k .before .if2 .left)
+        (k .choose .ensures rs _ h (part-bytes _ _ _)) (c .before .before .before .before .if3 .left)
+        (c .before .before .if4 .left) (c .if5 .left)))
