@@ -1,20 +1,21 @@
--- Whether a token is read on into the bytes behind it, by what is chosen at its place. Assumes nothing.
+-- Whether a token is read on into the bytes behind it, by what is chosen at its place, and what that makes of the list. Assumes nothing.
 use mathlib.Core.Path.{_≡_, refl, sym, ap, _∙_}
 use mathlib.Core.Logic.{inl, inr}
 use mathlib.Core.Bool.{Bool, true, false}
 use mathlib.Core.Option.{none, some}
 use mathlib.Core.List.{List, [], _∷_, _++_}
-use Prim.Native.Nat.{ℕ, _<_}
+use Prim.Native.Nat.{ℕ, suc, _<_}
 use native.Mathlib.Omega.{arith}
 use native.Mathlib.Nat.{eq-zero-or-pos}
 use lib.ListN.{length}
 use lib.Seq.{length-take-le}
 use Rattle.automaton.specs.Rule.{Rule}
 use Rattle.automaton.specs.Contracts.{ruleAt}
-use Rattle.longest_match.specs.Lexer.{Found, firstMatch, extends}
+use Rattle.longest_match.specs.Lexer.{Token, Found, firstMatch, extends, join}
 use Rattle.longest_match.specs.Contracts.{front, Chooses}
 use Rattle.longest_match.proofs.First.{nothing}
 use Rattle.longest_match.proofs.Choosing.{choose-at, extends-no}
+use Rattle.token_list.specs.Checks.{refuse, firstExtended}
 
 -- what some rule matches has a byte
 pub matched-long : (rules : List Rule) (w : List ℕ) (tag : ℕ) → firstMatch rules [] ≡ none → firstMatch rules w ≡ some tag → 0 < length w
@@ -43,3 +44,14 @@ module _ (rules : List Rule) (w after : List ℕ) (tag : ℕ) (empty : firstMatc
             | inl z ↦ nothing (c .nothing z) q
             | inr p ↦ (let y = sym (c .chosen p) ∙ q in absurd (same (cc)))
           ]
+
+-- ---- a list whose first token is read on, or not
+
+module _ (rules : List Rule) (t : Token) (ts : List Token) (k : ℕ) where
+  pub extended-later : extends rules t.bytes (join ts) ≡ false → firstExtended rules (t ∷ ts) k ≡ firstExtended rules ts (suc k)
+  unfolding firstExtended refuse
+  extended-later e = ap (λ (b : Bool). refuse b 21 k (firstExtended rules ts (suc k))) e
+
+  pub extended-here : extends rules t.bytes (join ts) ≡ true → firstExtended rules (t ∷ ts) k ≡ some (record { number = 21; place = k })
+  unfolding firstExtended refuse
+  extended-here e = ap (λ (b : Bool). refuse b 21 k (firstExtended rules ts (suc k))) e

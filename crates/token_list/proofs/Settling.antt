@@ -18,12 +18,12 @@ use Rattle.longest_match.specs.Lexer.{firstMatch, join}
 use Rattle.longest_match.specs.Contracts.{Chooses}
 use Rattle.record.specs.Records.{recordCount}
 use Rattle.record.specs.declared.TokenRecord.{TokenRecord}
-use Rattle.record.specs.Tokens.{recordAt, recordsOf, bytesIn, tokensIn, tokensOf, InPool}
+use Rattle.record.specs.Tokens.{recordAt, recordsOf, bytesIn, tokenIn, tokensIn, tokensOf, InPool}
 use Rattle.token_list.specs.Faults.{aloneIn, faultOf}
 use Rattle.token_list.proofs.Alone.{alone-first}
 use Rattle.token_list.proofs.Faulting.{Fine, fine, bytes-length, fault-none, front-other, front-same}
-use Rattle.token_list.specs.Checks.{refuse, refuseBy, firstFault, firstExtended}
-use Rattle.token_list.proofs.Extended.{matched-long, read-no-more, read-on}
+use Rattle.token_list.specs.Checks.{refuseBy, firstFault, firstExtended}
+use Rattle.token_list.proofs.Extended.{matched-long, read-no-more, read-on, extended-later, extended-here}
 use Rattle.token_list.proofs.Passes.{left, left-start, left-next, left-end, record-at, faultless-front}
 use Rattle.token_list.specs.Contracts.{Spanned, Spans, Spread, Faultless, ReadsBack}
 use Rattle.token_list.specs.declared.readback.Extent.the-variants as extent
@@ -159,7 +159,7 @@ module _ {rules : List Rule} {records pool text : List ℕ} {at k : ℕ} (w : Re
         no-fault = fault-none rules pool r in-pool (ranks-some ranks known) alone
 
         pub retracing-next : Retracing rules records pool text (at + r .len) (k + 1)
-        unfolding firstFault firstExtended tokensIn refuse refuseBy
+        unfolding firstFault tokensIn refuseBy
         retracing-next =
             record {
               within = retracing-within;
@@ -168,12 +168,11 @@ module _ {rules : List Rule} {records pool text : List ℕ} {at k : ℕ} (w : Re
                   (drop-at (bytesIn pool r) (join (tokensIn pool (left records (k + 1)))) (r .len) long);
               each = each-here .1;
               faults = w .faults ∙ rw (front-is, no-fault, add-one);
-              first = w .first ∙ rw (
-                front-is,
-                read-no-more rules (bytesIn pool r) (join (tokensIn pool (left records (k + 1)))) (r .tag) empty
-                    (alone-first rules (r .tag) (bytesIn pool r) alone) chosen-here (all ∙ sym long),
-              )
-                  (ap (firstExtended rules (tokensIn pool (left records (k + 1)))) (sym (add-one k)));
+              first = w .first ∙ rw front-is
+                  (extended-later rules (tokenIn pool r) (tokensIn pool (left records (k + 1))) k
+                  (read-no-more rules (bytesIn pool r) (join (tokensIn pool (left records (k + 1)))) (r .tag) empty
+                  (alone-first rules (r .tag) (bytesIn pool r) alone) chosen-here (all ∙ sym long))
+                  ∙ ap (firstExtended rules (tokensIn pool (left records (k + 1)))) (sym (add-one k)));
             }
 
       -- if no token is at fault, this one is chosen, or read on
@@ -187,13 +186,12 @@ module _ {rules : List Rule} {records pool text : List ℕ} {at k : ℕ} (w : Re
         matched = alone-first rules (r .tag) (bytesIn pool r) (token-fine .alone)
 
         reading-on : (len ≡ r .len → ⊥) → firstExtended rules (tokensOf records pool) 0 ≡ some (record { number = 21; place = k })
-        unfolding firstExtended tokensIn refuse
+        unfolding tokensIn
         reading-on ne =
-            w .first ∙ rw (
-              front-is,
-              read-on rules (bytesIn pool r) (join (tokensIn pool (left records (k + 1)))) (r .tag) empty matched chosen-here
-                  (λ q. ne (q ∙ long)),
-            )
+            w .first ∙ rw front-is
+            (extended-here rules (tokenIn pool r) (tokensIn pool (left records (k + 1))) k
+            (read-on rules (bytesIn pool r) (join (tokensIn pool (left records (k + 1)))) (r .tag) empty matched chosen-here
+            (λ q. ne (q ∙ long))))
 
         none-chosen : len ≡ 0 → len ≡ r .len → ⊥
         none-chosen z q = let l = matched-long rules (bytesIn pool r) (r .tag) empty matched in omega (arith, long)
