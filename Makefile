@@ -58,7 +58,7 @@ build/libzagvulem.a: $(RATTLE) | build
 	@cp target/staticlib/libzagvulem.a $@
 
 build/cutlist: $(RATTLE) | build
-	@echo 'Proving cutlist: about a minute and a half on two cores where nothing is proved yet. Log: build/cutlist.log'
+	@echo 'Proving cutlist: about two minutes on two cores where nothing is proved yet. Log: build/cutlist.log'
 	@$(RT) build/cutlist.log rt check cutlist
 	@cp target/bin/cutlist $@
 
