@@ -21,7 +21,7 @@
  *    or locale.
  *  - It answers either "accepted" with two values, or "refused" with a number and
  *    a place. After a refusal every buffer holds what it held before the call.
- *    After an accepted call, what lies past the reported count is untouched.
+ *    An accepted call changes nothing past the count that it reports.
  *
  * WHAT THE CALLER SEES TO
  *
@@ -47,7 +47,7 @@
  *
  * TOKENS
  *
- * A token is a tag and its bytes. The bytes stand in a pool, and a record of ten
+ * A token has a tag and bytes. The bytes stand in a pool, and a record of ten
  * bytes says where: the tag in two bytes, the place in the pool in four, the
  * length in four, each with the high byte first. A buffer of n bytes holds n / 10
  * records; leftover bytes are neither read nor written. After zgv_lex() the
@@ -139,8 +139,9 @@ extern "C" {
 /* ---- Refusals ----------------------------------------------------------- */
 
 /*
- * The number of an answer. A number is answered in the case named for it, if
- * nothing earlier applies. The text behind each says what the place counts.
+ * The number of an answer. Where several cases apply, the one that comes first
+ * in the order of the call is answered. The text behind each says what the place
+ * counts.
  */
 enum {
     ZGV_ACCEPTED = 0,

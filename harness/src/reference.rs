@@ -65,7 +65,7 @@ impl Record {
     }
 }
 
-/// The list that a buffer holds: its length divided by ten, rounded down, records.
+/// The list that a buffer holds: a record for every ten bytes of it.
 pub fn records_of(buffer: &[u8]) -> Vec<Record> {
     buffer.chunks_exact(RECORD_BYTES).map(Record::of_bytes).collect()
 }
@@ -400,7 +400,7 @@ pub fn print(book: &[u8], records: &[Record], pool: &[u8], room: usize) -> Resul
     Ok(joined)
 }
 
-/// The bytes that some move of the rule covers on its way to a state other than the error state.
+/// The bytes of the rule's moves that do not lead to the error state.
 fn used(rule: &[u8]) -> BTreeSet<u8> {
     let error = operand_of(rule, ERROR);
     let mut bytes = BTreeSet::new();

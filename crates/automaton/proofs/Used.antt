@@ -14,7 +14,7 @@ use Rattle.automaton.proofs.Walks.{target-stays}
 
 -- ---- the law of used bytes
 
--- a transition that covers b on its way to a state other than the error state
+-- a transition that covers b and does not lead to the error state
 abbrev uses : ℕ → ℕ → Transition → Bool
 uses error b t = covers t b && not (eqb t.to error)
 

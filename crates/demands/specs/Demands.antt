@@ -99,13 +99,13 @@ module _ (book : List ℕ) (rules : List Rule) where
 
   -- ---- demand 3, the plain printer
 
-  -- Sentence 1: two lists that it accepts, wherever their pools hold them, are equal exactly when the bytes written for them are.
+  -- Sentence 1: of two lists that it accepts it writes the same bytes just where they are the same list, whatever their pools.
   abbrev pub EqualLists : Type 0
   EqualLists = (f : Form) (list : Lent f) (pool entry exit : List ℕ) (n : ℕ) → Print f book list pool entry exit (print.Printed n)
       → (f₁ : Form) (list₁ : Lent f₁) (pool₁ entry₁ exit₁ : List ℕ) (n₁ : ℕ) → Print f₁ book list₁ pool₁ entry₁ exit₁ (print.Printed n₁)
       → (listIn f list pool ≡ listIn f₁ list₁ pool₁) ↔ (take n exit ≡ take n₁ exit₁)
 
-  -- Sentence 2: limits apart, it accepts a list exactly when the list is `Separable`.
+  -- Sentence 2: limits aside, the lists that it takes are the `Separable` ones.
   abbrev pub AcceptedExactly : Type 0
   AcceptedExactly = (f : Form) (list : Lent f) (pool entry exit : List ℕ) (r : PrintAnswer) → Print f book list pool entry exit r
       → Unlimited f list pool entry → ((n : ℕ) × (r ≡ print.Printed n)) ↔ Separable rules (listIn f list pool)
@@ -148,8 +148,8 @@ module _ (book : List ℕ) (rules : List Rule) where
       → Space book sep mode records pool entry exit (print.Printed n)
       → Unrefused rules sep mode records pool entry × (take n exit ≡ spelled rules sep mode records pool)
 
-  -- Two lists that it accepts in one mode with one separator token are equal exactly when the bytes written for them are. Separator tokens
-  -- are one when tag and bytes are equal (document 01, 'Words of demand 3', 4).
+  -- Of two lists that it accepts in one mode with one separator token it writes the same bytes just where they are the same list. Equal tag
+  -- and bytes make separator tokens the same (document 01, 'Words of demand 3', 4).
   abbrev pub SpacingEqualLists : Type 0
   SpacingEqualLists = (mode : ℕ)
       → (sep : TokenRecord) (records pool entry exit : List ℕ) (n : ℕ) → Space book sep mode records pool entry exit (print.Printed n)
@@ -158,7 +158,7 @@ module _ (book : List ℕ) (rules : List Rule) where
       → tokenIn pool sep ≡ tokenIn pool₁ sep₁
       → (tokensOf records pool ≡ tokensOf records₁ pool₁) ↔ (take n exit ≡ take n₁ exit₁)
 
-  -- Its output, cut with records enough, leaves no rest, and with separators dropped gives the list back.
+  -- Its output, given records enough, is cut to its end, and the tokens of the cut but for the separators are the list.
   abbrev pub SpacingCutsBack : Type 0
   SpacingCutsBack = (sep : TokenRecord) (mode : ℕ) (records pool entry exit : List ℕ) (n : ℕ)
       → Space book sep mode records pool entry exit (print.Printed n)

@@ -48,8 +48,8 @@ abbrev pub LongestMatch : List Rule → List ℕ → List Token → List ℕ →
 LongestMatch rules text [] rest = (text ≡ rest) × ((n : ℕ) → 0 < n → n ≤ length text → Unmatched rules (take n text))
 LongestMatch rules text (t ∷ ts) rest = Longest rules text t × LongestMatch rules (drop (length t.bytes) text) ts rest
 
--- What the plain printer accepts (demand 3, sentence 2): every token is cut as itself alone, and no rule matches a token and a non-empty
--- beginning of what is written after it, the bytes of all later tokens (document 01, 'Words of demand 3', 1).
+-- What the plain printer accepts (demand 3, sentence 2): every token is cut as itself alone, and no rule matches a token together with one
+-- or more of the bytes written after it, those of all later tokens (document 01, 'Words of demand 3', 1).
 abbrev pub Separable : List Rule → List Token → Type 0
 Separable rules [] = Unit {0}
 Separable rules (t ∷ ts) =
@@ -59,14 +59,14 @@ Separable rules (t ∷ ts) =
 
 -- ---- lists that a printer does not refuse
 
--- Space and size limits apart: in none of the cases of 16, 17, 20 and 22 (document 01, 'Words of demand 3', 2).
+-- Limits aside: 16, 17, 20 and 22 do not apply (document 01, 'Words of demand 3', 2).
 pub record Unlimited (f : Form) (list : Lent f) (pool out : List ℕ) : Type 0 where
   pub not-16 : countIn f list ≤ maxTokens
   pub not-17 : All (InPool pool) (structsIn f list)
   pub not-20 : length (join (listIn f list pool)) ≤ maxText
   pub not-22 : length (join (listIn f list pool)) ≤ length out
 
--- a token in none of the cases of 17, 18 and 19
+-- a token to which 17, 18 and 19 do not apply
 pub record Fit (rules : List Rule) (pool : List ℕ) (r : TokenRecord) : Type 0 where
   pub not-17 : r .place + r .len ≤ length pool
   pub not-18 : tagged (r .tag) rules ≡ true

@@ -50,7 +50,7 @@ lexReading (accepted rules) text records = lexRules rules text records
 unfoldable pub lexOutcome : List ℕ → List ℕ → List ℕ → LexOutcome
 lexOutcome book text records = lexReading (readBook book) text records
 
--- ---- The rest; the whole text, where the book is refused or 14 applies.
+-- ---- The rest; the whole text after a refusal of the book, or by 14.
 
 -- 14
 abbrev pub restRules : List Rule → List ℕ → List ℕ

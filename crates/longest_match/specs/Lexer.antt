@@ -85,7 +85,7 @@ extends rules w (b ∷ after) = isSome (firstMatch rules (w ++ (b ∷ []))) || e
 abbrev pub Alone : List Rule → Token → Type 0
 Alone rules t = firstMatch rules t.bytes ≡ some t.tag
 
--- each token alone is cut as itself, and no rule matches it with a non-empty beginning of what follows
+-- every token is cut as itself, and none is read on into those after it
 abbrev pub Printable : List Rule → List Token → Type 0
 Printable rules [] = Unit {0}
 Printable rules (t ∷ ts) = Alone rules t × (extends rules t.bytes (join ts) ≡ false) × Printable rules ts

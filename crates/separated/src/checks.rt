@@ -17,7 +17,7 @@ ghost use Rattle.used_bytes.specs.Kinds.{separates};
 ghost use Rattle.separated.specs.Refusals.{orElse, plainFault, listRefusal, separatedRefusal};
 ghost use Rattle.separated.specs.Contracts.{differs};
 
-// Whether the tag belongs to a rule of separator kind.
+// Whether a separator rule has the tag.
 pub fn is_separator(table: &[u64], tag: u64) -> bool
     requires { ⌜ Held (now table) ⌝ }
     ensures { λ r. ⌜ ((rs : List Rule) → Holds (now (table .entry)) rs → r ≡ separates rs tag) ⌝ }

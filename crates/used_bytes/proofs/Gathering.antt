@@ -20,7 +20,7 @@ use Rattle.used_bytes.specs.Bytes.{lowestFrom, usedByKind, shared, share
 
 -- ---- one rule
 
--- the transition covers the byte on its way to a state other than the error state
+-- the transition covers the byte and does not lead to the error state
 abbrev leads : ℕ → ℕ → Transition → Bool
 leads error b t = covers t b && not (eqb t.to error)
 

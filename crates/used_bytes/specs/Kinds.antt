@@ -13,6 +13,6 @@ plainKind = 0
 abbrev pub separatorKind : ℕ
 separatorKind = 1
 
--- the tag belongs to a rule of separator kind
+-- a separator rule has the tag
 unfoldable pub separates : List Rule → ℕ → Bool
 separates rules tag = any (λ (r : Rule). eqb r.tag tag && eqb r.kind separatorKind) rules
