@@ -52,7 +52,7 @@ build:
 	@mkdir -p build
 
 build/libzagvulem.a: $(RATTLE) | build
-	@echo 'Proving the library: about two minutes on two cores where nothing is proved yet. Logs: build/crates.log, build/library.log'
+	@echo 'Proving the library: two to three minutes on two cores where nothing is proved yet. Logs: build/crates.log, build/library.log'
 	@$(RT) build/crates.log rt check $(BELOW)
 	@$(RT) build/library.log rt staticlib zagvulem
 	@cp target/staticlib/libzagvulem.a $@
