@@ -7,16 +7,15 @@ use native.Mathlib.Omega.{arith}
 use lib.ListN.{length, take, drop}
 use lib.Seq.{take-append-seam}
 use Rattle.answer.specs.declared.LexAnswer.{LexAnswer}
-use Rattle.answer.specs.declared.PrintAnswer.{PrintAnswer}
 use borrow.Author.Tests.{leb-false}
 use lib.Dec.{leb}
-use Rattle.automaton.specs.Choice.{All, any}
-use Rattle.automaton.specs.Rule.{Rule, matches}
+use Rattle.automaton.specs.Choice.{any}
+use Rattle.automaton.specs.Rule.{Rule}
 use Rattle.automaton.proofs.Tests.{clash, or-false}
 use Rattle.automaton.proofs.Used.{start-in-error as error-matches-nothing}
 use Rattle.book.specs.Valid.{Valid, ValidRule}
 use Rattle.book.specs.Limits.{maxText}
-use Rattle.reader.specs.Reading.{accepted, readBook}
+use Rattle.reader.specs.Reading.{accepted}
 use Rattle.reader.proofs.Accepted.{accepted-valid}
 use Rattle.longest_match.specs.Lexer.{Token, Lexed, lex, join}
 use Rattle.longest_match.proofs.Lexing.{joins, rest-drop}
@@ -25,12 +24,11 @@ use Rattle.record.specs.Records.{recordCount}
 use Rattle.record.specs.Tokens.{tokensOf}
 use Rattle.lexer.specs.Outcome.{LexOutcome, lexOutcome}
 use Rattle.token_list.specs.Faults.{aloneIn}
-use Rattle.printer.specs.Outcome.{PrintOutcome, printAccepted, printOutcome}
+use Rattle.printer.specs.Outcome.{printOutcome}
 use Rattle.printer.proofs.Accepting.{written-joins, alone-tagged}
 use Rattle.printer.proofs.RoundTrip.{byte-below, same-rules, lexed-cut, cut-accepts, stored-say}
 use Rattle.printer.proofs.RoundTrip.{equal-lists, accepts-printable, output-cut, cut-printed}
 use Rattle.spacing.specs.Separators.{dropSeparators, spelled}
-use Rattle.separated.specs.Outcome.{separatedOutcome}
 use Rattle.record.specs.declared.TokenRecord.{TokenRecord}
 use Rattle.separated.proofs.RoundTrip.{spelled-rest, spelled-back, spelled-injective}
 use Rattle.separated.proofs.Sides.{all-map}
@@ -43,7 +41,7 @@ use Rattle.demands.specs.Demands.{RefusedCut, PastTheTokens, RefusedPrin
 use Rattle.demands.specs.Demands.{StartInError, CutIsLongestMatch, StoredIsLongestMatch, CutIsAccepted, TokensAndRestJoined}
 use Rattle.demands.specs.Demands.{WritingJoins, EqualLists, AcceptedExactly, UnknownNotAlone, OutputsAreCut, CutsArePrinted}
 use Rattle.demands.specs.Demands.{EmptyTextIsCut, SpacingAccepts, SpacingAcceptsNoOther, SpacingEqualLists, SpacingCutsBack}
-use Rattle.demands.specs.Demands.{Kept, EveryBook, BuiltinBook}
+use Rattle.demands.specs.Demands.{EveryBook, BuiltinBook}
 use Rattle.demands.proofs.LongestMatch.{lex-longest, longest-lex}
 use Rattle.demands.proofs.Separable.{separable-printable, printable-separable}
 use Rattle.demands.proofs.Spacing.{unrefused-passes, unrefused-outcome, printed-unrefused, space-past}

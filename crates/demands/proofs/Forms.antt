@@ -3,7 +3,6 @@ use mathlib.Core.Path.{_≡_, refl, ap}
 use mathlib.Core.List.{List}
 use Prim.Native.Nat.{ℕ, _*_}
 use lib.ListN.{take, drop}
-use Rattle.longest_match.specs.Lexer.{Token}
 use Rattle.record.specs.Records.{recordCount}
 use Rattle.record.specs.Tokens.{recordsOf, tokensIn, tokensOf}
 use Rattle.record.proofs.Encoding.{count-encoded, encoded-injective, records-encoded, take-encoded, drop-encoded, all-take, all-drop}

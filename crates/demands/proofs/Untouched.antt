@@ -2,7 +2,7 @@
 use mathlib.Core.Path.{_≡_, refl, sym, _∙_, ap}
 use mathlib.Core.Bool.{Bool, true, false}
 use mathlib.Core.Option.{Option, none, some}
-use mathlib.Core.List.{List, _++_}
+use mathlib.Core.List.{List}
 use Prim.Native.Nat.{ℕ, _*_}
 use native.Mathlib.Omega.{arith}
 use lib.Dec.{ltb}
@@ -10,7 +10,6 @@ use lib.ListN.{length, drop}
 use lib.Seq.{drop-at}
 use Rattle.answer.specs.declared.Refusal.{Refusal}
 use Rattle.automaton.specs.Choice.{if}
-use Rattle.automaton.specs.Rule.{Rule}
 use Rattle.book.specs.Limits.{maxText}
 use Rattle.reader.specs.Reading.{Reading, accepted, refused, readBook}
 use Rattle.longest_match.specs.Lexer.{lex, join}

@@ -10,13 +10,13 @@ pub struct Filled {
     pub tokens: [TokenRecord; 4],
 }
 
-pub fn lex_into(book: &[u8], text: &[u8], mut tokens: [TokenRecord; 4]) -> Filled {
+pub(crate) fn lex_into(book: &[u8], text: &[u8], mut tokens: [TokenRecord; 4]) -> Filled {
     let answer = slices::lex_tokens(book, text, &mut tokens);
     Filled { answer, tokens }
 }
 
 // Prints the first `count` tokens.
-pub fn print_from(
+pub(crate) fn print_from(
     book: &[u8],
     tokens: [TokenRecord; 4],
     count: usize,

@@ -5,7 +5,7 @@ use answer::Refusal;
 use libc::STDOUT_FILENO;
 use record::TokenRecord;
 
-pub fn put(bytes: &[u8]) {
+pub(crate) fn put(bytes: &[u8]) {
     io::write_all(STDOUT_FILENO, bytes);
 }
 
@@ -15,7 +15,7 @@ fn put_number(before: &[u8], n: u64) {
 }
 
 // A short text in quotes, of a long one the number of its bytes.
-pub fn put_text(text: &[u8]) {
+pub(crate) fn put_text(text: &[u8]) {
     if text.len() > 16 {
         put_number(b"", text.len() as u64);
         put(b" bytes");
@@ -26,7 +26,7 @@ pub fn put_text(text: &[u8]) {
     put(b"\"");
 }
 
-pub fn put_lexed(answer: LexAnswer) {
+pub(crate) fn put_lexed(answer: LexAnswer) {
     match answer {
         LexAnswer::Lexed { tokens, rest } => {
             put_number(b": tokens ", tokens as u64);
@@ -37,7 +37,7 @@ pub fn put_lexed(answer: LexAnswer) {
     put(b"\n");
 }
 
-pub fn put_printed(answer: PrintAnswer) {
+pub(crate) fn put_printed(answer: PrintAnswer) {
     match answer {
         PrintAnswer::Printed(bytes) => put_number(b": bytes ", bytes as u64),
         PrintAnswer::Refused(refusal) => put_refusal(refusal),
@@ -51,7 +51,7 @@ fn put_refusal(refusal: Refusal) {
 }
 
 // Tag, place and length of each.
-pub fn put_tokens(tokens: [TokenRecord; 4]) {
+pub(crate) fn put_tokens(tokens: [TokenRecord; 4]) {
     put_token(b" ", tokens[0]);
     put_token(b",", tokens[1]);
     put_token(b",", tokens[2]);
@@ -67,7 +67,7 @@ fn put_token(before: &[u8], token: TokenRecord) {
 }
 
 // The rest of a text of `whole` bytes.
-pub fn put_rest(whole: usize, rest: &[u8]) {
+pub(crate) fn put_rest(whole: usize, rest: &[u8]) {
     if rest.len() <= whole {
         put_number(b"  rest at ", (whole - rest.len()) as u64);
         put(b": ");
