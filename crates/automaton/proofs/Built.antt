@@ -14,7 +14,7 @@ use Rattle.automaton.specs.Choice.{if, All, any, among}
 use Rattle.automaton.specs.Rule.{Transition, Rule, meets, Ranged, stateCount}
 use Rattle.automaton.specs.Contracts.{edgeStart, lowOf, highOf, nextOf, toOf, spotOf, edgeWord, bareSpot, stateOf, headOf}
 use Rattle.automaton.specs.Contracts.{edgeAt, nameAt, bodyAt, firstOf, endOf, Edge, Listed, Chain, leaving, shares}
-use Rattle.automaton.specs.Contracts.{Spot, Body, Table}
+use Rattle.automaton.specs.Contracts.{startWord, Within, Spot, Opens, Body, Table}
 use Rattle.automaton.specs.Contracts.{stampAt, rowWord, cellAt, headIn, spotAt, settled, Built, Settles}
 
 -- ---- words, taken apart
@@ -28,8 +28,10 @@ record Parts (a b c d : ℕ) : Type 0 where
 word-parts : (low high next spot : ℕ) → low < 256 → high < 256 → next < 65536 → Parts low high next spot
 word-parts low high next spot l h n = record { low = omega arith; high = omega arith; next = omega arith; spot = omega arith }
 
-spot-state : (s c : ℕ) → c < 131072 → stateOf (s * 131072 + c) ≡ s
-spot-state s c l = omega arith
+spot-state : (h s m : ℕ) → s < 32768 → m < 2 → stateOf (h * 65536 + s * 2 + m) ≡ s
+spot-state h s m l b =
+    let q : (h * 65536 + s * 2 + m) / 2 ≡ h * 32768 + s = omega arith in
+    rw q (omega arith)
 
 pub cell-small : (rows : List ℕ) (stamp s : ℕ) → cellAt rows stamp s < 131072
 cell-small rows stamp s = go (eqb (stampAt rows s) stamp)
@@ -37,9 +39,6 @@ cell-small rows stamp s = go (eqb (stampAt rows s) stamp)
     go : (c : Bool) → if c (getD rows s 0 % 131072) 0 < 131072
     go true = omega arith
     go false = omega arith
-
-pub spot-small : (rows : List ℕ) (stamp s : ℕ) → s < stateCount → spotAt rows stamp s < 4294967296
-spot-small rows stamp s l = let c = cell-small rows stamp s in omega arith
 
 -- ---- what a change leaves alone
 
@@ -77,6 +76,10 @@ module _ {tb tb₁ : List ℕ} {first end : ℕ} (a : Agrees tb tb₁ first end)
   pub spot-agrees : {fs : List ℕ} {ts : List Transition} {s p : ℕ} → Spot tb first end fs ts s p → Spot tb₁ first end fs ts s p
   spot-agrees {ts = ts} {s} {p} k =
       record { state = k .state; chain = chain-agrees (headOf p) (leaving s ts) (k .below) (k .chain); below = k .below; final = k .final }
+
+  pub opens-agrees : {ts : List Transition} {s p : ℕ} → Opens tb first end ts s p → Opens tb₁ first end ts s p
+  opens-agrees {ts} {s} {p} k =
+      record { chain = chain-agrees (headOf p) (leaving s ts) (k .below) (k .chain); below = k .below; reach = k .reach }
 
 -- the words from first to before end are the same in both tables
 pub record Keeps (tb tb₁ : List ℕ) (first end : ℕ) : Type 0 where
@@ -117,7 +120,7 @@ table-keeps {tb} {tb₁} {k} {r} n b s t =
       room = rw (s .length-same) (t .room);
       name = n ∙ t .name;
       kind = t .kind;
-      start = rw b (spot-agrees (keeps-agrees s) (t .start));
+      start = rw b (opens-agrees (keeps-agrees s) (t .start));
       body = rw b (body-keeps s (t .body));
       sound = t .sound;
     }
@@ -143,7 +146,7 @@ listed-below tb first end (t ∷ ts) (q, r) (k, e, c) i f l = go (eqb i (end - 1
 -- ---- a new link in front of a chain
 
 module _ (tb : List ℕ) (first n h : ℕ) (t : Transition) (room : n < length tb) (short : n < 65536) (f : first ≤ n) (pos : 0 < n)
-    (lo : t.low < 256) (hi : t.high < 256) (l : h < n) where
+    (lo : t.low < 256) (hi : t.high < 256) (g : t.to < stateCount) (l : h < n) where
   abbrev word : ℕ
   word = edgeWord t.low t.high h (bareSpot t.to)
 
@@ -216,7 +219,7 @@ module _ {tb rows : List ℕ} {stamp first end : ℕ} {fs : List ℕ} {ts : List
 
   -- a transition more
   module _ (t : Transition) (room : end < length tb) (short : end + 1 < 65536) (f : t.from < stateCount)
-      (lo : t.low < 256) (hi : t.high < 256) where
+      (lo : t.low < 256) (hi : t.high < 256) (g : t.to < stateCount) where
     abbrev cell : ℕ
     cell = cellAt rows stamp t.from
 
@@ -245,12 +248,12 @@ module _ {tb rows : List ℕ} {stamp first end : ℕ} {fs : List ℕ} {ts : List
           cells = simp length-set (b .cells);
           listed = (
             omega (arith, built-order),
-            rw z (new-edge tb first end (cell / 2) t room (omega arith) built-order pos lo hi (b .tops t.from f)),
+            rw z (new-edge tb first end (cell / 2) t room (omega arith) built-order pos lo hi g (b .tops t.from f)),
             rw z (listed-agrees (keeps-agrees same) end ts (omega arith) (b .listed)),
           );
           chains = stored₁ (λ s x. Chain (set tb end word₁) first (x / 2) (leaving s (t ∷ ts)))
               (rw (leaving-hit t.from t ts refl, h)
-              (chain-more tb first end (cell / 2) t room (omega arith) built-order pos lo hi (b .tops t.from f) (leaving t.from ts)
+              (chain-more tb first end (cell / 2) t room (omega arith) built-order pos lo hi g (b .tops t.from f) (leaving t.from ts)
               (b .chains t.from f)))
               (λ s l ne. rw (leaving-miss s t ts ne)
               (chain-agrees (keeps-agrees same) (cellAt rows stamp s / 2) (leaving s ts) (b .tops s l) (b .chains s l)));
@@ -300,7 +303,7 @@ module _ {tb rows : List ℕ} {stamp first end : ℕ} {fs : List ℕ} {ts : List
         }
       where
         settled-to : (e : ℕ) → toOf (settled rows stamp e) ≡ toOf e
-        settled-to e = ap stateOf ((parts e) .spot) ∙ spot-state (toOf e) (cellAt rows stamp (toOf e)) (cell-small rows stamp (toOf e))
+        settled-to e = ap stateOf ((parts e) .spot) ∙ spot-state _ (toOf e) _ (omega arith) (omega arith)
 
     -- of every state
     pub built-spot : (s : ℕ) → s < stateCount → Spot tb₁ first end fs ts s (spotAt rows stamp s)
@@ -310,10 +313,26 @@ module _ {tb rows : List ℕ} {stamp first end : ℕ} {fs : List ℕ} {ts : List
         let h : headOf (spotAt rows stamp s) ≡ c / 2 = omega (arith, b .short) in
         let m : spotAt rows stamp s % 2 ≡ c % 2 = omega arith in
         record {
-          state = omega (arith, b .short);
+          state = spot-state (c / 2) s (c % 2) (omega arith) (omega arith);
           chain = rw h (chain-agrees settled-agrees (c / 2) (leaving s ts) t (b .chains s l));
           below = rw h t;
           final = rw m (b .finals s l);
+        }
+
+    -- the start, with two bytes that tell of its chain
+    pub built-start : (s bytes : ℕ) → s < stateCount → bytes < 65536
+        → ((first : ℕ) (us : List Transition) → Chain tb first (headIn rows stamp s) us → Within bytes us)
+        → Opens tb₁ first end ts s (startWord (headIn rows stamp s) bytes)
+    built-start s bytes l k f =
+        let t : headIn rows stamp s < end = b .tops s l in
+        let h : headOf (startWord (headIn rows stamp s) bytes) ≡ headIn rows stamp s = omega arith in
+        let p : lowOf (startWord (headIn rows stamp s) bytes) ≡ lowOf bytes = omega arith in
+        let d : startWord (headIn rows stamp s) bytes / 256 ≡ headIn rows stamp s * 256 + bytes / 256 = omega arith in
+        let q : highOf (startWord (headIn rows stamp s) bytes) ≡ highOf bytes = rw d (omega arith) in
+        record {
+          chain = rw h (chain-agrees settled-agrees (headIn rows stamp s) (leaving s ts) t (b .chains s l));
+          below = rw h t;
+          reach = rw (p, q) (f first (leaving s ts) (b .chains s l));
         }
 
     pub built-body : All (Ranged stateCount) ts → Body tb₁ first end fs ts

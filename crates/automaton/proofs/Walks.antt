@@ -8,12 +8,13 @@ use native.Mathlib.Omega.{arith}
 use native.Mathlib.Numerals.{add-one}
 use lib.ListN.{length, getD, take}
 use lib.Dec.{eqb}
+use borrow.Author.Tests.{leb-true, le-leb}
 use Rattle.automaton.specs.Choice.{if, any, among}
 use Rattle.automaton.specs.Rule.{Transition, Rule, covers, target, step, walk, matches, longestWithin, longest}
 use Rattle.automaton.specs.Rule.{Sound}
-use Rattle.automaton.specs.Contracts.{headOf, isFinal, spotOf, toOf, edgeAt, firstOf, endOf}
-use Rattle.automaton.specs.Contracts.{startOf, bodyAt, leaving, pick, Chain, Finds, Spot, Table}
-use Rattle.automaton.proofs.Tests.{or-false}
+use Rattle.automaton.specs.Contracts.{headOf, isFinal, lowOf, highOf, coversWord, spotOf, toOf, edgeAt, firstOf, endOf}
+use Rattle.automaton.specs.Contracts.{startOf, bodyAt, leaving, pick, Within, Chain, Finds, Spot, Table}
+use Rattle.automaton.proofs.Tests.{clash, or-false, and-true}
 
 -- the chain of a state leads where the rule does
 pub pick-leaving : (s b error : ℕ) (ts : List Transition) → pick (leaving s ts) b error ≡ target ts s b error
@@ -25,6 +26,20 @@ pick-leaving s b error (t ∷ ts) = go (eqb t.from s) (pick-leaving s b error ts
         → pick (if e (t ∷ leaving s ts) (leaving s ts)) b error ≡ if (e && covers t b) t.to (target ts s b error)
     go true ih = rw ih
     go false ih = ih
+
+-- a byte that lies not between those of p leads to the error state
+pick-outside : (p b error : ℕ) (ts : List Transition) → Within p ts → coversWord p b ≡ false → pick ts b error ≡ error
+unfolding pick
+pick-outside p b error [] k h = refl
+pick-outside p b error (t ∷ ts) ((l, m), k) h = go (covers t b) refl (pick-outside p b error ts k h)
+  where
+    go : (e : Bool) → covers t b ≡ e → pick ts b error ≡ error → if e t.to (pick ts b error) ≡ error
+    go true e ih =
+        let q = and-true _ _ e in
+        let x : t.low ≤ b = leb-true _ _ (q .0) in
+        let y : b ≤ t.high = leb-true _ _ (q .1) in
+        clash (rw (le-leb (lowOf p) b (omega arith), le-leb b (highOf p) (omega arith)) refl) h
+    go false e ih = ih
 
 -- nothing leaves the error state
 pub target-stays : (error b : ℕ) (ts : List Transition) → any (λ (t : Transition). eqb t.from error) ts ≡ false
@@ -79,16 +94,18 @@ module _ (r : Rule) where
 
 -- ---- the loop of `longest_prefix`
 
--- i bytes are read, the rule stands in the state of the spot p, and `best` of them are the longest that it matches
+-- i bytes are read, the rule stands in the state of the spot or start p, and `best` of them are the longest that it matches
 pub record Walk (tb : List ℕ) (k : ℕ) (r : Rule) (t : List ℕ) (p best i : ℕ) : Type 0 where
   pub within : i ≤ length t
-  pub spot : Spot tb (firstOf (bodyAt tb k)) (endOf (bodyAt tb k)) r.finals r.transitions (walk r r.start (take i t)) p
+  pub chain : Chain tb (firstOf (bodyAt tb k)) (headOf p) (leaving (walk r r.start (take i t)) r.transitions)
+  pub below : headOf p < endOf (bodyAt tb k)
   pub most : best ≡ longestWithin r t i
 
 module _ {tb : List ℕ} {k : ℕ} {r : Rule} (table : Table tb k r) where
   pub walk-start : (t : List ℕ) {p : ℕ} → p ≡ startOf (bodyAt tb k) → Walk tb k r t p 0 0
   unfolding walk
-  walk-start t e = rw e (record { within = omega arith; spot = table .start; most = longest-zero r t })
+  walk-start t e =
+      rw e (record { within = omega arith; chain = table .start .chain; below = table .start .below; most = longest-zero r t })
 
   module _ {t : List ℕ} {p best i : ℕ} (w : Walk tb k r t p best i) where
     pub walk-end : length t ≤ i → best ≡ longest r t
@@ -96,13 +113,9 @@ module _ {tb : List ℕ} {k : ℕ} {r : Rule} (table : Table tb k r) where
         let q : i ≡ length t = omega (arith, w .within) in
         w .most ∙ ap (λ (x : ℕ). longestWithin r t x) q
 
-    module _ {link : ℕ} (more : i < length t)
-        (f : (first : ℕ) (ts : List Transition) → Chain tb first (headOf p) ts → Finds tb first (headOf p) ts (getD t i 0) link) where
+    module _ (more : i < length t) where
       abbrev here : ℕ
       here = walk r r.start (take i t)
-
-      finds : Finds tb (firstOf (bodyAt tb k)) (headOf p) (leaving here r.transitions) (getD t i 0) link
-      finds = f (firstOf (bodyAt tb k)) (leaving here r.transitions) (w .spot .chain)
 
       -- one byte more leads where the chain does
       leads : walk r r.start (take (suc i) t) ≡ pick (leaving here r.transitions) (getD t i 0) r.error
@@ -113,8 +126,13 @@ module _ {tb : List ℕ} {k : ℕ} {r : Rule} (table : Table tb k r) where
           w .most ∙ longest-no r t i (ap (λ (x : ℕ). among x r.finals) q ∙ table .sound .fails)
           ∙ longest-done r (table .sound) t (suc i) more q
 
+    module _ {link : ℕ} (more : i < length t)
+        (f : (first : ℕ) (ts : List Transition) → Chain tb first (headOf p) ts → Finds tb first (headOf p) ts (getD t i 0) link) where
+      finds : Finds tb (firstOf (bodyAt tb k)) (headOf p) (leaving (here more) r.transitions) (getD t i 0) link
+      finds = f (firstOf (bodyAt tb k)) (leaving (here more) r.transitions) (w .chain)
+
       pub walk-nothing : link ≡ 0 → best ≡ longest r t
-      walk-nothing z = stop (leads ∙ finds .nothing z r.error)
+      walk-nothing z = stop more (leads more ∙ finds .nothing z r.error)
 
       module _ (some : link ≡ 0 → ⊥) where
         pos : 0 < link
@@ -124,20 +142,32 @@ module _ {tb : List ℕ} {k : ℕ} {r : Rule} (table : Table tb k r) where
         link-above = finds .above pos
 
         pub link-below : link < endOf (bodyAt tb k)
-        link-below = omega (arith, finds .below, w .spot .below)
+        link-below = omega (arith, finds .below, w .below)
 
         reached : walk r r.start (take (suc i) t) ≡ toOf (edgeAt tb link)
-        reached = leads ∙ finds .to pos r.error
+        reached = leads more ∙ finds .to pos r.error
 
         next : Spot tb (firstOf (bodyAt tb k)) (endOf (bodyAt tb k)) r.finals r.transitions
             (walk r r.start (take (suc i) t)) (spotOf (edgeAt tb link))
         next = rw reached (table .body .spots link link-above link-below)
 
-        pub walk-error : toOf (edgeAt tb link) ≡ r.error → best ≡ longest r t
-        walk-error z = stop (reached ∙ z)
+        onward : {best₁ : ℕ} → best₁ ≡ longestWithin r t (suc i) → Walk tb k r t (spotOf (edgeAt tb link)) best₁ (i + 1)
+        onward e = rw add-one (record { within = more; chain = next .chain; below = next .below; most = e })
 
         pub walk-final : isFinal (spotOf (edgeAt tb link)) ≡ true → Walk tb k r t (spotOf (edgeAt tb link)) (i + 1) (i + 1)
-        walk-final e = rw add-one (record { within = more; spot = next; most = longest-yes r t i (sym (next .final) ∙ e) })
+        walk-final e = onward (add-one i ∙ longest-yes r t i (sym (next .final) ∙ e))
 
         pub walk-other : isFinal (spotOf (edgeAt tb link)) ≡ false → Walk tb k r t (spotOf (edgeAt tb link)) best (i + 1)
-        walk-other e = rw add-one (record { within = more; spot = next; most = w .most ∙ longest-no r t i (sym (next .final) ∙ e) })
+        walk-other e = onward (w .most ∙ longest-no r t i (sym (next .final) ∙ e))
+
+  -- a text whose first byte lies not between those of the start
+  pub walk-dismissed : (t : List ℕ) {p : ℕ} → p ≡ startOf (bodyAt tb k) → 0 < length t → coversWord p (getD t 0 0) ≡ false → 0 ≡ longest r t
+  unfolding walk
+  walk-dismissed t {p} e more h =
+      let w = walk-start t e in
+      let q : Within p (leaving r.start r.transitions) = rw e (table .start .reach) in
+      stop w more (leads w more ∙ pick-outside p (getD t 0 0) r.error (leaving r.start r.transitions) q h)
+
+  -- an empty text
+  pub walk-empty : (t : List ℕ) → length t ≡ 0 → 0 ≡ longest r t
+  walk-empty t e = walk-end (walk-start t refl) (omega arith)

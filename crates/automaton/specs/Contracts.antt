@@ -7,18 +7,25 @@ use Prim.Native.Nat.{ℕ, _+_, _-_, _*_, _/_, _%_, _<_, _≤_}
 use lib.Dec.{leb, eqb}
 use lib.ListN.{length, getD}
 use Rattle.automaton.specs.Rule.{stateCount, Transition, Rule, covers, Sound}
-use Rattle.automaton.specs.Choice.{if, among}
+use Rattle.automaton.specs.Choice.{if, All, among}
 
 -- ---- How one slice of words, the table, holds the rules of a book.
--- Word 0 is the number of rules. Two words for each rule follow, its name (tag, kind and error state) and its body (the spot of its start,
--- and where the words of its transitions lie), with room for `ruleRoom` rules; then a word for each transition, rule by rule.
--- A spot is what a walk asks of a state: its number, the head of the chain of the transitions that leave it, and whether it is final.
+-- Word 0 is the number of rules. Two words for each rule follow, its name (tag, kind and error state) and its body (what a walk asks of its
+-- start, and where the words of its transitions lie), with room for `ruleRoom` rules; then a word for each transition, rule by rule.
+-- A spot is what is kept of a state: its number, the head of the chain of the transitions that leave it, and whether it is final.
+-- Of the start, which is not final, the head is kept, and two bytes between which all lie that these transitions cover.
 -- The word of a transition has the spot to which it leads and the next link of its chain. A link is 0 for none, else the place of a
 -- transition's word, and the links of a chain fall.
 
--- rules that a table has room for, and the place of the first transition's word
+-- rules that a table has room for, the places of the name and of the body of rule number k, and that of the first transition's word
 abbrev pub ruleRoom : ℕ
 ruleRoom = 32
+
+abbrev pub namePlace : ℕ → ℕ
+namePlace k = k + 1
+
+abbrev pub bodyPlace : ℕ → ℕ
+bodyPlace k = k + 33
 
 abbrev pub edgeStart : ℕ
 edgeStart = 65
@@ -27,17 +34,21 @@ edgeStart = 65
 
 -- the parts of a spot
 abbrev pub stateOf : ℕ → ℕ
-stateOf p = p / 131072
+stateOf p = p / 2 % 32768
 
 abbrev pub headOf : ℕ → ℕ
-headOf p = p / 2 % 65536
+headOf p = p / 65536
 
 abbrev pub isFinal : ℕ → Bool
 isFinal p = eqb (p % 2) 1
 
+-- the start of a rule: its head stands as in a spot, the two bytes as those of a transition in its word
+abbrev pub startWord : ℕ → ℕ → ℕ
+startWord head bytes = head * 65536 + bytes
+
 -- the spot of a state of which nothing is known yet but its number
 abbrev pub bareSpot : ℕ → ℕ
-bareSpot state = state * 131072
+bareSpot state = state * 2
 
 -- the word of a transition, and its parts; the state that it leaves is that of its chain
 abbrev pub edgeWord : ℕ → ℕ → ℕ → ℕ → ℕ
@@ -93,10 +104,10 @@ abbrev pub countAt : List ℕ → ℕ
 countAt tb = getD tb 0 0
 
 abbrev pub nameAt : List ℕ → ℕ → ℕ
-nameAt tb k = getD tb (2 * k + 1) 0
+nameAt tb k = getD tb (namePlace k) 0
 
 abbrev pub bodyAt : List ℕ → ℕ → ℕ
-bodyAt tb k = getD tb (2 * k + 2) 0
+bodyAt tb k = getD tb (bodyPlace k) 0
 
 abbrev pub edgeAt : List ℕ → ℕ → ℕ
 edgeAt tb i = getD tb i 0
@@ -145,6 +156,14 @@ pub record Finds (tb : List ℕ) (first head : ℕ) (ts : List Transition) (b li
   pub below : link ≤ head
   pub to : 0 < link → (error : ℕ) → pick ts b error ≡ toOf (edgeAt tb link)
 
+-- what these transitions cover lies from low to high
+abbrev pub Between : ℕ → ℕ → List Transition → Type 0
+Between low high ts = All (λ (t : Transition). (low ≤ t.low) × (t.high ≤ high)) ts
+
+-- and between the two bytes of p
+abbrev pub Within : ℕ → List Transition → Type 0
+Within p ts = Between (lowOf p) (highOf p) ts
+
 -- t shares a byte with low to high
 abbrev pub shares : ℕ → ℕ → Transition → Bool
 shares low high t = leb low t.high && leb t.low high
@@ -163,6 +182,12 @@ pub record Spot (tb : List ℕ) (first end : ℕ) (fs : List ℕ) (ts : List Tra
   pub below : headOf p < end
   pub final : isFinal p ≡ among s fs
 
+-- p is the start s of a rule with these transitions
+pub record Opens (tb : List ℕ) (first end : ℕ) (ts : List Transition) (s p : ℕ) : Type 0 where
+  pub chain : Chain tb first (headOf p) (leaving s ts)
+  pub below : headOf p < end
+  pub reach : Within p (leaving s ts)
+
 -- the transitions of a rule stand from first to before end, each with the spot to which it leads
 pub record Body (tb : List ℕ) (first end : ℕ) (fs : List ℕ) (ts : List Transition) : Type 0 where
   pub room : end ≤ length tb
@@ -175,7 +200,7 @@ pub record Table (tb : List ℕ) (k : ℕ) (r : Rule) : Type 0 where
   pub room : edgeStart ≤ length tb
   pub name : nameAt tb k ≡ nameWord r.tag r.kind r.error
   pub kind : r.kind < 256
-  pub start : Spot tb (firstOf (bodyAt tb k)) (endOf (bodyAt tb k)) r.finals r.transitions r.start (startOf (bodyAt tb k))
+  pub start : Opens tb (firstOf (bodyAt tb k)) (endOf (bodyAt tb k)) r.transitions r.start (startOf (bodyAt tb k))
   pub body : Body tb (firstOf (bodyAt tb k)) (endOf (bodyAt tb k)) r.finals r.transitions
   pub sound : Sound stateCount r
 
@@ -242,7 +267,7 @@ pub record Built (tb rows : List ℕ) (stamp first end : ℕ) (fs : List ℕ) (t
 
 -- the spot of state s in the rule with this stamp
 abbrev pub spotAt : List ℕ → ℕ → ℕ → ℕ
-spotAt rows stamp s = s * 131072 + cellAt rows stamp s
+spotAt rows stamp s = headIn rows stamp s * 65536 + s * 2 + cellAt rows stamp s % 2
 
 -- a transition's word with the spot of the state to which it leads
 abbrev pub settled : List ℕ → ℕ → ℕ → ℕ

@@ -6,7 +6,8 @@ ghost use Prim.Native.Nat.{ℕ, _+_, _*_, _/_, _%_, _≤_, _<_};
 ghost use lib.ListN.{length, set};
 ghost use Rattle.automaton.specs.Choice.{any};
 ghost use Rattle.automaton.specs.Rule.{Transition, stateCount};
-ghost use Rattle.automaton.specs.Contracts.{ruleRoom, edgeStart, edgeWord, bareSpot, nameWord, bodyWord, Chain, Chained, shares};
+ghost use Rattle.automaton.specs.Contracts.{ruleRoom, edgeStart, namePlace, bodyPlace, edgeWord, bareSpot, nameWord, bodyWord};
+ghost use Rattle.automaton.specs.Contracts.{Chain, Chained, Within, shares};
 ghost use Rattle.automaton.specs.Contracts.{rowWord, cellAt, headIn, finalIn, spotAt, Settles, settled, edgeAt, toOf};
 
 // The cell of state `s` in the rule with this stamp: twice the head of its chain, plus 1 where it is final.
@@ -54,12 +55,30 @@ pub fn shares_byte(table: &[u64], head: usize, low: u8, high: u8) -> bool
     false
 }
 
+// Two bytes between which all lie that the chain from `head` covers: the lowest, plus 256 times the highest.
+pub fn first_bytes(table: &[u64], head: usize) -> u64
+    requires { ⌜ Chained (now table) head ⌝ }
+    ensures { λ r. ⌜ r < 65536 ⌝ }
+    ensures { λ r. ⌜ ((first : ℕ) (ts : List Transition) → Chain (now (table .entry)) first head ts → Within r ts) ⌝ }
+{
+    let mut low: u64 = 255;
+    let mut high: u64 = 0;
+    let mut h = head;
+    while h != 0 {
+        let e = table[h];
+        low = crate::words::lower(low, crate::words::low(e));
+        high = crate::words::higher(high, crate::words::high(e));
+        h = crate::words::next(e);
+    }
+    high * 256 + low
+}
+
 // Stores the word of a transition to state `to`, with the next link of its chain.
 pub fn put_edge(table: &mut [u64], at: usize, low: u8, high: u8, next: usize, to: u8)
     requires { ⌜ (at < length (now table)) × (next < 65536) ⌝ }
     ensures { λ r. ⌜ now (table .exit) ≡ set (now (table .entry)) at (edgeWord low high next (bareSpot to)) ⌝ }
 {
-    table[at] = crate::words::edge(low, high, next, (to as u64) * 131072);
+    table[at] = crate::words::edge(low, high, next, (to as u64) * 2);
 }
 
 // Makes `link` the head of the chain of state `s`.
@@ -85,7 +104,8 @@ pub fn spot_of(rows: &[u32], stamp: u32, s: usize) -> u64
     requires { ⌜ (s < stateCount) × (length (now rows) ≡ stateCount) ⌝ }
     ensures { λ r. ⌜ r ≡ spotAt (now (rows .entry)) stamp s ⌝ }
 {
-    (s as u64) * 131072 + (cell(rows, stamp, s) as u64)
+    let c = cell(rows, stamp, s) as u64;
+    c / 2 * 65536 + (s as u64) * 2 + c % 2
 }
 
 // Puts into each of the words from `first` to before `end` the spot of the state to which it leads.
@@ -115,18 +135,18 @@ fn settle_one(table: &mut [u64], rows: &[u32], stamp: u32, i: usize)
 // Stores the name of rule number `rule`.
 pub fn put_name(table: &mut [u64], rule: usize, tag: u16, kind: u8, error: u8)
     requires { ⌜ (rule < ruleRoom) × (edgeStart ≤ length (now table)) ⌝ }
-    ensures { λ r. ⌜ now (table .exit) ≡ set (now (table .entry)) (2 * rule + 1) (nameWord tag kind error) ⌝ }
+    ensures { λ r. ⌜ now (table .exit) ≡ set (now (table .entry)) (namePlace rule) (nameWord tag kind error) ⌝ }
 {
-    table[2 * rule + 1] = (tag as u64) * 16777216 + (kind as u64) * 65536 + (error as u64);
+    table[rule + 1] = (tag as u64) * 16777216 + (kind as u64) * 65536 + (error as u64);
 }
 
 // Stores the body of rule number `rule`.
 pub fn put_body(table: &mut [u64], rule: usize, start: u64, first: usize, end: usize)
     requires { ⌜ (rule < ruleRoom) × (edgeStart ≤ length (now table)) ⌝ }
     requires { ⌜ (start < 4294967296) × (first < 65536) × (end < 65536) ⌝ }
-    ensures { λ r. ⌜ now (table .exit) ≡ set (now (table .entry)) (2 * rule + 2) (bodyWord start first end) ⌝ }
+    ensures { λ r. ⌜ now (table .exit) ≡ set (now (table .entry)) (bodyPlace rule) (bodyWord start first end) ⌝ }
 {
-    table[2 * rule + 2] = start * 4294967296 + (first as u64) * 65536 + (end as u64);
+    table[rule + 33] = start * 4294967296 + (first as u64) * 65536 + (end as u64);
 }
 
 // Stores the number of rules.

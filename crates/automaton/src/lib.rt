@@ -11,7 +11,10 @@ ghost use lib.ListN.{length};
 ghost use Rattle.automaton.specs.Rule.{Rule};
 ghost use Rattle.automaton.specs.Contracts.{firstOf, endOf, startOf, bodyAt, Table, Tabled, Holds, Held, Ranks};
 
-// The place of the first transition: a table has room for the words of 32 rules before it.
+// A table has room for so many rules.
+pub const RULES: usize = 32;
+
+// The place of the first transition, behind the room for rules.
 pub const EDGE_START: usize = 65;
 
 // The states of a rule are below this.
@@ -29,14 +32,14 @@ pub fn tag_of(table: &[u64], rule: usize) -> u64
     requires { ⌜ Tabled (now table) rule ⌝ }
     ensures { λ r. ⌜ ((m : Rule) → Table (now (table .entry)) rule m → r ≡ m .tag) ⌝ }
 {
-    table[2 * rule + 1] / 16777216
+    table[rule + 1] / 16777216
 }
 
 pub fn kind_of(table: &[u64], rule: usize) -> u64
     requires { ⌜ Tabled (now table) rule ⌝ }
     ensures { λ r. ⌜ ((m : Rule) → Table (now (table .entry)) rule m → r ≡ m .kind) ⌝ }
 {
-    table[2 * rule + 1] / 65536 % 256
+    table[rule + 1] / 65536 % 256
 }
 
 // The number of the error state.
@@ -44,15 +47,15 @@ pub fn error_of(table: &[u64], rule: usize) -> u64
     requires { ⌜ Tabled (now table) rule ⌝ }
     ensures { λ r. ⌜ ((m : Rule) → Table (now (table .entry)) rule m → r ≡ m .error) ⌝ }
 {
-    table[2 * rule + 1] % 65536
+    table[rule + 1] % 65536
 }
 
-// The spot of the start.
+// What a walk asks of the start: the head of its chain and two bytes between which all lie that may come first.
 pub fn start_of(table: &[u64], rule: usize) -> u64
     requires { ⌜ Tabled (now table) rule ⌝ }
     ensures { λ r. ⌜ r ≡ startOf (bodyAt (now (table .entry)) rule) ⌝ }
 {
-    table[2 * rule + 2] / 4294967296
+    table[rule + 33] / 4294967296
 }
 
 // The place of the rule's first transition, and the one behind its last.
@@ -60,14 +63,14 @@ pub fn first_of(table: &[u64], rule: usize) -> usize
     requires { ⌜ Tabled (now table) rule ⌝ }
     ensures { λ r. ⌜ r ≡ firstOf (bodyAt (now (table .entry)) rule) ⌝ }
 {
-    (table[2 * rule + 2] / 65536 % 65536) as usize
+    (table[rule + 33] / 65536 % 65536) as usize
 }
 
 pub fn end_of(table: &[u64], rule: usize) -> usize
     requires { ⌜ Tabled (now table) rule ⌝ }
     ensures { λ r. ⌜ r ≡ endOf (bodyAt (now (table .entry)) rule) ⌝ }
 {
-    (table[2 * rule + 2] % 65536) as usize
+    (table[rule + 33] % 65536) as usize
 }
 
 // The number of the first rule of this tag; that of all rules where none has it.

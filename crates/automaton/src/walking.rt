@@ -23,13 +23,19 @@ fn find(table: &[u64], head: usize, byte: u64) -> usize
 }
 
 // The number of bytes of the longest prefix of `text` that rule number `rule` matches, 0 for none.
-// The walk goes through states that are not final and stops at the error state.
+// The walk goes on through states that are not final. Nothing leaves the error state, so that a walk ends there as in any state that the
+// byte does not leave: by an empty chain. Most rules are dismissed by the first byte alone, with no step along a chain.
 pub fn longest_prefix(table: &[u64], rule: usize, text: &[u8]) -> usize
     requires { ⌜ Tabled (now table) rule ⌝ }
     ensures { λ r. ⌜ ((m : Rule) → Table (now (table .entry)) rule m → r ≡ longest m (now (text .entry))) ⌝ }
 {
-    let error = crate::error_of(table, rule);
     let mut spot = crate::start_of(table, rule);
+    if text.len() == 0 {
+        return 0;
+    }
+    if !crate::words::covers(spot, text[0] as u64) {
+        return 0;
+    }
     let mut best = 0;
     let mut i = 0;
     while i < text.len() {
@@ -38,9 +44,6 @@ pub fn longest_prefix(table: &[u64], rule: usize, text: &[u8]) -> usize
             return best;
         }
         spot = crate::words::spot(table[link]);
-        if crate::words::state(spot) == error {
-            return best;
-        }
         i += 1;
         if crate::words::is_final(spot) {
             best = i;

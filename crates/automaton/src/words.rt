@@ -1,8 +1,8 @@
-// The words of a table: transitions and the spots to which they lead. Where a part stands in its word is known here alone.
+// The words of a table: transitions, the spots to which they lead, and starts. Where a part stands in its word is known here alone.
 ghost use mathlib.Core.Path.{_≡_};
 ghost use Rattle.automaton.specs.Contracts.{stateOf, headOf, isFinal};
 ghost use Rattle.automaton.specs.Contracts.{edgeWord, lowOf, highOf, nextOf, spotOf, coversWord};
-ghost use Prim.Native.Nat.{_<_};
+ghost use Prim.Native.Nat.{_<_, min, max};
 
 // The word of a transition.
 pub fn edge(low: u8, high: u8, next: usize, spot: u64) -> u64
@@ -38,7 +38,7 @@ pub fn spot(edge: u64) -> u64
     edge / 4294967296
 }
 
-// Whether the transition covers `byte`.
+// Whether the transition covers `byte`; of a start, whether the byte lies between its two.
 pub fn covers(edge: u64, byte: u64) -> bool
     ensures { λ r. ⌜ r ≡ coversWord edge byte ⌝ }
 {
@@ -53,18 +53,31 @@ pub fn covers(edge: u64, byte: u64) -> bool
 pub fn state(spot: u64) -> u64
     ensures { λ r. ⌜ r ≡ stateOf spot ⌝ }
 {
-    spot / 131072
+    spot / 2 % 32768
 }
 
 // The head of the chain of the transitions that leave it.
 pub fn head(spot: u64) -> usize
     ensures { λ r. ⌜ r ≡ headOf spot ⌝ }
 {
-    (spot / 2 % 65536) as usize
+    (spot / 65536) as usize
 }
 
 pub fn is_final(spot: u64) -> bool
     ensures { λ r. ⌜ r ≡ isFinal spot ⌝ }
 {
     spot % 2 == 1
+}
+
+// The lower and the higher of two numbers.
+pub fn lower(a: u64, b: u64) -> u64
+    ensures { λ r. ⌜ r ≡ min a b ⌝ }
+{
+    if a <= b { a } else { b }
+}
+
+pub fn higher(a: u64, b: u64) -> u64
+    ensures { λ r. ⌜ r ≡ max a b ⌝ }
+{
+    if a <= b { b } else { a }
 }

@@ -11,11 +11,11 @@ use lib.Seq.{getD-set-same, getD-set-other, getD-at}
 use borrow.Author.Tests.{eqb-true, eqb-false}
 use borrow.Author.Count.{below-more}
 use Rattle.automaton.specs.Rule.{Transition, Rule, stateCount}
-use Rattle.automaton.specs.Contracts.{edgeStart, nameWord, bodyWord, startOf, firstOf, endOf, bareSpot, edgeWord}
-use Rattle.automaton.specs.Contracts.{countAt, nameAt, bodyAt, edgeAt}
-use Rattle.automaton.specs.Contracts.{stampAt, rowWord, headIn, cellAt, spotAt, blank, ruleAt, Table, Settles}
-use Rattle.automaton.proofs.Built.{built-edge, built-final, built-blank, built-spot, built-body, built-order}
-use Rattle.automaton.proofs.Built.{Keeps, keeps-agrees, spot-agrees, body-keeps, table-keeps}
+use Rattle.automaton.specs.Contracts.{edgeStart, namePlace, bodyPlace, nameWord, bodyWord, startOf, firstOf, endOf, bareSpot, edgeWord}
+use Rattle.automaton.specs.Contracts.{startWord, countAt, nameAt, bodyAt, edgeAt}
+use Rattle.automaton.specs.Contracts.{stampAt, rowWord, headIn, cellAt, blank, ruleAt, Chain, Within, Table, Settles}
+use Rattle.automaton.proofs.Built.{built-edge, built-final, built-blank, built-start, built-body, built-order}
+use Rattle.automaton.proofs.Built.{Keeps, keeps-agrees, opens-agrees, body-keeps, table-keeps}
 use Rattle.book.specs.Limits.{maxRules}
 use Rattle.book.specs.Valid.{ValidRule}
 use Rattle.book.specs.Contracts.{Fresh, Stored}
@@ -59,7 +59,7 @@ module _ {first end : ℕ} {tb rows : List ℕ} {rules : List Rule} {fs : List �
 
   -- a transition more
   module _ (t : Transition) (more : end < length tb) (short : end + 1 < 65536) (f : t.from < stateCount)
-      (lo : t.low < 256) (hi : t.high < 256) where
+      (lo : t.low < 256) (hi : t.high < 256) (g : t.to < stateCount) where
     abbrev word : ℕ
     word = edgeWord t.low t.high (headIn rows stamp t.from) (bareSpot t.to)
 
@@ -81,17 +81,19 @@ module _ {first end : ℕ} {tb rows : List ℕ} {rules : List Rule} {fs : List �
             few = few;
             count = before 0 (omega arith) ∙ st .holds .count;
             each = λ k l. still (length-set tb end word) (λ i a b. before i (omega arith)) k l
-                (before (2 * k + 1) (omega arith)) (before (2 * k + 2) (omega arith));
+                (before (namePlace k) (omega arith)) (before (bodyPlace k) (omega arith));
           };
-          apart = λ k l. rw (before (2 * k + 2) (omega arith)) (st .apart k l);
+          apart = λ k l. rw (before (bodyPlace k) (omega arith)) (st .apart k l);
           stamps = stamp-set rows stamp t.from end (cellAt rows stamp t.from % 2) (omega (arith, st .built .cells)) (omega arith)
               (st .stamps);
-          built = built-edge (st .built) t more short f lo hi;
+          built = built-edge (st .built) t more short f lo hi g;
         }
 
   -- the open rule closed
   module _ (r : Rule) (v : ValidRule r) (same-finals : r.finals ≡ fs) (same-transitions : r.transitions ≡ ts)
-      (open-room : length rules < maxRules) {middle : List ℕ} (w : Settles rows (length rules + 1) first end tb middle) where
+      (open-room : length rules < maxRules) (bytes : ℕ) (small : bytes < 65536)
+      (reach : (first : ℕ) (us : List Transition) → Chain tb first (headIn rows (length rules + 1) r.start) us → Within bytes us)
+      {middle : List ℕ} (w : Settles rows (length rules + 1) first end tb middle) where
     abbrev rule : ℕ
     rule = length rules
 
@@ -99,43 +101,43 @@ module _ {first end : ℕ} {tb rows : List ℕ} {rules : List Rule} {fs : List �
     name = nameWord r.tag r.kind r.error
 
     abbrev body : ℕ
-    body = bodyWord (spotAt rows stamp r.start) first end
+    body = bodyWord (startWord (headIn rows stamp r.start) bytes) first end
 
     abbrev tb₁ : List ℕ
-    tb₁ = set (set (set middle (2 * rule + 1) name) (2 * rule + 2) body) 0 (rule + 1)
+    tb₁ = set (set (set middle (namePlace rule) name) (bodyPlace rule) body) 0 (rule + 1)
 
     same-size : length tb₁ ≡ length tb
     same-size = simp length-set (w .same-length)
 
     -- every other word is that of the settled table
-    read : (i : ℕ) → 0 < i → (i ≡ 2 * rule + 1 → ⊥) → (i ≡ 2 * rule + 2 → ⊥) → edgeAt tb₁ i ≡ edgeAt middle i
+    read : (i : ℕ) → 0 < i → (i ≡ namePlace rule → ⊥) → (i ≡ bodyPlace rule → ⊥) → edgeAt tb₁ i ≡ edgeAt middle i
     read i p a b =
-        getD-set-other (set (set middle (2 * rule + 1) name) (2 * rule + 2) body) 0 i (rule + 1) 0 (λ z. omega arith)
-        ∙ getD-set-other (set middle (2 * rule + 1) name) (2 * rule + 2) i body 0 b ∙ getD-set-other middle (2 * rule + 1) i name 0 a
+        getD-set-other (set (set middle (namePlace rule) name) (bodyPlace rule) body) 0 i (rule + 1) 0 (λ z. omega arith)
+        ∙ getD-set-other (set middle (namePlace rule) name) (bodyPlace rule) i body 0 b ∙ getD-set-other middle (namePlace rule) i name 0 a
 
-    old : (i : ℕ) → 0 < i → (i ≡ 2 * rule + 1 → ⊥) → (i ≡ 2 * rule + 2 → ⊥) → i < first → edgeAt tb₁ i ≡ edgeAt tb i
+    old : (i : ℕ) → 0 < i → (i ≡ namePlace rule → ⊥) → (i ≡ bodyPlace rule → ⊥) → i < first → edgeAt tb₁ i ≡ edgeAt tb i
     old i p a b l = read i p a b ∙ w .outside i (inl l)
 
     name-here : nameAt tb₁ rule ≡ name
     name-here =
         let m = w .same-length in
         let l = st .holds .room in
-        getD-set-other (set (set middle (2 * rule + 1) name) (2 * rule + 2) body) 0 (2 * rule + 1) (rule + 1) 0 (λ z. omega arith)
-        ∙ getD-set-other (set middle (2 * rule + 1) name) (2 * rule + 2) (2 * rule + 1) body 0 (λ z. omega arith)
-        ∙ getD-set-same middle (2 * rule + 1) name 0 (omega arith)
+        getD-set-other (set (set middle (namePlace rule) name) (bodyPlace rule) body) 0 (namePlace rule) (rule + 1) 0 (λ z. omega arith)
+        ∙ getD-set-other (set middle (namePlace rule) name) (bodyPlace rule) (namePlace rule) body 0 (λ z. omega arith)
+        ∙ getD-set-same middle (namePlace rule) name 0 (omega arith)
 
     body-here : bodyAt tb₁ rule ≡ body
     body-here =
         let m = w .same-length in
         let l = st .holds .room in
-        getD-set-other (set (set middle (2 * rule + 1) name) (2 * rule + 2) body) 0 (2 * rule + 2) (rule + 1) 0 (λ z. omega arith)
-        ∙ getD-set-same (set middle (2 * rule + 1) name) (2 * rule + 2) body 0 (simp length-set (omega arith))
+        getD-set-other (set (set middle (namePlace rule) name) (bodyPlace rule) body) 0 (bodyPlace rule) (rule + 1) 0 (λ z. omega arith)
+        ∙ getD-set-same (set middle (namePlace rule) name) (bodyPlace rule) body 0 (simp length-set (omega arith))
 
     count-here : countAt tb₁ ≡ rule + 1
     count-here =
         let m = w .same-length in
         let l = st .holds .room in
-        getD-set-same (set (set middle (2 * rule + 1) name) (2 * rule + 2) body) 0 (rule + 1) 0 (simp length-set (omega arith))
+        getD-set-same (set (set middle (namePlace rule) name) (bodyPlace rule) body) 0 (rule + 1) 0 (simp length-set (omega arith))
 
     first-small : first < 65536
     first-small = omega (arith, built-order (st .built), st .built .short)
@@ -146,7 +148,7 @@ module _ {first end : ℕ} {tb rows : List ℕ} {rules : List Rule} {fs : List �
     end-here : endOf body ≡ end
     end-here = let a = first-small in let b = st .built .short in omega arith
 
-    start-here : startOf body ≡ spotAt rows stamp r.start
+    start-here : startOf body ≡ startWord (headIn rows stamp r.start) bytes
     start-here = let a = first-small in let b = st .built .short in omega arith
 
     keeps : Keeps middle tb₁ first end
@@ -164,10 +166,10 @@ module _ {first end : ℕ} {tb rows : List ℕ} {rules : List Rule} {fs : List �
     Closed k = Table tb₁ k (ruleAt (rules ++ (r ∷ [])) k)
 
     name-old : (k : ℕ) → k < length rules → nameAt tb₁ k ≡ nameAt tb k
-    name-old k l = let z = st .built .start in old (2 * k + 1) (omega arith) (λ e. omega arith) (λ e. omega arith) (omega arith)
+    name-old k l = let z = st .built .start in old (namePlace k) (omega arith) (λ e. omega arith) (λ e. omega arith) (omega arith)
 
     body-old : (k : ℕ) → k < length rules → bodyAt tb₁ k ≡ bodyAt tb k
-    body-old k l = let z = st .built .start in old (2 * k + 2) (omega arith) (λ e. omega arith) (λ e. omega arith) (omega arith)
+    body-old k l = let z = st .built .start in old (bodyPlace k) (omega arith) (λ e. omega arith) (λ e. omega arith) (omega arith)
 
     table-old : (k : ℕ) → k < length rules → Closed k
     table-old k l =
@@ -183,16 +185,16 @@ module _ {first end : ℕ} {tb rows : List ℕ} {rules : List Rule} {fs : List �
           room = rw same-size (st .holds .room);
           name = name-here;
           kind = omega (arith, v .kind);
-          start = rw (body-here, first-here, end-here, start-here, same-finals, same-transitions)
-              (spot-agrees (keeps-agrees keeps) (built-spot (st .built) w r.start (v .sound .start-below)));
+          start = rw (body-here, first-here, end-here, start-here, same-transitions)
+              (opens-agrees (keeps-agrees keeps) (built-start (st .built) w r.start bytes (v .sound .start-below) small reach));
           body = rw (body-here, first-here, end-here, same-finals, same-transitions)
               (body-keeps keeps (built-body (st .built) w (rw same-transitions at (v .sound .ranged))));
           sound = v .sound;
         })
 
     pub stored-closed : Stored end end
-        (set (set (set middle (2 * length rules + 1) (nameWord r.tag r.kind r.error))
-        (2 * length rules + 2) (bodyWord (spotAt rows (length rules + 1) r.start) first end)) 0 (length rules + 1))
+        (set (set (set middle (namePlace (length rules)) (nameWord r.tag r.kind r.error))
+        (bodyPlace (length rules)) (bodyWord (startWord (headIn rows (length rules + 1) r.start) bytes) first end)) 0 (length rules + 1))
         rows (rules ++ (r ∷ [])) [] []
     stored-closed =
         record {

@@ -197,7 +197,7 @@ module _ {b : Book} {tb rows : List ℕ} {d : Draft} (h : Represents b tb rows d
           let c = h .stored .built .chains from f in
           let z : shared ≡ any (meets u) d.transitions =
           seen (b .first) (leaving from d.transitions) (rw (rules-are h) c) ∙ meets-shares u d.transitions in
-          let st = stored-edge (h .stored) u more (omega arith) f (omega arith) hi in
+          let st = stored-edge (h .stored) u more (omega arith) f (omega arith) hi t in
           rw (few-moves, le-ltb _ _ order, e₁, e₂, joined, z, h .same) (on _ fine st refl m)
 
 -- ---- CLOSE
@@ -277,7 +277,8 @@ module _ {b : Book} {tb rows : List ℕ} {d : Draft} (h : Represents b tb rows d
               let o = h .fine .current i in
               let v = closed-rule d (h .fine) o no-overlap none-leaves error-not-final z in
               let w = rw (rules-are h) at (q .settles) in
-              let st = stored-closed (h .stored) (ruleOf d) v refl refl (o .room) w in
+              let f₁ = rw (rules-are h, ← (start-is h)) at (q .reach) in
+              let st = stored-closed (h .stored) (ruleOf d) v refl refl (o .room) (q .bytes) (q .small) f₁ w in
               rw (both-set, no-overlap, none-leaves, error-not-final, z)
               (on _ {f = b .edges} {m = b .edges} f (rw (q .stored, h .same) st)
               (rw (rules-are h, length-append d.rules (ruleOf d ∷ []))) m)

@@ -3,12 +3,12 @@ use mathlib.Core.Path.{_≡_}
 use mathlib.Core.Bool.{Bool, true, false}
 use mathlib.Core.List.{List, []}
 use mathlib.Core.Option.{Option, none, some}
-use Prim.Native.Nat.{ℕ, _+_, _*_, _<_, _≤_}
+use Prim.Native.Nat.{ℕ, _+_, _<_, _≤_}
 use lib.ListN.{length, getD, set}
 use Rattle.automaton.specs.Choice.{All}
 use Rattle.automaton.specs.Rule.{Transition, Rule, overlaps, Ranged, stateCount}
-use Rattle.automaton.specs.Contracts.{edgeStart, countAt, bodyAt, firstOf, endOf, edgeAt, toOf, nameWord, bodyWord}
-use Rattle.automaton.specs.Contracts.{stampAt, headIn, spotAt, Chained, Holds, Built, Settles}
+use Rattle.automaton.specs.Contracts.{edgeStart, namePlace, bodyPlace, countAt, bodyAt, firstOf, endOf, edgeAt, toOf, nameWord, bodyWord}
+use Rattle.automaton.specs.Contracts.{startWord, Within, stampAt, headIn, Chain, Chained, Holds, Built, Settles}
 use Rattle.command.specs.declared.Command.{Command}
 use Rattle.command.specs.declared.Command.the-variants.{Rule as RULE, Start, Error, Final, Step, Span, Close, End}
 use Rattle.book.specs.declared.Book.{Book}
@@ -126,11 +126,15 @@ pub record Inside (b : Book) (tb rows : List ℕ) : Type 0 where
 
 -- the table with the open rule as its next one: its transitions settled, its name and body stored, and the rules counted
 pub record Closes (b : Book) (rows tb tb₁ : List ℕ) : Type 0 where
+  -- between these bytes all lie that may come first
+  pub bytes : ℕ
+  pub small : bytes < 65536
+  pub reach : (first : ℕ) (ts : List Transition) → Chain tb first (headIn rows (b .rules + 1) (b .start)) ts → Within bytes ts
   pub middle : List ℕ
   pub settles : Settles rows (b .rules + 1) (b .first) (b .edges) tb middle
   pub stored : tb₁
-      ≡ set (set (set middle (2 * b .rules + 1) (nameWord (b .tag) (b .kind) (b .error)))
-      (2 * b .rules + 2) (bodyWord (spotAt rows (b .rules + 1) (b .start)) (b .first) (b .edges)))
+      ≡ set (set (set middle (namePlace (b .rules)) (nameWord (b .tag) (b .kind) (b .error)))
+      (bodyPlace (b .rules)) (bodyWord (startWord (headIn rows (b .rules + 1) (b .start)) bytes) (b .first) (b .edges)))
       0 (b .rules + 1)
 
 -- ---- What the code makes of one command.

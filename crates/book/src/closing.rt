@@ -44,7 +44,8 @@ fn store_rule(book: Book, table: &mut [u64], rows: &[u32])
     let first = book.first;
     let end = book.edges;
     let stamp = book.stamp();
-    let start = building::spot_of(rows, stamp, book.start as usize);
+    let head = building::head(rows, stamp, book.start as usize);
+    let start = (head as u64) * 65536 + building::first_bytes(table, head);
     building::settle(table, rows, stamp, first, end);
     building::put_name(table, rule, book.tag, book.kind, book.error);
     building::put_body(table, rule, start, first, end);

@@ -3,31 +3,21 @@ use mathlib.Core.List.{List}
 use Prim.Native.Nat.{ℕ, _-_, _<_}
 use native.Mathlib.Omega.{arith}
 use lib.ListN.{length, getD}
+use borrow.Author.Tests.{not-true}
 use borrow.Author.Needs.{needs}
 use denote.Ref.{now}
 use Rattle.automaton.specs.Rule.{Transition, Rule}
-use Rattle.automaton.specs.Contracts.{stateOf, headOf, isFinal, firstOf, endOf, bodyAt, leaving, Chain, Chained, Finds, Table}
-use Rattle.automaton.proofs.Walks.{Walk, walk-start, walk-nothing, walk-error, walk-final, walk-other, walk-end, link-below}
+use Rattle.automaton.specs.Contracts.{headOf, isFinal, firstOf, endOf, bodyAt, leaving, Chain, Chained, Finds, Table}
+use Rattle.automaton.proofs.Walks.{Walk, walk-start, walk-nothing, walk-final, walk-other, walk-end}
+use Rattle.automaton.proofs.Walks.{walk-empty, walk-dismissed, link-below}
 use Rattle.automaton.proofs.walking.longest_prefix.Statement.{statement}
 use Rattle.automaton.proofs.walking.longest_prefix.Tie as tie
 
 abbrev Inv-loop : tie.InvT-loop
-Inv-loop table rule text error spot₀ best₀ i₀ spot best i = (m : Rule) → Table table rule m → Walk table rule m text spot best i
+Inv-loop table rule text spot₀ best₀ i₀ spot best i = (m : Rule) → Table table rule m → Walk table rule m text spot best i
 
 abbrev μ-loop : tie.MeasureT-loop
-μ-loop table rule text error spot₀ best₀ i₀ spot best i = length text - i
-
--- the chain of the spot
-chained : (c : tie.In-loop Inv-loop μ-loop) → Chained (now (c .before .before .before .before .before .before .args .table))
-    (headOf (c .before .loop .spot))
-chained c =
-    let k = c .before .before .before .before .before .before in
-    let w = c .before .loop .inv (k .pre .rule) (k .pre .table) in
-    record {
-      first = firstOf (bodyAt (now (k .args .table)) (k .args .rule));
-      transitions = leaving _ (k .pre .rule .transitions);
-      chain = w .spot .chain;
-    }
+μ-loop table rule text spot₀ best₀ i₀ spot best i = length text - i
 
 abbrev Loop : Type 0
 Loop = tie.At-loop Inv-loop μ-loop
@@ -36,7 +26,19 @@ abbrev turn : tie.After-find Inv-loop μ-loop → Loop
 turn c = c .before .before .before .before
 
 abbrev entry : Loop → tie.Start Inv-loop μ-loop
-entry c = c .before .before .before .before .before
+entry c = c .before .before .before .before .before .before .before .before
+
+-- the chain of the spot
+chained : (c : tie.In-loop Inv-loop μ-loop) → Chained (now (entry (c .before) .args .table))
+    (headOf (c .before .loop .spot))
+chained c =
+    let k = entry (c .before) in
+    let w = c .before .loop .inv (k .pre .rule) (k .pre .table) in
+    record {
+      first = firstOf (bodyAt (now (k .args .table)) (k .args .rule));
+      transitions = leaving _ (k .pre .rule .transitions);
+      chain = w .chain;
+    }
 
 found : (c : tie.After-find Inv-loop μ-loop) (first : ℕ) (ts : List Transition)
     → Chain (now (entry (turn c) .args .table)) first (headOf (turn c .loop .spot)) ts
@@ -44,82 +46,83 @@ found : (c : tie.After-find Inv-loop μ-loop) (first : ℕ) (ts : List Transitio
     (getD (now (entry (turn c) .args .text)) (turn c .loop .i) 0) (c .find .result)
 found c first ts k = rw (← (c .before .before .head .ensures)) (c .find .ensures first ts (rw (c .before .before .head .ensures) k))
 
-below : (c : tie.Else1 Inv-loop μ-loop)
+below : (c : tie.Else3 Inv-loop μ-loop)
     → c .before .find .result < endOf (bodyAt (now (entry (turn (c .before)) .args .table)) (entry (turn (c .before)) .args .rule))
 below c =
     let k = c .before .before .before .before in
-    let k₁ = k .before .before .before .before .before .before in
+    let k₁ = entry (k .before) in
     link-below (k₁ .pre .table) (k .before .loop .inv (k₁ .pre .rule) (k₁ .pre .table)) (k .loop-test .taken) (found (c .before))
-        (c .if1 .left)
-
-error-of-requires : tie.Need-error-of-requires Inv-loop μ-loop
-error-of-requires c κs = c .before .before .pre
+        (c .if3 .left)
 
 start-of-requires : tie.Need-start-of-requires Inv-loop μ-loop
-start-of-requires c κs = c .before .before .before .pre
+start-of-requires c κs = c .before .before .pre
+
+returns : tie.Need-returns Inv-loop μ-loop
+returns c = λ m t. walk-empty t _ (c .if1 .taken)
+
+cast-covers : tie.Need-cast-covers Inv-loop μ-loop
+cast-covers c = omega (arith, c .shared-slice-known3 .given 0)
+
+returns-2 : tie.Need-returns-2 Inv-loop μ-loop
+returns-2 c = λ m t.
+    let k = c .before .before .before in
+    walk-dismissed t _ (k .before .start-of .ensures) (omega (arith, k .if1 .left))
+    (sym (c .before .covers .ensures) ∙ not-true _ (c .if2 .taken))
 
 loop-holds : tie.Need-loop-holds Inv-loop μ-loop
-loop-holds c = λ m t. walk-start t _ (c .start-of .ensures)
+loop-holds c = λ m t. walk-start t _ (c .before .before .before .before .start-of .ensures)
 
 cast-find : tie.Need-cast-find Inv-loop μ-loop
-cast-find c = omega (arith, c .shared-slice-known3 .given (c .before .before .before .loop .i))
+cast-find c = omega (arith, c .shared-slice-known4 .given (c .before .before .before .loop .i))
 
 find-requires : tie.Need-find-requires Inv-loop μ-loop
 find-requires c κs = rw (c .before .head .ensures) (chained (c .before .before))
 
-returns : tie.Need-returns Inv-loop μ-loop
-returns c = λ m t.
+returns-3 : tie.Need-returns-3 Inv-loop μ-loop
+returns-3 c = λ m t.
     let k = c .before .before .before .before in
-    walk-nothing t (k .before .loop .inv m t) (k .loop-test .taken) (found (c .before)) (c .if1 .taken)
+    walk-nothing t (k .before .loop .inv m t) (k .loop-test .taken) (found (c .before)) (c .if3 .taken)
 
 mul-spot : tie.Need-mul-spot Inv-loop μ-loop
 mul-spot c =
-    let k = c .before .before .before .before .before .before .before .before .before .before in
+    let k = entry (turn (c .before)) in
     omega (arith, below c, k .pre .table .body .room, k .good .0 .1)
 
 shared-slice-read-spot : tie.Need-shared-slice-read-spot Inv-loop μ-loop
 shared-slice-read-spot c =
-    let k = c .before .before .before .before .before .before .before .before .before .before .before in
+    let k = entry (turn (c .before .before)) in
     omega (arith, below (c .before), k .pre .table .body .room)
 
-returns-2 : tie.Need-returns-2 Inv-loop μ-loop
-returns-2 c = λ m t.
-    let k = c .before .before .before .before in
-    let k₁ = k .before .before .before .before in
-    let k₂ = k₁ .before .before .before in
-    walk-error t (k₁ .before .loop .inv m t) (k₁ .loop-test .taken) (found (k .before)) (k .if1 .left)
-    (ap stateOf (sym (c .before .before .spot .ensures)) ∙ sym (c .before .state .ensures) ∙ c .if2 .taken ∙ k₂ .error-of .ensures m t)
-
 add-i : tie.Need-add-i Inv-loop μ-loop
-add-i c = omega (arith, c .before .before .before .before .before .before .before .before .loop-test .taken)
+add-i c = omega (arith, c .before .before .before .before .before .before .loop-test .taken)
 
 loop-less : tie.Need-loop-less Inv-loop μ-loop
-loop-less c = omega (arith, c .before .before .before .before .before .before .before .before .before .before .loop-test .taken)
+loop-less c = omega (arith, c .before .before .before .before .before .before .before .before .loop-test .taken)
 
 loop-again : tie.Need-loop-again Inv-loop μ-loop
 loop-again c = λ m t.
-    let k = c .before .before .before .before in
+    let k = c .before .before in
     let k₁ = k .before .before in
     let k₂ = k₁ .before .before .before .before in
-    rw (k .spot .ensures) (walk-final t (k₂ .before .loop .inv m t) (k₂ .loop-test .taken) (found (k₁ .before)) (k₁ .if1 .left)
-    (ap isFinal (sym (k .spot .ensures)) ∙ sym (c .before .is-final .ensures) ∙ c .if3 .taken))
+    rw (k .spot .ensures) (walk-final t (k₂ .before .loop .inv m t) (k₂ .loop-test .taken) (found (k₁ .before)) (k₁ .if3 .left)
+    (ap isFinal (sym (k .spot .ensures)) ∙ sym (c .before .is-final .ensures) ∙ c .if4 .taken))
 
 loop-less-2 : tie.Need-loop-less-2 Inv-loop μ-loop
-loop-less-2 c = omega (arith, c .before .before .before .before .before .before .before .before .before .before .loop-test .taken)
+loop-less-2 c = omega (arith, c .before .before .before .before .before .before .before .before .loop-test .taken)
 
 loop-again-2 : tie.Need-loop-again-2 Inv-loop μ-loop
 loop-again-2 c = λ m t.
-    let k = c .before .before .before .before in
+    let k = c .before .before in
     let k₁ = k .before .before in
     let k₂ = k₁ .before .before .before .before in
-    rw (k .spot .ensures) (walk-other t (k₂ .before .loop .inv m t) (k₂ .loop-test .taken) (found (k₁ .before)) (k₁ .if1 .left)
-    (ap isFinal (sym (k .spot .ensures)) ∙ sym (c .before .is-final .ensures) ∙ c .if3 .left))
+    rw (k .spot .ensures) (walk-other t (k₂ .before .loop .inv m t) (k₂ .loop-test .taken) (found (k₁ .before)) (k₁ .if3 .left)
+    (ap isFinal (sym (k .spot .ensures)) ∙ sym (c .before .is-final .ensures) ∙ c .if4 .left))
 
-returns-3 : tie.Need-returns-3 Inv-loop μ-loop
-returns-3 c = λ m t. walk-end t (c .before .loop .inv m t) (c .loop-test .left)
+returns-4 : tie.Need-returns-4 Inv-loop μ-loop
+returns-4 c = λ m t. walk-end t (c .before .loop .inv m t) (c .loop-test .left)
 
 pub longest-prefix-spec : {M : Type 1} → statement M
 longest-prefix-spec =
-    tie.close (tie.spec Inv-loop μ-loop error-of-requires start-of-requires loop-holds (λ c κs. search needs) (λ c. search needs) cast-find
-    find-requires returns mul-spot shared-slice-read-spot (λ c κs. search needs) (λ c κs. search needs) returns-2 add-i
-    (λ c κs. search needs) loop-less loop-again loop-less-2 loop-again-2 returns-3)
+    tie.close (tie.spec Inv-loop μ-loop start-of-requires returns (λ c. search needs) cast-covers (λ c κs. search needs)
+    returns-2 loop-holds (λ c κs. search needs) (λ c. search needs) cast-find find-requires returns-3 mul-spot shared-slice-read-spot
+    (λ c κs. search needs) add-i (λ c κs. search needs) loop-less loop-again loop-less-2 loop-again-2 returns-4)
