@@ -13,10 +13,11 @@ pub fn fill(table: &[u64], text: &[u8], records: &mut [u8]) -> Cut
     ensures { λ r. ⌜ ((rs : List Rule) → Holds (now (table .entry)) rs
         → Fills rs (now (text .entry)) (now (records .entry)) (now (records .exit))) ⌝ }
 {
+    let mut lengths = [0usize; automaton::RULES];
     let mut tokens = 0;
     let mut place = 0;
     while place < text.len() {
-        let c = longest_match::choose(table, text, place, text.len());
+        let c = longest_match::choose_with(table, text, place, text.len(), &mut lengths);
         if c.len == 0 {
             return Cut {
                 tokens,

@@ -1,20 +1,21 @@
--- From the longest prefix of each rule to the choice among them: the loop of `choose`. Assumes nothing.
-use mathlib.Core.Path.{_≡_, refl}
+-- From the longest prefix of each rule to the choice among them. Assumes nothing.
+use mathlib.Core.Path.{_≡_, refl, sym, _∙_, subst}
 use mathlib.Core.Logic.{inl, inr}
 use mathlib.Core.Bool.{Bool, true, false}
 use mathlib.Core.Option.{none, some}
-use mathlib.Core.List.{List}
-use Prim.Native.Nat.{ℕ, zero, suc, _+_, _<_, _≤_}
+use mathlib.Core.List.{List, [], _∷_}
+use Prim.Native.Nat.{ℕ, zero, suc, _<_, _≤_}
 use native.Mathlib.Nat.{le-suc-iff}
 use native.Mathlib.Omega.{arith}
-use lib.ListN.{length, take}
-use borrow.Author.Count.{below-more}
+use lib.ListN.{length, getD, take, length-map, List·getD-map}
 use Rattle.automaton.specs.Choice.{if}
 use Rattle.automaton.specs.Rule.{Rule, matches, longestWithin, longest}
-use Rattle.automaton.specs.Contracts.{ruleAt}
+use Rattle.automaton.specs.Contracts.{blank, ruleAt}
 use Rattle.longest_match.specs.Lexer.{firstMatch, chooseWithin, choose}
+use Rattle.longest_match.specs.Steps.{prefixes, greatest, firstWith, tokenOf, chooseBySteps}
 use Rattle.longest_match.specs.Contracts.{front, Chooses}
 use Rattle.longest_match.proofs.First.{first-at, first-none}
+use Rattle.longest_match.proofs.Lengths.{First, greatest-most, greatest-least, first-greatest, first-zero}
 
 -- ---- the longest prefix of one rule
 
@@ -67,71 +68,71 @@ module _ (rules : List Rule) (text : List ℕ) where
     | inr q ↦ rw (← q, e)
   ]
 
--- ---- the first k rules
+-- ---- the steps
 
--- among the first k rules, number `rule` matches the longest prefix, of `len` bytes, and no earlier one matches as much
-pub record Best (rules : List Rule) (text : List ℕ) (k rule len : ℕ) : Type 0 where
-  pub within : len ≤ length text
-  pub most : (j : ℕ) → j < k → longest (ruleAt rules j) text ≤ len
-  pub idle : len ≡ 0 → rule ≡ 0
-  pub known : 0 < len → rule < k
-  pub matched : 0 < len → matches (ruleAt rules rule) (take len text) ≡ true
-  pub earlier : 0 < len → (j : ℕ) → j < rule → longest (ruleAt rules j) text < len
+module _ (text : List ℕ) where
+  pub prefixes-length : (rules : List Rule) → length (prefixes rules text) ≡ length rules
+  prefixes-length rules = length-map rules _
 
-pub best-start : (rules : List Rule) (text : List ℕ) → Best rules text 0 0 0
-best-start rules text = record {
-  within = omega arith;
-  most = λ j l. absurd (omega arith);
-  idle = λ e. refl;
-  known = λ p. absurd (omega arith);
-  matched = λ p. absurd (omega arith);
-  earlier = λ p. absurd (omega arith);
-}
+  pub prefixes-at : (rules : List Rule) (k : ℕ) → k < length rules → getD (prefixes rules text) k 0 ≡ longest (ruleAt rules k) text
+  prefixes-at [] k l = absurd (omega arith)
+  prefixes-at (r ∷ rs) zero l = refl
+  prefixes-at (r ∷ rs) (suc k) l = prefixes-at rs k (omega arith)
 
-module _ {rules : List Rule} {text : List ℕ} {k rule len n : ℕ} (b : Best rules text k rule len) (e : n ≡ longest (ruleAt rules k) text)
-    where
-  below : (m : ℕ) → len ≤ m → n ≤ m → (j : ℕ) → j < k + 1 → longest (ruleAt rules j) text ≤ m
-  below m p q = below-more (λ j. longest (ruleAt rules j) text ≤ m) k (λ j l. omega (arith, b .most j l)) (omega arith)
+module _ (rules : List Rule) (text : List ℕ) where
+  -- what the second and the third step find
+  abbrev len : ℕ
+  len = greatest (prefixes rules text)
 
-  pub best-take : len < n → Best rules text (k + 1) k n
-  best-take l = record {
-    within = rw e (longest-le (ruleAt rules k) text (length text));
-    most = below n (omega arith) (omega arith);
-    idle = λ z. absurd (omega arith);
-    known = λ p. omega arith;
-    matched = λ p. rw e (longest-matches (ruleAt rules k) text (length text) (rw e at p));
-    earlier = λ p j q. omega (arith, b .most j q);
-  }
+  abbrev rule : ℕ
+  rule = firstWith len (prefixes rules text)
 
-  pub best-keep : n ≤ len → Best rules text (k + 1) rule len
-  best-keep l = record {
-    within = b .within;
-    most = below len (omega arith) l;
-    idle = b .idle;
-    known = λ p. omega (arith, b .known p);
-    matched = b .matched;
-    earlier = b .earlier;
-  }
+  most : (k : ℕ) → k < length rules → longest (ruleAt rules k) text ≤ len
+  most k l = rw prefixes-at at (greatest-most (prefixes rules text) k (rw prefixes-length l))
 
--- ---- all rules
+  within : len ≤ length text
+  within = greatest-least (prefixes rules text) (length text)
+      (λ k l. rw (prefixes-at text rules k (rw prefixes-length at l)) (longest-le (ruleAt rules k) text (length text)))
 
-module _ {rules : List Rule} {text : List ℕ} {rule len : ℕ} (b : Best rules text (length rules) rule len) where
+  here : 0 < len → First len (prefixes rules text) rule
+  here p = first-greatest (prefixes rules text) p
+
+  known : 0 < len → rule < length rules
+  known p = rw prefixes-length at (here p .known)
+
+  matched : 0 < len → matches (ruleAt rules rule) (take len text) ≡ true
+  matched p =
+      let e : longest (ruleAt rules rule) text ≡ len = sym (prefixes-at text rules rule (known p)) ∙ here p .here in
+      subst (λ (n : ℕ). matches (ruleAt rules rule) (take n text) ≡ true) e
+          (longest-matches (ruleAt rules rule) text (length text) (rw e p))
+
   no-longer : (m : ℕ) → len < m → m ≤ length text → firstMatch rules (take m text) ≡ none
-  no-longer m p l = first-none rules (take m text) (λ j q. longest-most (ruleAt rules j) text (length text) m
-      (omega (arith, b .most j q)) l)
+  no-longer m p l = first-none rules (take m text) (λ j q. longest-most (ruleAt rules j) text (length text) m (omega (arith, most j q)) l)
 
   not-earlier : 0 < len → (j : ℕ) → j < rule → matches (ruleAt rules j) (take len text) ≡ false
-  not-earlier p j q = longest-most (ruleAt rules j) text (length text) len (b .earlier p j q) (b .within)
+  not-earlier p j q =
+      let l : j < length rules = omega (arith, known p) in
+      let e : longest (ruleAt rules j) text ≡ len → ⊥ = λ z. here p .earlier j q (prefixes-at text rules j l ∙ z) in
+      longest-most (ruleAt rules j) text (length text) len (omega (arith, most j l)) within
 
-  pub best-chooses : Chooses rules text rule len
+  pub steps-choose : Chooses rules text rule len
   unfolding choose
-  best-chooses = record {
-    within = b .within;
+  steps-choose = record {
+    within = within;
     nothing = λ z. within-none rules text (length text) (λ m p l. no-longer m (omega arith) l);
-    idle = b .idle;
-    known = b .known;
-    matched = b .matched;
+    idle = λ z. rw z (first-zero (prefixes rules text) z);
+    known = known;
+    matched = matched;
     earlier = not-earlier;
-    chosen = λ p. within-at rules text (length text) len _ p (b .within)
-        (first-at rules (take len text) rule (b .known p) (b .matched p) (not-earlier p)) no-longer;
+    chosen = λ p. within-at rules text (length text) len _ p within
+        (first-at rules (take len text) rule (known p) (matched p) (not-earlier p)) no-longer;
   }
+
+  -- the three steps joined are `choose`
+  pub choose-by-steps : choose rules text ≡ chooseBySteps rules text
+  unfolding chooseBySteps
+  choose-by-steps = settled len steps-choose
+    where
+      settled : (n : ℕ) → Chooses rules text rule n → choose rules text ≡ tokenOf rules text rule n
+      settled zero c = c .nothing refl
+      settled (suc n) c = c .chosen (omega arith) ∙ rw (List·getD-map (λ (r : Rule). r.tag) rules rule blank)

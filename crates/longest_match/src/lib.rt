@@ -1,11 +1,13 @@
 // Lexing a text by the rules that a table holds: at each place the longest match, by the earliest rule.
-// A token costs one walk for each rule.
+// A token costs one walk for each rule. `steps` has the choice in the order of the defining text.
+pub mod steps;
+
 ghost use mathlib.Core.Path.{_≡_};
 ghost use mathlib.Core.List.{List};
 ghost use Prim.Native.Nat.{ℕ, _≤_};
 ghost use lib.ListN.{length};
 ghost use Rattle.automaton.specs.Rule.{Rule};
-ghost use Rattle.automaton.specs.Contracts.{Holds, Held};
+ghost use Rattle.automaton.specs.Contracts.{ruleRoom, Holds, Held};
 ghost use Rattle.longest_match.specs.Contracts.{part, Chooses, Cuts};
 
 // What is chosen at the start of a text: the number of the rule and how many bytes it takes; both 0 for no rule.
@@ -21,28 +23,34 @@ pub fn choose(table: &[u64], text: &[u8], from: usize, to: usize) -> Choice
     ensures { λ r. ⌜ ((rs : List Rule) (t : List ℕ) → Holds (now (table .entry)) rs
         → part (now (text .entry)) from to ≡ t → Chooses rs t (r .rule) (r .len)) ⌝ }
 {
-    choose_of(table, &text[from..to])
+    let mut lengths = [0usize; automaton::RULES];
+    choose_with(table, text, from, to, &mut lengths)
+}
+
+// The same with a place for the lengths of the rules' prefixes, which a caller lends that chooses again and again.
+pub fn choose_with(
+    table: &[u64],
+    text: &[u8],
+    from: usize,
+    to: usize,
+    lengths: &mut [usize; automaton::RULES],
+) -> Choice
+    requires { ⌜ Held (now table) ⌝ }
+    requires { ⌜ (from ≤ to) × (to ≤ length (now text)) ⌝ }
+    ensures { λ r. ⌜ ((rs : List Rule) (t : List ℕ) → Holds (now (table .entry)) rs
+        → part (now (text .entry)) from to ≡ t → Chooses rs t (r .rule) (r .len)) ⌝ }
+{
+    choose_of(table, &text[from..to], lengths)
 }
 
 // The same of a whole text.
-fn choose_of(table: &[u64], text: &[u8]) -> Choice
+fn choose_of(table: &[u64], text: &[u8], lengths: &mut [usize]) -> Choice
     requires { ⌜ Held (now table) ⌝ }
+    requires { ⌜ ruleRoom ≤ length (now lengths) ⌝ }
     ensures { λ r. ⌜ ((rs : List Rule) → Holds (now (table .entry)) rs → Chooses rs (now (text .entry)) (r .rule) (r .len)) ⌝ }
 {
     let rules = automaton::count_of(table);
-    let mut rule = 0;
-    let mut len = 0;
-    let mut next = 0;
-    while next < rules {
-        let k = next;
-        next += 1;
-        let n = automaton::walking::longest_prefix(table, k, text);
-        if len < n {
-            rule = k;
-            len = n;
-        }
-    }
-    Choice { rule, len }
+    crate::steps::choose_by_steps(table, text, &mut lengths[..rules])
 }
 
 // A cut of a text: how many tokens it has, and the place of the rest.
@@ -56,10 +64,11 @@ pub fn count(table: &[u64], text: &[u8]) -> Cut
     requires { ⌜ Held (now table) ⌝ }
     ensures { λ r. ⌜ ((rs : List Rule) → Holds (now (table .entry)) rs → Cuts rs (now (text .entry)) (r .tokens) (r .rest)) ⌝ }
 {
+    let mut lengths = [0usize; automaton::RULES];
     let mut tokens = 0;
     let mut at = 0;
     while at < text.len() {
-        let c = choose(table, text, at, text.len());
+        let c = choose_with(table, text, at, text.len(), &mut lengths);
         if c.len == 0 {
             return Cut { tokens, rest: at };
         }

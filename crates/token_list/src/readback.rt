@@ -44,13 +44,14 @@ pub fn read_back(table: &[u64], records: &[u8], text: &[u8], total: usize) -> us
         → Spread (now (records .entry)) pool (take total (now (text .entry))) → ReadsBack rs (now (records .entry)) pool r) ⌝ }
 {
     let count = records.len() / 10;
+    let mut lengths = [0usize; automaton::RULES];
     let mut at = 0;
     let mut k = 0;
     while k < count {
         let token = record::read_record(records, k);
         let len = token.len as usize;
         let rule = automaton::find_tag(table, token.tag as u64);
-        let chosen = longest_match::choose(table, text, at, total);
+        let chosen = longest_match::choose_with(table, text, at, total, &mut lengths);
         if chosen.len == 0 {
             return k;
         }

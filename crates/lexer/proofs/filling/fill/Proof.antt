@@ -15,19 +15,19 @@ use Rattle.lexer.proofs.filling.fill.Statement.{statement}
 use Rattle.lexer.proofs.filling.fill.Tie as tie
 
 abbrev Inv-loop : tie.InvT-loop
-Inv-loop table text records₀ tokens₀ place₀ records tokens place =
+Inv-loop table text records₀ lengths₀ tokens₀ place₀ records lengths tokens place =
     (rs : List Rule) → Holds table rs → Filling rs text records₀ records place tokens
 
 abbrev μ-loop : tie.MeasureT-loop
-μ-loop table text records₀ tokens₀ place₀ records tokens place = length text - place
+μ-loop table text records₀ lengths₀ tokens₀ place₀ records lengths tokens place = length text - place
 
 -- the call, from the loop's head
 abbrev call : tie.At-loop Inv-loop μ-loop → tie.Start Inv-loop μ-loop
 call c = c .before .before .before .before
 
--- the loop's head, from where `choose` has answered
+-- the loop's head, from where `choose_with` has answered
 abbrev head : tie.After-struct-known Inv-loop μ-loop → tie.At-loop Inv-loop μ-loop
-head c = c .before .before .before
+head c = c .before .before .before .before
 
 -- by one list of rules that the table holds
 some : (c : tie.At-loop Inv-loop μ-loop)
@@ -37,16 +37,16 @@ some c = c .loop .inv (call c .pre .held .rules) (call c .pre .held .holds)
 
 module _ (c : tie.After-struct-known Inv-loop μ-loop) where
   chosen : (rs : List Rule) → Holds (now (call (head c) .args .table)) rs
-      → Chooses rs (drop (head c .loop .place) (now (call (head c) .args .text))) (c .before .choose .result .rule)
-      (c .before .choose .result .len)
-  chosen rs h = c .before .choose .ensures rs _ h (part-end _ _)
+      → Chooses rs (drop (head c .loop .place) (now (call (head c) .args .text))) (c .before .choose-with .result .rule)
+      (c .before .choose-with .result .len)
+  chosen rs h = c .before .choose-with .ensures rs _ h (part-end _ _)
 
   one : Chooses (call (head c) .pre .held .rules) (drop (head c .loop .place) (now (call (head c) .args .text)))
-      (c .before .choose .result .rule) (c .before .choose .result .len)
+      (c .before .choose-with .result .rule) (c .before .choose-with .result .len)
   one = chosen (call (head c) .pre .held .rules) (call (head c) .pre .held .holds)
 
 module _ (e : tie.Else1 Inv-loop μ-loop) where
-  more : head (e .before) .loop .place + e .before .before .choose .result .len ≤ length (now (call (head (e .before)) .args .text))
+  more : head (e .before) .loop .place + e .before .before .choose-with .result .len ≤ length (now (call (head (e .before)) .args .text))
   more = cutting-within (some (head (e .before)) .cut) (one (e .before)) (omega arith)
 
   room : 10 * head (e .before) .loop .tokens + 10 ≤ length (head (e .before) .loop .records)
@@ -60,11 +60,11 @@ ended c = omega arith
 loop-holds : tie.Need-loop-holds Inv-loop μ-loop
 loop-holds c = λ rs h. filling-start rs _ _
 
-choose-requires : tie.Need-choose-requires Inv-loop μ-loop
-choose-requires c κs = (call (c .before) .pre .held, (some (c .before) .cut .within, le-refl _))
+choose-with-requires : tie.Need-choose-with-requires Inv-loop μ-loop
+choose-with-requires c κs = (call (c .before .before) .pre .held, (some (c .before .before) .cut .within, le-refl _))
 
 same-length : tie.Need-same-length Inv-loop μ-loop
-same-length c = some (c .before .before .before .before) .same
+same-length c = some (c .before .before .before .before .before) .same
 
 returns : tie.Need-returns Inv-loop μ-loop
 returns c =
@@ -113,5 +113,5 @@ returns-2 c = (
 
 pub fill-spec : {M : Type 1} → statement M
 fill-spec =
-    tie.close (tie.spec Inv-loop μ-loop loop-holds choose-requires same-length returns tag-of-requires put-record-requires add-tokens
+    tie.close (tie.spec Inv-loop μ-loop loop-holds choose-with-requires same-length returns tag-of-requires put-record-requires add-tokens
     add-place loop-less loop-again same-length-2 returns-2)

@@ -1,0 +1,16 @@
+-- `choose_with`: `choose_of` of the part. Assumes nothing.
+use mathlib.Core.Path.{subst}
+use mathlib.Core.List.{List}
+use Prim.Native.Nat.{ℕ}
+use borrow.Author.Needs.{needs}
+use Rattle.longest_match.specs.Contracts.{part, Chooses}
+use Rattle.longest_match.proofs.choose_with.Statement.{statement}
+use Rattle.longest_match.proofs.choose_with.Tie as tie
+
+returns : tie.Need-returns
+unfolding part
+returns c = λ rs t h e.
+    subst (λ (x : List ℕ). Chooses rs x (c .choose-of .result .rule) (c .choose-of .result .len)) e (c .choose-of .ensures rs h)
+
+pub choose-with-spec : {M : Type 1} → statement M
+choose-with-spec = tie.close (tie.spec (λ c. search needs) (λ c. search needs) (λ c. search needs) (λ c κs. search needs) returns)

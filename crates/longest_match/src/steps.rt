@@ -1,0 +1,71 @@
+// The choice of a token in the three steps of section 8.4 of document 004, in its order: each rule's longest prefix, the longest of them,
+// the earliest rule that has it. The lengths of the prefixes stand in a slice that is lent, one for each rule.
+use crate::Choice;
+ghost use mathlib.Core.Path.{_≡_};
+ghost use mathlib.Core.List.{List};
+ghost use Prim.Native.Nat.{_≤_, _<_};
+ghost use lib.ListN.{length};
+ghost use Rattle.automaton.specs.Rule.{Rule};
+ghost use Rattle.automaton.specs.Contracts.{countAt, Holds, Held};
+ghost use Rattle.longest_match.specs.Steps.{prefixes, greatest, firstWith};
+ghost use Rattle.longest_match.specs.Contracts.{Chooses};
+
+// The rule that matches the longest prefix of a text, the earliest of them on a tie.
+pub fn choose_by_steps(table: &[u64], text: &[u8], lengths: &mut [usize]) -> Choice
+    requires { ⌜ Held (now table) ⌝ }
+    requires { ⌜ length (now lengths) ≡ countAt (now table) ⌝ }
+    ensures { λ r. ⌜ ((rs : List Rule) → Holds (now (table .entry)) rs → Chooses rs (now (text .entry)) (r .rule) (r .len)) ⌝ }
+{
+    longest_prefixes(table, text, lengths);
+    let len = longest_of(lengths, text.len());
+    if len == 0 {
+        return Choice { rule: 0, len: 0 };
+    }
+    let rule = earliest_with(lengths, len);
+    Choice { rule, len }
+}
+
+// Step 1 (8.4, the last paragraph but one): the length of the longest prefix that each rule matches, 0 for none.
+fn longest_prefixes(table: &[u64], text: &[u8], lengths: &mut [usize])
+    requires { ⌜ Held (now table) ⌝ }
+    requires { ⌜ length (now lengths) ≡ countAt (now table) ⌝ }
+    ensures { λ r. ⌜ ((rs : List Rule) → Holds (now (table .entry)) rs → now (lengths .exit) ≡ prefixes rs (now (text .entry))) ⌝ }
+{
+    let mut rule = 0;
+    while rule < lengths.len() {
+        lengths[rule] = automaton::walking::longest_prefix(table, rule, text);
+        rule += 1;
+    }
+}
+
+// Step 2 (8.4, the maximal munch principle): the longest of them. None is longer than `most`, so that one as long ends the search.
+fn longest_of(lengths: &[usize], most: usize) -> usize
+    requires { ⌜ greatest (now lengths) ≤ most ⌝ }
+    ensures { λ r. ⌜ r ≡ greatest (now (lengths .entry)) ⌝ }
+{
+    let mut len = 0;
+    let mut k = lengths.len();
+    while 0 < k {
+        k -= 1;
+        let n = lengths[k];
+        if len < n {
+            len = n;
+            if len == most {
+                return len;
+            }
+        }
+    }
+    len
+}
+
+// Step 3 (8.4, the smallest index): the earliest rule that has it.
+fn earliest_with(lengths: &[usize], len: usize) -> usize
+    requires { ⌜ firstWith len (now lengths) < length (now lengths) ⌝ }
+    ensures { λ r. ⌜ r ≡ firstWith len (now (lengths .entry)) ⌝ }
+{
+    let mut k = 0;
+    while lengths[k] != len {
+        k += 1;
+    }
+    k
+}
