@@ -9,6 +9,7 @@
 #   make check         the gate, .ci/run: proves every crate from nothing, then all of the above
 #   make bench         measures the library beside flex and re2c, which it needs (INSTALL=1 installs them by apt-get,
 #                      NO_FLEX=1 and NO_RE2C=1 leave them out; OLD=FILE measures an earlier library too)
+#   make layouts       measures an earlier library (OLD=FILE) beside this one in 16 programs that differ in where the two lie
 #   make install       header, library, pkg-config file, cutlist, documents and examples below PREFIX (/usr/local; DESTDIR)
 #   make uninstall     removes what make install put there
 #   make dist          a tarball of the same in build/, for who has no kit
@@ -92,6 +93,9 @@ test: all build/harness
 bench: build/libzagvulem.a
 	CC="$(CC)" OLD="$(OLD)" INSTALL="$(INSTALL)" NO_FLEX="$(NO_FLEX)" NO_RE2C="$(NO_RE2C)" bench/run.sh
 
+layouts: build/libzagvulem.a
+	CC="$(CC)" bench/layouts.sh $(OLD)
+
 check:
 	.ci/run
 
@@ -129,4 +133,4 @@ dist: build/libzagvulem.a build/cutlist
 clean:
 	rm -rf build
 
-.PHONY: all help cutlist sheet example harness test bench check install uninstall dist clean
+.PHONY: all help cutlist sheet example harness test bench layouts check install uninstall dist clean

@@ -386,11 +386,13 @@ static void old_lines_print(void)
 {
     EACH_LINE(old_zgv_print(book, book_len, line_list[i], line_list_len[i], line, LINE, out, SHEET));
 }
-static void old_lines_mode_2(void)
+static void old_lines_mode(uint32_t mode)
 {
-    EACH_LINE(old_zgv_print_separated(book, book_len, line_blank[i].tag, line_blank[i].place, line_blank[i].length, ZGV_MODE_SPARE,
+    EACH_LINE(old_zgv_print_separated(book, book_len, line_blank[i].tag, line_blank[i].place, line_blank[i].length, mode,
                                       line_plain[i], line_plain_len[i], line, LINE, out, SHEET));
 }
+static void old_lines_mode_1(void) { old_lines_mode(ZGV_MODE_ALL); }
+static void old_lines_mode_2(void) { old_lines_mode(ZGV_MODE_SPARE); }
 
 static void bench_old(void)
 {
@@ -401,6 +403,7 @@ static void bench_old(void)
     } pairs[] = {{"`zgv_read_book`, the built-in book", old_book, new_book, 1},
                  {"`zgv_lex`, a line", old_lines, lines_zgv, LINES},
                  {"`zgv_print`, a line", old_lines_print, lines_print, LINES},
+                 {"`zgv_print_separated`, mode 1, a line", old_lines_mode_1, lines_mode_1, LINES},
                  {"`zgv_print_separated`, mode 2, a line", old_lines_mode_2, lines_mode_2, LINES},
                  {"`zgv_lex`, the sheet", old_sheet, sheet_zgv, 1},
                  {"`zgv_lex_builtin`, the sheet", old_sheet_builtin, sheet_builtin, 1},
@@ -766,20 +769,23 @@ int main(int argc, char **argv)
     table = malloc(sizeof *table);
     if (sheet == NULL || records == NULL || out == NULL || table == NULL)
         fail("out of memory");
-    if (argc != 2)
-        fail("usage: bench BOOK");
+    if (argc != 2 && !(argc == 3 && strcmp(argv[2], "earlier") == 0))
+        fail("usage: bench BOOK [earlier]");
     read_builtin(argv[1]);
     make_sheet();
     make_lines();
     if (!dense_build(table, book, book_len))
         fail("the built-in book has no dense table");
     check_same();
-    bench_lexers();
+    if (argc == 2)
+        bench_lexers();
     bench_printers();
     bench_line_printers();
 #ifdef HAVE_OLD
     bench_old();
 #endif
+    if (argc == 3)
+        return 0;
     bench_growth();
     bench_reading();
     bench_hostile();
