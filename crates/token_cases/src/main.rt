@@ -1,14 +1,9 @@
 // Runs `slices::lex_tokens`, `slices::print_tokens` and `lexer::rest` on examples and edges of document 01, and prints what they answer
 // and what stands in the tokens and in the output afterwards.
-mod lending;
-mod lines;
-
-use crate::lines::put;
-use crate::lines::put_lexed;
-use crate::lines::put_printed;
-use crate::lines::put_rest;
-use crate::lines::put_text;
-use crate::lines::put_tokens;
+use answer::LexAnswer;
+use answer::PrintAnswer;
+use answer::Refusal;
+use libc::STDOUT_FILENO;
 use record::TokenRecord;
 ghost use Prim.Native.Nat.{_≤_};
 
@@ -103,7 +98,7 @@ fn marks() -> [TokenRecord; 4] {
 }
 
 fn lex(book: &[u8], text: &[u8]) {
-    let filled = crate::lending::lex_into(book, text, marks());
+    let filled = lex_into(book, text, marks());
     put(b"lex ");
     put_text(text);
     let answer = filled.answer;
@@ -127,11 +122,110 @@ fn print(name: &[u8], book: &[u8], tokens: [TokenRecord; 4], count: usize)
 fn print_to(name: &[u8], book: &[u8], tokens: [TokenRecord; 4], count: usize, out: &mut [u8])
     requires { ⌜ count ≤ 4 ⌝ }
 {
-    let answer = crate::lending::print_from(book, tokens, count, b"abc", out);
+    let answer = print_from(book, tokens, count, b"abc", out);
     put(b"print ");
     put(name);
     put_printed(answer);
     put(b"  ");
     put_text(out);
     put(b"\n");
+}
+
+// Arrays of tokens by value, lent as slices to the pair of crate slices.
+
+// What `lex_tokens` answers, and the tokens as it leaves them.
+struct Filled {
+    answer: LexAnswer,
+    tokens: [TokenRecord; 4],
+}
+
+fn lex_into(book: &[u8], text: &[u8], mut tokens: [TokenRecord; 4]) -> Filled {
+    let answer = slices::lex_tokens(book, text, &mut tokens);
+    Filled { answer, tokens }
+}
+
+// Prints the first `count` tokens.
+fn print_from(
+    book: &[u8],
+    tokens: [TokenRecord; 4],
+    count: usize,
+    pool: &[u8],
+    out: &mut [u8],
+) -> PrintAnswer
+    requires { ⌜ count ≤ 4 ⌝ }
+{
+    slices::print_tokens(book, &tokens[..count], pool, out)
+}
+
+// Lines on standard output.
+
+fn put(bytes: &[u8]) {
+    io::write_all(STDOUT_FILENO, bytes);
+}
+
+fn put_number(before: &[u8], n: u64) {
+    put(before);
+    io::print_decimal(STDOUT_FILENO, n);
+}
+
+// A short text in quotes, of a long one the number of its bytes.
+fn put_text(text: &[u8]) {
+    if text.len() > 16 {
+        put_number(b"", text.len() as u64);
+        put(b" bytes");
+        return;
+    }
+    put(b"\"");
+    put(text);
+    put(b"\"");
+}
+
+fn put_lexed(answer: LexAnswer) {
+    match answer {
+        LexAnswer::Lexed { tokens, rest } => {
+            put_number(b": tokens ", tokens as u64);
+            put_number(b", rest at ", rest as u64);
+        }
+        LexAnswer::Refused(refusal) => put_refusal(refusal),
+    }
+    put(b"\n");
+}
+
+fn put_printed(answer: PrintAnswer) {
+    match answer {
+        PrintAnswer::Printed(bytes) => put_number(b": bytes ", bytes as u64),
+        PrintAnswer::Refused(refusal) => put_refusal(refusal),
+    }
+    put(b"\n");
+}
+
+fn put_refusal(refusal: Refusal) {
+    put_number(b": refused ", refusal.number as u64);
+    put_number(b" ", refusal.place as u64);
+}
+
+// Tag, place and length of each.
+fn put_tokens(tokens: [TokenRecord; 4]) {
+    put_token(b" ", tokens[0]);
+    put_token(b",", tokens[1]);
+    put_token(b",", tokens[2]);
+    put_token(b",", tokens[3]);
+    put(b"\n");
+}
+
+fn put_token(before: &[u8], token: TokenRecord) {
+    put(before);
+    put_number(b" ", token.tag as u64);
+    put_number(b" ", token.place as u64);
+    put_number(b" ", token.len as u64);
+}
+
+// The rest of a text of `whole` bytes.
+fn put_rest(whole: usize, rest: &[u8]) {
+    if rest.len() <= whole {
+        put_number(b"  rest at ", (whole - rest.len()) as u64);
+        put(b": ");
+        put_text(rest);
+        put(b"\n");
+    }
 }

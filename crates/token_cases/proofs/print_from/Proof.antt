@@ -53,10 +53,10 @@ use Rattle.slices.proofs.print_tokens.Symbol as print-tokens-def
 use Rattle.slices.proofs.print_tokens.Symbol.{name as #slices·print-tokens}
 use Rattle.slices.proofs.print_tokens.Met as print-tokens-thm
 use Rattle.token_cases.proofs.Tokens.{Tokens, vals, val, IsTokens, tells, count, typed, slice-at, last-values, lends-front, gives-up}
-use Rattle.token_cases.proofs.lending.print_from as print-from
-use Rattle.token_cases.proofs.lending.print_from.Key.{name as #lending·print-from}
-use Rattle.token_cases.proofs.lending.print_from.Statement as stated
-use Rattle.token_cases.proofs.lending.print_from.Code as code
+use Rattle.token_cases.proofs.print_from as print-from
+use Rattle.token_cases.proofs.print_from.Key.{name as #print-from}
+use Rattle.token_cases.proofs.print_from.Statement as stated
+use Rattle.token_cases.proofs.print_from.Code as code
 
 -- the parameters, of which nothing is had at exit but the output's last bytes
 abbrev book-slot : Slot 3
@@ -246,7 +246,7 @@ pub print-from-spec : {M : Type 1} → stated.statement M
 unfolding code.routine tablesOf
 print-from-spec 𝓤 H 𝓜 𝓖 𝓡 =
     entered 𝓤 H (tripleOf 𝓤 H (𝓖 .A) print-from.signature (print-from.spec 𝓤 H (𝓖 .A) (𝓜 .mem) (𝓡 .run)))
-    (tables 𝓤 H 𝓜 𝓡 code.env .C) (tables 𝓤 H 𝓜 𝓡 code.env .Λ) #lending·print-from code.function (code.unfolded 𝓤 H 𝓜 𝓡)
+    (tables 𝓤 H 𝓜 𝓡 code.env .C) (tables 𝓤 H 𝓜 𝓡 code.env .Λ) #print-from code.function (code.unfolded 𝓤 H 𝓜 𝓡)
     (print-from-meets 𝓤 H (𝓖 .A) (givenOf 𝓤 H 𝓜 𝓖) (𝓜 .mem) (𝓡 .run) (tablesOf 𝓤 H 𝓜 (tables 𝓤 H 𝓜 𝓡 code.env))
     (cited 𝓤 H (Print 𝓤 H (𝓖 .A) (𝓜 .mem) (𝓡 .run)) 𝓜 𝓡 code.env #slices·print-tokens print-tokens-def.routine
     code.calls-slices·print-tokens (print-tokens-thm.met 𝓤 H 𝓜 𝓖 𝓡)))

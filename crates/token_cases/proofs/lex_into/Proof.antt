@@ -52,15 +52,15 @@ use Rattle.slices.proofs.lex_tokens as lex-tokens
 use Rattle.slices.proofs.lex_tokens.Symbol as lex-tokens-def
 use Rattle.slices.proofs.lex_tokens.Symbol.{name as #slices·lex-tokens}
 use Rattle.slices.proofs.lex_tokens.Met as lex-tokens-thm
-use Rattle.token_cases.specs.declared.lending.Filled.{Filled}
+use Rattle.token_cases.specs.declared.Filled.{Filled}
 use Rattle.token_cases.proofs.Tokens.{Tokens, vals, val, IsTokens, tells, typed, in-field, slice-at, lends-all, takes-back}
 use Rattle.token_cases.proofs.Tokens.{last-values}
-use Rattle.token_cases.proofs.lending.Filled as F
-use Rattle.token_cases.proofs.lending.Filled.Laws as F′
-use Rattle.token_cases.proofs.lending.lex_into as lex-into
-use Rattle.token_cases.proofs.lending.lex_into.Key.{name as #lending·lex-into}
-use Rattle.token_cases.proofs.lending.lex_into.Statement as stated
-use Rattle.token_cases.proofs.lending.lex_into.Code as code
+use Rattle.token_cases.proofs.Filled as F
+use Rattle.token_cases.proofs.Filled.Laws as F′
+use Rattle.token_cases.proofs.lex_into as lex-into
+use Rattle.token_cases.proofs.lex_into.Key.{name as #lex-into}
+use Rattle.token_cases.proofs.lex_into.Statement as stated
+use Rattle.token_cases.proofs.lex_into.Code as code
 
 -- the parameters, of which nothing is had at exit
 abbrev book-slot : Slot 2
@@ -229,7 +229,7 @@ pub lex-into-spec : {M : Type 1} → stated.statement M
 unfolding code.routine tablesOf
 lex-into-spec 𝓤 H 𝓜 𝓖 𝓡 =
     entered 𝓤 H (tripleOf 𝓤 H (𝓖 .A) lex-into.signature (lex-into.spec 𝓤 H (𝓖 .A) (𝓜 .mem) (𝓡 .run)))
-    (tables 𝓤 H 𝓜 𝓡 code.env .C) (tables 𝓤 H 𝓜 𝓡 code.env .Λ) #lending·lex-into code.function (code.unfolded 𝓤 H 𝓜 𝓡)
+    (tables 𝓤 H 𝓜 𝓡 code.env .C) (tables 𝓤 H 𝓜 𝓡 code.env .Λ) #lex-into code.function (code.unfolded 𝓤 H 𝓜 𝓡)
     (lex-into-meets 𝓤 H (𝓖 .A) (givenOf 𝓤 H 𝓜 𝓖) (𝓜 .mem) (𝓡 .run) (tablesOf 𝓤 H 𝓜 (tables 𝓤 H 𝓜 𝓡 code.env))
     (cited 𝓤 H (Lex 𝓤 H (𝓖 .A) (𝓜 .mem) (𝓡 .run)) 𝓜 𝓡 code.env #slices·lex-tokens lex-tokens-def.routine code.calls-slices·lex-tokens
     (lex-tokens-thm.met 𝓤 H 𝓜 𝓖 𝓡)))
