@@ -112,10 +112,10 @@ extern "C" {
 
 /* ---- Version ------------------------------------------------------------ */
 
-#define ZGV_VERSION       "0.1.1"
+#define ZGV_VERSION       "0.2.0"
 #define ZGV_VERSION_MAJOR 0
-#define ZGV_VERSION_MINOR 1
-#define ZGV_VERSION_PATCH 1
+#define ZGV_VERSION_MINOR 2
+#define ZGV_VERSION_PATCH 0
 
 /* ---- Limits ------------------------------------------------------------- */
 
@@ -132,7 +132,7 @@ extern "C" {
 #define ZGV_KIND_SEPARATOR 1
 
 /* Modes of zgv_print_separated(). */
-#define ZGV_MODE_DEFAULT 0  /* the same as ZGV_MODE_ALL */
+#define ZGV_MODE_DEFAULT 0  /* the same as ZGV_MODE_SPARE */
 #define ZGV_MODE_ALL     1  /* a separator between all neighbours */
 #define ZGV_MODE_SPARE   2  /* a separator only where one is needed */
 
@@ -397,7 +397,12 @@ uint64_t zgv_print(const uint8_t *book, size_t book_len,
  *
  * `mode` says where a separator goes: ZGV_MODE_ALL between all neighbours,
  * ZGV_MODE_SPARE only after a token that some rule would read on into what is
- * written after it, ZGV_MODE_DEFAULT as ZGV_MODE_ALL.
+ * written after it, ZGV_MODE_DEFAULT as ZGV_MODE_SPARE. The same list has the
+ * same bytes within one mode, and may have others in another.
+ *
+ * Before 0.2.0 ZGV_MODE_DEFAULT, 0, was as ZGV_MODE_ALL. A program that compares
+ * bytes with sheets that were stored under 0 passes ZGV_MODE_ALL, 1, from now on.
+ * A program that cuts such sheets changes nothing: they are cut as they were.
  *
  * The plain and the separator rules of the book have no byte in common on
  * moves that do not lead to the error state; else 23 is answered, for every list

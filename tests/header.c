@@ -122,6 +122,25 @@ static void empty(void)
     HOLDS(answer == 0);
 }
 
+/* Whether "oh", "[" and "no", with blanks to separate by, are written in a mode as this text. */
+static int is_written(uint32_t mode, const char *text)
+{
+    static const zgv_token list[3] = {{2, 0, 2}, {5, 2, 1}, {2, 3, 2}};
+    uint64_t answer;
+    size_t i;
+    for (i = 0; i < 3; i++)
+        zgv_put_record(first, i, list[i]);
+    answer = zgv_print_separated(BOOK, 3, 5, 1, mode, first, 3 * ZGV_RECORD_BYTES, (const uint8_t *)"oh[no ", 6, out, sizeof out);
+    return answer == (uint64_t)strlen(text) << 28 && memcmp(out, text, strlen(text)) == 0;
+}
+
+static void modes(void)
+{
+    HOLDS(is_written(ZGV_MODE_ALL, "oh [ no"));
+    HOLDS(is_written(ZGV_MODE_SPARE, "oh[no"));
+    HOLDS(is_written(ZGV_MODE_DEFAULT, "oh[no"));
+}
+
 int main(int argc, char **argv)
 {
     HOLDS(argc == 2);
@@ -131,5 +150,6 @@ int main(int argc, char **argv)
     cuts();
     records();
     empty();
+    modes();
     return 0;
 }

@@ -24,7 +24,7 @@ use Rattle.record.specs.Records.{recordCount}
 use Rattle.record.specs.Tokens.{tokensOf}
 use Rattle.lexer.specs.Outcome.{LexOutcome, lexOutcome}
 use Rattle.token_list.specs.Faults.{aloneIn}
-use Rattle.printer.specs.Outcome.{printOutcome}
+use Rattle.printer.specs.Outcome.{PrintOutcome, printOutcome}
 use Rattle.printer.proofs.Accepting.{written-joins, alone-tagged}
 use Rattle.printer.proofs.RoundTrip.{byte-below, same-rules, lexed-cut, cut-accepts, stored-say}
 use Rattle.printer.proofs.RoundTrip.{equal-lists, accepts-printable, output-cut, cut-printed}
@@ -32,6 +32,7 @@ use Rattle.spacing.specs.Separators.{dropSeparators, spelled}
 use Rattle.record.specs.declared.TokenRecord.{TokenRecord}
 use Rattle.separated.proofs.RoundTrip.{spelled-rest, spelled-back, spelled-injective}
 use Rattle.separated.proofs.Sides.{all-map}
+use Rattle.separated.proofs.Modes.{zero-outcome}
 use Rattle.builtin.specs.Book.{builtinBytes, builtinRules}
 use Rattle.builtin.proofs.Accepted.{read-builtin}
 use Rattle.zagvulem.proofs.Refused.{lex-refused, print-refused, separated-refused}
@@ -41,10 +42,10 @@ use Rattle.demands.specs.Demands.{RefusedCut, PastTheTokens, RefusedPrin
 use Rattle.demands.specs.Demands.{StartInError, CutIsLongestMatch, StoredIsLongestMatch, CutIsAccepted, TokensAndRestJoined}
 use Rattle.demands.specs.Demands.{WritingJoins, EqualLists, AcceptedExactly, UnknownNotAlone, OutputsAreCut, CutsArePrinted}
 use Rattle.demands.specs.Demands.{EmptyTextIsCut, SpacingAccepts, SpacingAcceptsNoOther, SpacingEqualLists, SpacingCutsBack}
-use Rattle.demands.specs.Demands.{EveryBook, BuiltinBook}
+use Rattle.demands.specs.Demands.{ZeroIsSparing, MostInOne, EveryBook, BuiltinBook}
 use Rattle.demands.proofs.LongestMatch.{lex-longest, longest-lex}
 use Rattle.demands.proofs.Separable.{separable-printable, printable-separable}
-use Rattle.demands.proofs.Spacing.{unrefused-passes, unrefused-outcome, printed-unrefused, space-past}
+use Rattle.demands.proofs.Spacing.{unrefused-passes, unrefused-outcome, printed-unrefused, space-past, most-outcome}
 use Rattle.demands.proofs.Forms.{count-in, structs-in, list-in, first-in, past-in, typed-first, typed-past, same-in}
 use Rattle.demands.proofs.Untouched.{cut-leaves, cut-past, print-leaves, print-past, space-leaves}
 use Rattle.answer.specs.declared.LexAnswer.the-variants as lexed
@@ -84,7 +85,7 @@ past-the-bytes f book list pool entry exit n c = ap (drop n) (c .leaves)
 
 pub past-the-spaced : PastTheSpaced
 past-the-spaced book sep mode records pool entry exit n c = ap (drop n) (c .leaves)
-    ∙ space-past sep mode records pool entry book n (sym (c .answers))
+    ∙ space-past book sep mode records pool entry n (sym (c .answers))
 
 -- ==== demands 2 and 3
 
@@ -250,6 +251,22 @@ module _ (book : List ℕ) (rules : List Rule) (b : Book book rules) where
         ap (dropSeparators rules) (tokens-are k)
             ∙ ap (λ (x : List ℕ). dropSeparators rules ((lex rules x) .tokens)) w ∙ spelled-back (valid .rules-valid) p,
       )
+
+-- ==== document 02, wish 7
+
+pub zero-is-sparing : ZeroIsSparing
+zero-is-sparing book sep records pool entry exit r =
+    let o = zero-outcome book sep records pool entry in
+    let a = ap (λ (x : PrintOutcome). x.answer) o in
+    let b = ap (λ (x : PrintOutcome). x.out) o in (
+      λ c. record { answers = c .answers ∙ a; leaves = c .leaves ∙ b },
+      λ c. record { answers = c .answers ∙ sym a; leaves = c .leaves ∙ sym b },
+    )
+
+pub most-in-one : MostInOne
+most-in-one book sep records pool entry exit n c mode exit₁ r known d =
+    let o = most-outcome book sep records pool entry n (sym (c .answers)) mode known in
+    (o .0, d .answers ∙ o .1, o .2)
 
 -- ==== together
 

@@ -10,11 +10,12 @@ use Rattle.automaton.proofs.Tests.{clash}
 use Rattle.book.specs.Limits.{maxText}
 use Rattle.reader.specs.Reading.{Reading, accepted, refused, readBook}
 use Rattle.record.specs.declared.TokenRecord.{TokenRecord}
-use Rattle.record.specs.Tokens.{recordsOf}
+use Rattle.record.specs.Tokens.{recordsOf, tokenIn, tokensOf}
 use Rattle.token_list.proofs.Faulting.{Fine}
 use Rattle.used_bytes.specs.Kinds.{plainKind, separatorKind}
 use Rattle.used_bytes.specs.Bytes.{usedByKind, shared}
 use Rattle.spacing.specs.Separators.{spelled}
+use Rattle.spacing.proofs.Modes.{most-in-one}
 use Rattle.separated.proofs.Sides.{all-map}
 use Rattle.separated.proofs.Unrefused.{Taken, CallPasses, passes-accepted, accepted-passes}
 use Rattle.printer.specs.Outcome.{PrintOutcome, printAccepted}
@@ -91,19 +92,51 @@ module _ (book : List ℕ) (rules : List Rule) (reads : readBook book ≡ accept
       let q : print.Printed n ≡ print.Printed (length bytes) = sym e ∙ ap (λ (x : PrintOutcome). x.answer) (unrefused-outcome u) in
       (u, cc)
 
--- what lies past the bytes of an accepted call
-pub space-past : (sep : TokenRecord) (mode : ℕ) (records pool out book : List ℕ) (n : ℕ)
-    → (separatedOutcome book sep mode records pool out) .answer ≡ print.Printed n
-    → drop n ((separatedOutcome book sep mode records pool out) .out) ≡ drop n out
-unfolding separatedOutcome
-space-past sep mode records pool out book n e = go (readBook book) refl
-  where
-    go : (o : Reading) → readBook book ≡ o → drop n ((separatedReading (readBook book) sep mode records pool out) .out) ≡ drop n out
-    go (refused number place) q =
-        let z : (separatedReading (refused number place) sep mode records pool out) .answer ≡ print.Printed n = rw q at e in
-        let y : _≡_ {A = ℕ} 0 1 = cc in
-        absurd (omega arith)
-    go (accepted rules) q =
-        let a = printed-unrefused book rules q sep mode records pool out n e in
-        past-accepted out _ (spelled rules sep mode records pool) n (a .1)
-        (unrefused-outcome book rules q sep mode records pool out (a .0))
+-- ---- accepted calls
+
+module _ (book : List ℕ) (sep : TokenRecord) (mode : ℕ) (records pool out : List ℕ) (n : ℕ)
+    (e : (separatedOutcome book sep mode records pool out) .answer ≡ print.Printed n) where
+  accepted-book : (rules : List Rule) × (readBook book ≡ accepted rules)
+  unfolding separatedOutcome
+  accepted-book = go (readBook book) refl
+    where
+      go : (o : Reading) → readBook book ≡ o → (rules : List Rule) × (readBook book ≡ accepted rules)
+      go (refused number place) q =
+          let z : (separatedReading (refused number place) sep mode records pool out) .answer ≡ print.Printed n = rw q at e in
+          let y : _≡_ {A = ℕ} 0 1 = cc in
+          absurd (omega arith)
+      go (accepted rules) q = (rules, q)
+
+  accepted-call : (rules : List Rule) × (readBook book ≡ accepted rules) × Unrefused rules sep mode records pool out
+      × (n ≡ length (spelled rules sep mode records pool))
+  accepted-call =
+      let (rules, reads) = accepted-book in
+      let (u, long) = printed-unrefused book rules reads sep mode records pool out n e in
+      (rules, reads, u, long)
+
+  -- what lies past its bytes
+  pub space-past : drop n ((separatedOutcome book sep mode records pool out) .out) ≡ drop n out
+  space-past =
+      let (rules, reads, u, long) = accepted-call in
+      past-accepted out _ (spelled rules sep mode records pool) n long (unrefused-outcome book rules reads sep mode records pool out u)
+
+-- a call that is accepted in mode 1, in another mode
+pub most-outcome : (book : List ℕ) (sep : TokenRecord) (records pool out : List ℕ) (n : ℕ)
+    → (separatedOutcome book sep 1 records pool out) .answer ≡ print.Printed n
+    → (mode : ℕ) → mode ≤ 2 → (m : ℕ) × ((separatedOutcome book sep mode records pool out) .answer ≡ print.Printed m) × (m ≤ n)
+most-outcome book sep records pool out n e mode known =
+    let (rules, reads, u, long) = accepted-call book sep 1 records pool out n e in
+    let l = most-in-one rules (tokenIn pool sep) mode (tokensOf records pool) in
+    let v : Unrefused rules sep mode records pool out = record {
+      not-23 = u .not-23;
+      not-24 = known;
+      separator = u .separator;
+      not-16 = u .not-16;
+      tokens = u .tokens;
+      not-20 = omega (arith, l, u .not-20);
+      not-22 = omega (arith, l, u .not-22);
+    } in (
+      length (spelled rules sep mode records pool),
+      ap (λ (x : PrintOutcome). x.answer) (unrefused-outcome book rules reads sep mode records pool out v),
+      omega arith,
+    )

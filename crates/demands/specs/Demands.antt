@@ -168,6 +168,21 @@ module _ (book : List ℕ) (rules : List Rule) where
       × (dropSeparators rules (listIn g (firstIn g (length ((lex rules (take n exit)) .tokens)) stored) (take n exit))
       ≡ tokensOf records pool)
 
+-- ==== document 02, wish 7
+
+-- A call of the spacing printer in mode 0 is one in mode 2: the same answer and the same bytes, whether it is refused or not. So what is
+-- said of calls in mode 2, and of the lists that they write, is had for mode 0.
+abbrev pub ZeroIsSparing : Type 0
+ZeroIsSparing = (book : List ℕ) (sep : TokenRecord) (records pool entry exit : List ℕ) (r : PrintAnswer)
+    → Space book sep 0 records pool entry exit r ↔ Space book sep 2 records pool entry exit r
+
+-- A list that is accepted in mode 1 is accepted in each other mode, with the same output space, and takes no more bytes there.
+abbrev pub MostInOne : Type 0
+MostInOne = (book : List ℕ) (sep : TokenRecord) (records pool entry exit : List ℕ) (n : ℕ)
+    → Space book sep 1 records pool entry exit (print.Printed n)
+    → (mode : ℕ) (exit₁ : List ℕ) (r : PrintAnswer) → mode ≤ 2 → Space book sep mode records pool entry exit₁ r
+    → (m : ℕ) × (r ≡ print.Printed m) × (m ≤ n)
+
 -- ==== together
 
 -- demands 2 and 3 of a book

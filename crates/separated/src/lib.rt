@@ -24,8 +24,8 @@ ghost use Rattle.spacing.specs.Separators.{spelled};
 ghost use Rattle.separated.specs.Outcome.{writing, separatedRules, separatedOutcome};
 ghost use Rattle.separated.specs.Contracts.{Passed, Roomy, Short};
 
-// Prints the tokens that `records` say with `pool`, by the rules of a book, with the separator token between neighbours: in mode 1, and
-// in mode 0, between all, in mode 2 where a token would be read on. The answer is the number of bytes, which stand at the start of
+// Prints the tokens that `records` say with `pool`, by the rules of a book, with the separator token between neighbours: in mode 1
+// between all, in modes 0 and 2 where a token would be read on. The answer is the number of bytes, which stand at the start of
 // `out`, or the refusal of document 01. Every other byte of `out` stays as it was.
 pub fn print_separated(
     book: &[u8],

@@ -3,7 +3,7 @@ use mathlib.Core.Path.{_≡_, refl, sym, _∙_, subst}
 use mathlib.Core.Bool.{Bool, true, false}
 use mathlib.Core.Option.{none}
 use mathlib.Core.List.{List, [], _∷_, _++_}
-use Prim.Native.Nat.{ℕ, zero, suc}
+use Prim.Native.Nat.{ℕ}
 use borrow.Author.Tests.{eq-eqb, ne-eqb}
 use Rattle.automaton.specs.Rule.{Rule}
 use Rattle.automaton.proofs.Tests.{clash}
@@ -12,19 +12,6 @@ use Rattle.longest_match.specs.Contracts.{Chooses}
 use Rattle.token_list.proofs.Extended.{read-no-more, read-on}
 use Rattle.spacing.specs.Separators.{meaning, follows}
 use Rattle.spacing.specs.Contracts.{isLast, Ahead}
-
--- ---- the mode
-
-pub meaning-zero : (mode : ℕ) → mode ≡ 0 → 1 ≡ meaning mode
-unfolding meaning
-meaning-zero mode e = rw e
-
-pub meaning-other : (mode : ℕ) → (mode ≡ 0 → ⊥) → mode ≡ meaning mode
-unfolding meaning
-meaning-other zero ne = absurd (ne refl)
-meaning-other (suc mode) ne = refl
-
--- ---- whether a separator is due
 
 module _ {rules : List Rule} (mode : ℕ) {t : Token} {len : ℕ} {last : Bool} {text : List ℕ} where
   pub due-last : {us : List Token} → Ahead rules t us len last text → last ≡ true → false ≡ follows rules mode t us

@@ -1,4 +1,6 @@
--- Whether a separator is due (Due), a list with its separators from a record on (Separated), and the loop that puts it (Putting).
+-- Whether a separator is due (Due), a list with its separators (Separated), what a mode stands for (Modes), and the loop that puts a list
+-- (Putting).
 pub mod Due
 pub mod Separated
+pub mod Modes
 pub mod Putting

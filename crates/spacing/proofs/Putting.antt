@@ -41,14 +41,10 @@ module _ (rules : List Rule) (mode : ℕ) (pool : List ℕ) (token sep : TokenRe
     -- no room for the token alone
     pub token-full : {p : Placed} {exit : List ℕ} → p ≡ placed.Full → Stands p (bytesIn pool token ++ behind) exit
         → Stands placed.Full text exit
-    token-full {p} {exit} q s = stands-full text exit (go (follows rules mode (tokenIn pool token) us))
-      where
-        k : length exit < length (bytesIn pool token) + length (join us)
-        k = rw (length-append, e) at (s .full q)
-
-        go : (c : Bool) → length exit < length (join (tokenIn pool token ∷ put c (tokenIn pool sep) us))
-        go true = simp length-append (omega (arith, k))
-        go false = simp length-append (omega (arith, k))
+    token-full {p} {exit} q s =
+        let k : length exit < length (bytesIn pool token) + length (join us) = rw (length-append, e) at (s .full q) in
+        stands-full text exit
+        (omega (arith, k, list.put-least (tokenIn pool token) (tokenIn pool sep) us (follows rules mode (tokenIn pool token) us)))
 
     pub token-ahead : {last : Bool} {whole : List ℕ} → Alone rules (tokenIn pool token) → InPool pool token → last ≡ isLast us
         → whole ≡ bytesIn pool token ++ behind → Ahead rules (tokenIn pool token) us (token .len) last whole

@@ -1,4 +1,4 @@
--- The tokens of a list with their separators, from a record on. Assumes nothing.
+-- How long a list with separators is, and the tokens of a list with their separators from a record on. Assumes nothing.
 use mathlib.Core.Path.{_≡_, refl}
 use mathlib.Core.Bool.{Bool, true, false}
 use mathlib.Core.List.{List, _∷_}
@@ -17,6 +17,16 @@ use Rattle.token_list.proofs.Passes.{left, left-start, left-next, left-end}
 use Rattle.spacing.specs.Separators.{follows, put, separated, spelled}
 use Rattle.spacing.specs.Contracts.{isLast}
 
+-- a token in front of a list, with a separator between or without
+module _ (t sep : Token) (us : List Token) where
+  pub put-least : (c : Bool) → length t.bytes + length (join us) ≤ length (join (t ∷ put c sep us))
+  put-least true = simp length-append (omega arith)
+  put-least false = simp length-append (omega arith)
+
+  pub put-most : (c : Bool) → length (join (t ∷ put c sep us)) ≤ length t.bytes + (length sep.bytes + length (join us))
+  put-most true = simp length-append (omega arith)
+  put-most false = simp length-append (omega arith)
+
 module _ (rules : List Rule) (sep : TokenRecord) (mode : ℕ) (records pool : List ℕ) where
   -- the tokens from number k on, with their separators
   abbrev pub from : ℕ → List Token
@@ -28,12 +38,9 @@ module _ (rules : List Rule) (sep : TokenRecord) (mode : ℕ) (records pool : Li
   from-next k l e = rw (left-next records k l, e)
 
   from-grows : (k : ℕ) → k < recordCount records → length (join (from (k + 1))) ≤ length (join (from k))
-  from-grows k l = rw (from-next k l refl) (go (follows rules mode (tokenIn pool (recordAt records k)) (from (k + 1))))
-    where
-      go : (c : Bool) → length (join (from (k + 1))) ≤ length
-          (join (tokenIn pool (recordAt records k) ∷ put c (tokenIn pool sep) (from (k + 1))))
-      go true = simp length-append (omega arith)
-      go false = simp length-append (omega arith)
+  from-grows k l =
+      let t = tokenIn pool (recordAt records k) in
+      rw (from-next k l refl) (omega (arith, put-least t (tokenIn pool sep) (from (k + 1)) (follows rules mode t (from (k + 1)))))
 
   pub from-whole : (k : ℕ) → k ≤ recordCount records → length (join (from k)) ≤ length (spelled rules sep mode records pool)
   from-whole zero l = rw (left-start records) (omega arith)

@@ -15,9 +15,9 @@ unfoldable pub dropSeparators : List Rule → List Token → List Token
 dropSeparators rules [] = []
 dropSeparators rules (t ∷ ts) = if (separates rules t.tag) (dropSeparators rules ts) (t ∷ dropSeparators rules ts)
 
--- what a mode stands for: 0 for 1, every other for itself (document 01, 'Used bytes and separators', last sentence)
+-- what a mode stands for: 0 for 2, every other for itself (document 02, wish 7)
 unfoldable pub meaning : ℕ → ℕ
-meaning zero = 1
+meaning zero = 2
 meaning (suc n) = suc n
 
 -- Whether a separator follows t, given what is already put after it: not after the last token; in mode 1 after every other; in mode 2 where

@@ -11,11 +11,11 @@ ghost use Rattle.longest_match.specs.Lexer.{Token};
 ghost use Rattle.spacing.specs.Separators.{meaning, follows};
 ghost use Rattle.spacing.specs.Contracts.{Ahead};
 
-// Mode 0 is mode 1.
+// Mode 0 is mode 2.
 fn meaning_of(mode: u32) -> u32
     ensures { λ r. ⌜ r ≡ meaning mode ⌝ }
 {
-    if mode == 0 { 1 } else { mode }
+    if mode == 0 { 2 } else { mode }
 }
 
 // Whether a separator follows the token of `len` bytes at `start`, behind which the rest is written.

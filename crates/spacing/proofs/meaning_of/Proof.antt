@@ -1,5 +1,5 @@
 -- `meaning_of` answers `meaning`. Assumes nothing.
-use Rattle.spacing.proofs.Due.{meaning-zero, meaning-other}
+use Rattle.spacing.proofs.Modes.{meaning-zero, meaning-other}
 use Rattle.spacing.proofs.meaning_of.Statement.{statement}
 use Rattle.spacing.proofs.meaning_of.Tie as tie
 

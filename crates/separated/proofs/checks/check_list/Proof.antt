@@ -1,12 +1,13 @@
 -- `check_list` answers `listRefusal`, test by test. Assumes nothing.
 use mathlib.Core.Path.{sym, _∙_}
+use native.Mathlib.Omega.{arith}
 use Rattle.separated.proofs.Checking.{separator-fault, list-mode, list-separator, list-many, list-tokens}
 use borrow.Author.Needs.{needs}
 use Rattle.separated.proofs.checks.check_list.Statement.{statement}
 use Rattle.separated.proofs.checks.check_list.Tie as tie
 
 returns : tie.Need-returns
-returns c = λ rs h. list-mode rs _ _ _ _ (c .before .if1 .taken) (c .refused .ensures)
+returns c = λ rs h. list-mode rs _ _ _ _ (omega (arith, c .before .if1 .taken)) (c .refused .ensures)
 
 returns-2 : tie.Need-returns-2
 returns-2 c = λ rs h.
