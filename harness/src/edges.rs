@@ -356,7 +356,8 @@ fn separated(add: Add) {
     let long = [(32_768, 1), (32_769, 1), (21_845, 2), (21_846, 2), (65_536, 1), (65_537, 1)];
     let short = [(1_023, 1), (1_024, 1), (1_025, 1), (682, 2), (683, 2), (2_047, 1), (2_048, 1), (2_049, 1)];
     for (count, sep) in long.into_iter().chain(short) {
-        for (token, mode) in [(record(1, 0, 1), 1), (record(1, 0, 1), 2), (record(3, 1, 1), 2), (record(3, 1, 1), 0)] {
+        let (a, b) = (record(1, 0, 1), record(3, 1, 1));
+        for (token, mode) in [(a, 1), (a, 2), (a, 0), (b, 2), (b, 0)] {
             let list = bytes_of(&vec![token; count]);
             let call = Call::print_separated(&bytes, record(2, 2, sep), mode, list, pool, out(65_536));
             add(&format!("{count} tokens, a separator of {sep}, mode {mode}"), call);
@@ -388,10 +389,33 @@ fn separated(add: Add) {
         add("a shared byte", call);
     }
     shared_bytes(add);
+    lengths(add);
     let no_separator = book(vec![letter(1, 0, b'a', false)]).bytes();
     add("no separator rule", Call::print_separated(&no_separator, record(1, 0, 1), 1, vec![], pool, out(4)));
     let list = bytes_of(&[record(1, 0, 1), record(2, 2, 1)]);
     add("a separator in the list", Call::print_separated(&bytes, one, 1, list, pool, out(8)));
+}
+
+/// Tokens and separators of each length that is copied in another way: several bytes at a time, and what is left over.
+fn lengths(add: Add) {
+    let run = |tag, kind, low, high| {
+        let moves = vec![(0, low, high, 1), (1, low, high, 1)];
+        Rule { tag, kind, start: 0, error: 2, finals: vec![1], moves }
+    };
+    let bytes = book(vec![run(1, 0, b'a', b'z'), run(2, 1, b' ', b'/')]).bytes();
+    // words in the first half of the pool, separators in the second, no two bytes that follow each other alike
+    let half = 200;
+    let pool: Vec<u8> = (0..half).map(|i| b'a' + (i * 7 % 26) as u8).chain((0..half).map(|i| b' ' + (i * 5 % 16) as u8)).collect();
+    for length in 1..=140 {
+        let between = record(2, half + length % 5, length);
+        let words = [record(1, length % 7, length), record(1, 3, length / 3 + 1), record(1, 0, length)];
+        for mode in [1, 2] {
+            let call = Call::print_separated(&bytes, between, mode, bytes_of(&words), &pool, vec![0xEE; 5 * length + 2]);
+            add(&format!("words and separators of {length} bytes, mode {mode}"), call);
+        }
+        let list = bytes_of(&[words[0], between, words[1], between, words[2]]);
+        add(&format!("the same list, {length} bytes"), Call::print(&bytes, list, &pool, vec![0xEE; 5 * length + 2]));
+    }
 }
 
 /// For each byte: both kinds use it, or one kind uses it and the other all the rest.

@@ -19,13 +19,15 @@ pub enum Fault {
     LastSeparator,
     /// The plain printer looks at a token and its neighbour alone.
     Neighbours,
-    /// Mode 2 decides from the front, by a token and its neighbour.
+    /// Modes 0 and 2 decide from the front, by a token and its neighbour.
     FromTheFront,
     /// A rule past the last one is answered as the last one.
     LastRule,
+    /// Mode 0 puts a separator between all neighbours, as mode 1 does.
+    ZeroIsAll,
 }
 
-pub const FAULTS: [Fault; 8] = [
+pub const FAULTS: [Fault; 9] = [
     Fault::Tie,
     Fault::Need,
     Fault::PastTheCount,
@@ -34,6 +36,7 @@ pub const FAULTS: [Fault; 8] = [
     Fault::Neighbours,
     Fault::FromTheFront,
     Fault::LastRule,
+    Fault::ZeroIsAll,
 ];
 
 impl Fault {
@@ -47,6 +50,7 @@ impl Fault {
             Fault::Neighbours => "neighbours",
             Fault::FromTheFront => "from-the-front",
             Fault::LastRule => "last-rule",
+            Fault::ZeroIsAll => "zero-is-all",
         }
     }
 
@@ -71,6 +75,7 @@ pub fn run(fault: Option<Fault>, library: &mut Library, call: &Call, against: Ag
         Fault::Neighbours => neighbours(library, call, against, sound)?,
         Fault::FromTheFront => from_the_front(library, call, against, sound)?,
         Fault::LastRule => last_rule(library, call, against, sound)?,
+        Fault::ZeroIsAll => zero_is_all(library, call, against, sound)?,
     })
 }
 
@@ -168,7 +173,7 @@ fn neighbours(library: &mut Library, call: &Call, against: Against, sound: Outco
 
 fn from_the_front(library: &mut Library, call: &Call, against: Against, sound: Outcome) -> Result<Outcome, String> {
     let number = Answer(sound.answer).number();
-    if call.operation != Operation::PrintSeparated || call.mode != 2 || (number != 0 && number != 22) {
+    if call.operation != Operation::PrintSeparated || call.mode == 1 || (number != 0 && number != 22) {
         return Ok(sound);
     }
     let mut parted = refused_pairs(library, call, against)?;
@@ -190,4 +195,11 @@ fn last_rule(library: &mut Library, call: &Call, against: Against, sound: Outcom
         return Ok(sound);
     }
     library.run(&Call::rule(&call.book, answer.place() as u32 - 1), against)
+}
+
+fn zero_is_all(library: &mut Library, call: &Call, against: Against, sound: Outcome) -> Result<Outcome, String> {
+    if call.operation != Operation::PrintSeparated || call.mode != 0 {
+        return Ok(sound);
+    }
+    library.run(&Call { mode: 1, ..call.clone() }, against)
 }

@@ -457,7 +457,7 @@ pub fn print_separated(
     let mut written: VecDeque<u8> = VecDeque::new();
     for (i, word) in tokens.iter().enumerate().rev() {
         let last = i + 1 == tokens.len();
-        if !last && (mode != 2 || tags.reads_on(word, written.make_contiguous())) {
+        if !last && (mode == 1 || tags.reads_on(word, written.make_contiguous())) {
             between.iter().rev().for_each(|&b| written.push_front(b));
         }
         word.iter().rev().for_each(|&b| written.push_front(b));
