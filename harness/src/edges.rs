@@ -1,11 +1,12 @@
 //! The sizes at which answers change, each with one byte, record, rule or move on either side.
 
 use crate::calls::{Call, Operation, BUILTIN};
+use crate::dead;
 use crate::generate::{bytes_of, Book, Rule};
 use crate::reference::{self as paper, Record};
 
 /// A rule that matches one or more of `letter`, or exactly one where `once`.
-fn letter(tag: u16, kind: u8, letter: u8, once: bool) -> Rule {
+pub fn letter(tag: u16, kind: u8, letter: u8, once: bool) -> Rule {
     let mut moves = vec![(0, letter, letter, 1)];
     if !once {
         moves.push((1, letter, letter, 1));
@@ -50,11 +51,11 @@ fn crowded(length: usize) -> Vec<u8> {
     bytes
 }
 
-fn book(rules: Vec<Rule>) -> Book {
+pub fn book(rules: Vec<Rule>) -> Book {
     Book { rules }
 }
 
-fn record(tag: u16, place: usize, length: usize) -> Record {
+pub fn record(tag: u16, place: usize, length: usize) -> Record {
     Record { tag, place: place as u32, length: length as u32 }
 }
 
@@ -85,10 +86,11 @@ pub fn calls() -> Vec<(String, Call)> {
     cuts(&mut add);
     prints(&mut add);
     separated(&mut add);
+    dead::branches(&mut add);
     all
 }
 
-type Add<'a> = &'a mut dyn FnMut(&str, Call);
+pub type Add<'a> = &'a mut dyn FnMut(&str, Call);
 
 fn books(add: Add) {
     add("the empty book", Call::read_book(&[]));

@@ -184,6 +184,50 @@ fn run_rule(r: &mut Random, letters: &[u8]) -> Rule {
     rule
 }
 
+/// A rule with states from which no final one is reached, and states that are not reached. Moves at `letters` join the others,
+/// moves at `letters` and `strange` lead to the first and leave the second. One time in two there is a final state or a move
+/// more, which may make some of these live.
+fn branched_rule(r: &mut Random, letters: &[u8], strange: &[u8]) -> Rule {
+    let mut rule = empty_rule();
+    // from `dead` on they lead nowhere, from `unreached` on they are not reached
+    let dead = r.from(2, 4);
+    let unreached = dead + r.from(0, 3);
+    let count = unreached + r.from(0, 3);
+    rule.error = count as u8;
+    for state in 0..count {
+        if (state > 0 && state < dead && r.once_in(2)) || (state >= unreached && r.once_in(3)) {
+            rule.finals.push(state as u8);
+        }
+        for &byte in letters {
+            if state < dead && !r.once_in(3) {
+                rule.moves.push((state as u8, byte, byte, r.below(dead) as u8));
+            }
+        }
+        for &byte in letters.iter().chain(strange) {
+            let (low, high) = if state < unreached { (dead, unreached) } else { (0, count) };
+            if low < high && r.once_in(3) {
+                join(&mut rule, state, byte, r.from(low, high - 1));
+            }
+        }
+    }
+    match r.below(4) {
+        0 => rule.finals.push(r.from(1, count - 1) as u8),
+        1 => {
+            let byte = if r.once_in(2) { *r.pick(letters) } else { *r.pick(strange) };
+            join(&mut rule, r.below(count), byte, r.below(count + 1));
+        }
+        _ => {}
+    }
+    rule
+}
+
+/// Adds a move, where none leaves the state at the byte.
+fn join(rule: &mut Rule, from: usize, byte: u8, to: usize) {
+    if rule.moves.iter().all(|m| m.0 != from as u8 || byte < m.1 || m.2 < byte) {
+        rule.moves.push((from as u8, byte, byte, to as u8));
+    }
+}
+
 fn empty_rule() -> Rule {
     Rule { tag: 0, kind: 0, start: 0, error: 0, finals: Vec::new(), moves: Vec::new() }
 }
@@ -199,6 +243,24 @@ fn rename(r: &mut Random, rule: &mut Rule) {
     for m in &mut rule.moves {
         m.0 = name(m.0);
         m.3 = name(m.3);
+    }
+}
+
+/// Gives a rule a tag that no other has; then its states have other names, its moves another order, a final state is named twice.
+fn finish(r: &mut Random, rule: &mut Rule, others: &[Rule]) {
+    rule.tag = loop {
+        let tag = if r.once_in(4) { r.next() as u16 } else { r.from(1, 60) as u16 };
+        if tag != 0 && others.iter().all(|other| other.tag != tag) {
+            break tag;
+        }
+    };
+    if r.once_in(2) {
+        rename(r, rule);
+    }
+    r.shuffle(&mut rule.moves);
+    if !rule.finals.is_empty() && r.once_in(5) {
+        let again = *r.pick(&rule.finals);
+        rule.finals.push(again);
     }
 }
 
@@ -218,20 +280,25 @@ pub fn book(r: &mut Random) -> (Book, Alphabet) {
             _ => run_rule(r, &letters),
         };
         rule.kind = kind;
-        rule.tag = loop {
-            let tag = if r.once_in(4) { r.next() as u16 } else { r.from(1, 60) as u16 };
-            if tag != 0 && rules.iter().all(|other| other.tag != tag) {
-                break tag;
-            }
-        };
-        if r.once_in(2) {
-            rename(r, &mut rule);
-        }
-        r.shuffle(&mut rule.moves);
-        if !rule.finals.is_empty() && r.once_in(5) {
-            let again = *r.pick(&rule.finals);
-            rule.finals.push(again);
-        }
+        finish(r, &mut rule, &rules);
+        rules.push(rule);
+    }
+    (Book { rules }, alphabet)
+}
+
+/// A book with a run of letters for each kind, and rules with branches at bytes of the other kind.
+fn branched_book(r: &mut Random) -> (Book, Alphabet) {
+    let alphabet = Alphabet::random(r);
+    let count = if r.once_in(60) { r.from(28, 32) } else { r.from(3, 5) };
+    let runs = r.below(count);
+    let mut rules: Vec<Rule> = Vec::new();
+    for k in 0..count {
+        let after = (k + count - runs) % count;
+        let kind = if after < 2 { after as u8 } else { r.below(2) as u8 };
+        let (letters, strange) = (alphabet.of(kind), alphabet.of(1 - kind));
+        let mut rule = if after < 2 { run_rule(r, &letters) } else { branched_rule(r, &letters, &strange) };
+        rule.kind = kind;
+        finish(r, &mut rule, &rules);
         rules.push(rule);
     }
     (Book { rules }, alphabet)
@@ -490,7 +557,7 @@ fn with_room(r: &mut Random, mut call: Call, records: bool) -> Call {
     call
 }
 
-/// The calls of one case: a book, and each operation on it.
+/// The calls of one case: a book, each operation on it, and writing with separators by another book.
 pub fn case(r: &mut Random) -> Vec<Call> {
     let (rules, alphabet) = book(r);
     let sound = shuffled(r, &rules);
@@ -519,16 +586,26 @@ pub fn case(r: &mut Random) -> Vec<Call> {
 
     let only_plain = !r.once_in(6);
     let spaced = list(r, &rules, &sound, &alphabet, longest, only_plain);
-    let mode = if r.once_in(20) { *r.pick(&[3, 255, 256, 1 << 16, u32::MAX]) } else { r.below(3) as u32 };
-    let mut records = bytes_of(&spaced.tokens);
-    records.extend(r.bytes(leftover));
-    let out = vec![0; paper::TEXT_BYTES];
-    let call = Call::print_separated(&bytes, spaced.separator, mode, records, &spaced.pool, out);
+    let call = spacing(r, &bytes, spaced, leftover);
     calls.push(with_room(r, call, false));
 
     let index = if r.once_in(20) { r.next() as u32 } else { r.from(0, rules.rules.len()) as u32 };
     calls.push(Call::rule(&bytes, index));
+
+    let (rules, alphabet) = branched_book(r);
+    let bytes = shuffled(r, &rules);
+    let spaced = list(r, &rules, &bytes, &alphabet, 12, true);
+    let call = spacing(r, &bytes, spaced, leftover);
+    calls.push(with_room(r, call, false));
     calls
+}
+
+/// Writing with separators in some mode, with all the room there may be.
+fn spacing(r: &mut Random, book: &[u8], list: List, leftover: usize) -> Call {
+    let mode = if r.once_in(20) { *r.pick(&[3, 255, 256, 1 << 16, u32::MAX]) } else { r.below(3) as u32 };
+    let mut records = bytes_of(&list.tokens);
+    records.extend(r.bytes(leftover));
+    Call::print_separated(book, list.separator, mode, records, &list.pool, vec![0; paper::TEXT_BYTES])
 }
 
 /// A piece of a timed lyric sheet, with stamps that are whole and stamps that are not.

@@ -3,6 +3,7 @@
 //! harness [--cases N] [--seed S] [--case K] [--plant FAULT] [--threads N] [--verbose] [--count]
 
 mod calls;
+mod dead;
 mod edges;
 mod examples;
 mod generate;

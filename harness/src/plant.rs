@@ -4,6 +4,7 @@
 use crate::calls::{Answer, Call, Operation, Outcome};
 use crate::library::{Against, Library};
 use crate::reference;
+use std::collections::BTreeSet;
 
 #[derive(Clone, Copy, Debug, PartialEq, Eq)]
 pub enum Fault {
@@ -25,9 +26,15 @@ pub enum Fault {
     LastRule,
     /// Mode 0 puts a separator between all neighbours, as mode 1 does.
     ZeroIsAll,
+    /// A rule uses the bytes of all moves from states that are reached, also where they lead to no final state.
+    ReachableAlone,
+    /// A rule uses the bytes of all moves that lead to a final state, also from states that are not reached.
+    FinalAlone,
+    /// A state that is reached, or leads to a final one, in a rule counts so in the rules after it too.
+    LeftOver,
 }
 
-pub const FAULTS: [Fault; 9] = [
+pub const FAULTS: [Fault; 12] = [
     Fault::Tie,
     Fault::Need,
     Fault::PastTheCount,
@@ -37,6 +44,9 @@ pub const FAULTS: [Fault; 9] = [
     Fault::FromTheFront,
     Fault::LastRule,
     Fault::ZeroIsAll,
+    Fault::ReachableAlone,
+    Fault::FinalAlone,
+    Fault::LeftOver,
 ];
 
 impl Fault {
@@ -51,6 +61,9 @@ impl Fault {
             Fault::FromTheFront => "from-the-front",
             Fault::LastRule => "last-rule",
             Fault::ZeroIsAll => "zero-is-all",
+            Fault::ReachableAlone => "reachable-alone",
+            Fault::FinalAlone => "final-alone",
+            Fault::LeftOver => "left-over",
         }
     }
 
@@ -76,6 +89,9 @@ pub fn run(fault: Option<Fault>, library: &mut Library, call: &Call, against: Ag
         Fault::FromTheFront => from_the_front(library, call, against, sound)?,
         Fault::LastRule => last_rule(library, call, against, sound)?,
         Fault::ZeroIsAll => zero_is_all(library, call, against, sound)?,
+        Fault::ReachableAlone => used_by_marks(call, sound, reachable_alone),
+        Fault::FinalAlone => used_by_marks(call, sound, final_alone),
+        Fault::LeftOver => used_by_marks(call, sound, left_over),
     })
 }
 
@@ -202,4 +218,58 @@ fn zero_is_all(library: &mut Library, call: &Call, against: Against, sound: Outc
         return Ok(sound);
     }
     library.run(&Call { mode: 1, ..call.clone() }, against)
+}
+
+/// Of each state whether it is reached from the start, and whether it leads to a final one.
+type Marks = Vec<(bool, bool)>;
+
+fn marks(rule: &[u8]) -> Marks {
+    let (fronts, backs) = (reference::fronts(rule), reference::backs(rule));
+    fronts.iter().zip(&backs).map(|(front, back)| (front.is_some(), back.is_some())).collect()
+}
+
+/// 23 where the moves from a state of the first mark to one of the second have a byte in both kinds of rules.
+fn used_by_marks(call: &Call, sound: Outcome, marks_of: fn(&[&[u8]]) -> Vec<Marks>) -> Outcome {
+    if call.operation != Operation::PrintSeparated || (1..=13).contains(&Answer(sound.answer).number()) {
+        return sound;
+    }
+    let rules = reference::rules(&call.book);
+    let mut used = [BTreeSet::new(), BTreeSet::new()];
+    for (rule, marks) in rules.iter().zip(marks_of(&rules)) {
+        for (from, low, high, to) in reference::moves(rule) {
+            if marks[from as usize].0 && marks[to as usize].1 {
+                used[reference::is_separator(rule) as usize].extend(low..=high);
+            }
+        }
+    }
+    let shared = used[0].intersection(&used[1]).next().copied();
+    match shared {
+        Some(byte) => {
+            let buffers = call.buffers().into_iter().map(|(_, b)| b.clone()).collect();
+            Outcome { answer: 23 << 56 | byte as u64, buffers }
+        }
+        None => sound,
+    }
+}
+
+fn reachable_alone(rules: &[&[u8]]) -> Vec<Marks> {
+    let of = |rule: &&[u8]| {
+        let mut marks: Marks = marks(rule).into_iter().map(|(reached, _)| (reached, true)).collect();
+        marks[reference::error_of(rule) as usize].1 = false;
+        marks
+    };
+    rules.iter().map(of).collect()
+}
+
+fn final_alone(rules: &[&[u8]]) -> Vec<Marks> {
+    rules.iter().map(|rule| marks(rule).into_iter().map(|(_, leads)| (true, leads)).collect()).collect()
+}
+
+fn left_over(rules: &[&[u8]]) -> Vec<Marks> {
+    let mut left: Marks = vec![(false, false); 256];
+    let mut next = |rule: &&[u8]| {
+        left.iter_mut().zip(marks(rule)).for_each(|(l, m)| *l = (l.0 || m.0, l.1 || m.1));
+        left.clone()
+    };
+    rules.iter().map(|rule| next(rule)).collect()
 }

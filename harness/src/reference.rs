@@ -234,6 +234,10 @@ pub fn tag_of(rule: &[u8]) -> u16 {
     u16::from_be_bytes([rule[1], rule[2]])
 }
 
+pub fn error_of(rule: &[u8]) -> u8 {
+    operand_of(rule, ERROR)
+}
+
 pub fn is_separator(rule: &[u8]) -> bool {
     rule[3] == 1
 }
@@ -256,7 +260,7 @@ fn step(rule: &[u8], state: u8, byte: u8) -> u8 {
             return o[3];
         }
     }
-    operand_of(rule, ERROR)
+    error_of(rule)
 }
 
 /// Whether the walk from the rule's start over `word` ends in a final state.
@@ -268,7 +272,7 @@ fn matches(rule: &[u8], word: &[u8]) -> bool {
 /// How many bytes of `text` can take part in a match: after them every rule stands in its error state, which nothing leaves.
 fn bound<'t>(rules: &[&[u8]], text: impl Iterator<Item = &'t u8>) -> usize {
     let mut states: Vec<u8> = rules.iter().map(|r| operand_of(r, START)).collect();
-    let errors: Vec<u8> = rules.iter().map(|r| operand_of(r, ERROR)).collect();
+    let errors: Vec<u8> = rules.iter().map(|r| error_of(r)).collect();
     let mut count = 0;
     for &byte in text {
         if states == errors {
@@ -400,17 +404,63 @@ pub fn print(book: &[u8], records: &[Record], pool: &[u8], room: usize) -> Resul
     Ok(joined)
 }
 
-/// The bytes of the rule's moves that do not lead to the error state.
-fn used(rule: &[u8]) -> BTreeSet<u8> {
-    let error = operand_of(rule, ERROR);
-    let mut bytes = BTreeSet::new();
-    for (code, o) in commands(rule) {
-        match code {
-            STEP if o[2] != error => {
-                bytes.insert(o[1]);
+/// A move: from, low, high, to.
+pub type Move = (u8, u8, u8, u8);
+
+pub fn moves(rule: &[u8]) -> Vec<Move> {
+    let of = |(code, o): (u8, &[u8])| match code {
+        STEP => Some((o[0], o[1], o[1], o[2])),
+        SPAN => Some((o[0], o[1], o[2], o[3])),
+        _ => None,
+    };
+    commands(rule).filter_map(of).collect()
+}
+
+/// A byte string for each state that has one.
+pub type Strings = Vec<Option<Vec<u8>>>;
+
+/// The string of a walk from the start to a state.
+pub fn fronts(rule: &[u8]) -> Strings {
+    let start = [operand_of(rule, START)];
+    grown(rule, &start, |m| (m.0, m.3), |s, m| [s, &[m.1]].concat())
+}
+
+/// The string of a walk from a state to a final one.
+pub fn backs(rule: &[u8]) -> Strings {
+    let finals: Vec<u8> = commands(rule).filter(|c| c.0 == FINAL).map(|c| c.1[0]).collect();
+    grown(rule, &finals, |m| (m.3, m.0), |s, m| [&[m.2], s].concat())
+}
+
+/// The empty string for the states of `first`; then all moves again and again, as long as one that joins a state with a string
+/// to one without gives this one its string.
+fn grown(rule: &[u8], first: &[u8], ends: fn(Move) -> (u8, u8), longer: fn(&[u8], Move) -> Vec<u8>) -> Strings {
+    let moves = moves(rule);
+    let mut strings: Strings = vec![None; 256];
+    first.iter().for_each(|&s| strings[s as usize] = Some(Vec::new()));
+    let mut changed = true;
+    while changed {
+        changed = false;
+        for &m in &moves {
+            let (with, without) = ends(m);
+            if let (Some(s), None) = (&strings[with as usize], &strings[without as usize]) {
+                strings[without as usize] = Some(longer(s, m));
+                changed = true;
             }
-            SPAN if o[3] != error => bytes.extend(o[1]..=o[2]),
-            _ => {}
+        }
+    }
+    strings
+}
+
+/// The bytes that occur in the strings that the rule matches. Of a short rule each string is tried.
+fn used(rule: &[u8]) -> BTreeSet<u8> {
+    let (fronts, backs) = (fronts(rule), backs(rule));
+    let mut bytes = BTreeSet::new();
+    for (from, low, high, to) in moves(rule) {
+        if let (Some(front), Some(back)) = (&fronts[from as usize], &backs[to as usize]) {
+            for byte in low..=high {
+                let new = bytes.insert(byte);
+                assert!(!new || rule.len() > LITERAL || matches(rule, &[front, &[byte][..], back].concat()));
+            }
         }
     }
     bytes
