@@ -16,7 +16,7 @@
 #include <string.h>
 #include <time.h>
 
-enum { ROUNDS = 80, SHEET = 65536, LINE = 30, LINES = 512, MAX_CONTENDERS = 8 };
+enum { ROUNDS = 80, SHEET = 65536, LINE = 30, LINES = 512, MAX_CONTENDERS = 40 };
 
 static uint8_t *sheet;      /* a timed lyric sheet, with two zero bytes behind it */
 static size_t sheet_len;
@@ -359,6 +359,153 @@ static void bench_line_printers(void)
     print_table("### Printing the tokens of a line of 30 bytes, a call for each line", all, 3, LINES);
 }
 
+/* ---- The largest books: each rule a chain of states to a final one, and a dead branch at its middle */
+
+enum { SHAPES = 6, ORDERS = 3, LARGEST = SHAPES * ORDERS, CHAIN_LINKS = 254, CHAIN_ERROR = 255 };
+
+static const struct {
+    const char *name;
+    unsigned rules, moves; /* moves from a state of the chain to the next */
+    int spans, met;        /* whether the dead branches of separators have bytes of plain tokens */
+} shapes[SHAPES] = {{"32 chains", 32, 1, 0, 0},
+                    {"32 chains of spans", 32, 1, 1, 0},
+                    {"16 chains of two moves each", 16, 2, 0, 0},
+                    {"32 chains, plain bytes on dead branches", 32, 1, 0, 1},
+                    {"32 chains of spans, plain bytes on dead branches", 32, 1, 1, 1},
+                    {"16 chains of two moves each, plain bytes on dead branches", 16, 2, 0, 1}};
+static const char *const orders[ORDERS] = {", upward", ", downward", ", without order"};
+
+static struct {
+    uint8_t book[ZGV_BOOK_BYTES];
+    size_t len, moves;
+} largest[LARGEST];
+
+/* The number of the chain's state `i`. */
+static uint8_t chain_state(size_t order, unsigned i)
+{
+    return (uint8_t)(order == 0 ? i : order == 1 ? CHAIN_ERROR - 1 - i : (101 * i + 7) % CHAIN_ERROR);
+}
+
+/* A rule of so many links; the last two are the dead branch. The kinds have no byte in common but on dead branches that are met. */
+static void put_chain(size_t book, size_t shape, size_t order, unsigned rule, unsigned links)
+{
+    static const uint8_t steps[2][2] = {{'a', 'c'}, {' ', '"'}}, lows[2][2] = {{64, 254}, {0, 62}}, highs[2][2] = {{253, 255}, {61, 63}};
+    const unsigned kind = rule % 2, end = links - 2, met = kind == 1 && shapes[shape].met;
+    uint8_t *at = largest[book].book + largest[book].len;
+    unsigned k, n;
+    const uint8_t head[] = {1, 0, (uint8_t)(rule + 1), (uint8_t)kind, 2, chain_state(order, 0), 3, CHAIN_ERROR,
+                            4, chain_state(order, 1), 4, chain_state(order, end)};
+    memcpy(at, head, sizeof head);
+    at += sizeof head;
+    for (k = 0; k < links; k++) {
+        /* 89 is a prime that divides no number of links: each comes once */
+        const unsigned i = order == 2 ? 89 * k % links : k, dead = i >= end, of = dead && met ? 0 : kind, on = dead && !met;
+        const uint8_t from = chain_state(order, i == end ? end / 2 : i), to = chain_state(order, i + 1);
+        for (n = 0; n < shapes[shape].moves; n++) {
+            if (shapes[shape].spans) {
+                const uint8_t span[] = {6, from, lows[of][on], highs[of][on], to};
+                memcpy(at, span, sizeof span);
+                at += sizeof span;
+            } else {
+                const uint8_t step[] = {5, from, (uint8_t)(steps[of][on] + n), to};
+                memcpy(at, step, sizeof step);
+                at += sizeof step;
+            }
+            largest[book].moves++;
+        }
+    }
+    *at++ = 7;
+    largest[book].len = (size_t)(at - largest[book].book);
+}
+
+static void make_largest(void)
+{
+    size_t shape, order;
+    for (shape = 0; shape < SHAPES; shape++)
+        for (order = 0; order < ORDERS; order++) {
+            const unsigned rules = shapes[shape].rules, size = (shapes[shape].spans ? 5 : 4) * shapes[shape].moves;
+            const size_t book = shape * ORDERS + order;
+            unsigned rule, left = (ZGV_BOOK_BYTES - 1 - 13 * rules) / size;
+            for (rule = 0; rule < rules; rule++) {
+                const unsigned links = left / (rules - rule);
+                put_chain(book, shape, order, rule, links < CHAIN_LINKS ? links : CHAIN_LINKS);
+                left -= links;
+            }
+            largest[book].book[largest[book].len++] = 8;
+        }
+}
+
+/* As many rules as a book may have, each of one move. */
+static uint8_t many[32 * 15 + 1];
+
+static void make_many(void)
+{
+    unsigned rule;
+    for (rule = 0; rule < 32; rule++) {
+        const uint8_t bytes[] = {1, 0, (uint8_t)(rule + 1), rule % 2, 2, 0, 3, 2, 4, 1, 5, 0, rule % 2 ? ' ' : 'a', 1, 7};
+        memcpy(many + sizeof bytes * rule, bytes, sizeof bytes);
+    }
+    many[sizeof many - 1] = 8;
+}
+
+/* Two tokens of a byte each, and a separator. */
+static const uint8_t chain_pool[] = {'a', ' '}, chain_list[] = {0, 1, 0, 0, 0, 0, 0, 0, 0, 1, 0, 1, 0, 0, 0, 0, 0, 0, 0, 1};
+
+static void read_largest(size_t book) { sink = zgv_read_book(largest[book].book, largest[book].len); }
+static void print_largest(size_t book)
+{
+    sink = zgv_print_separated(largest[book].book, largest[book].len, 2, 1, 1, ZGV_MODE_SPARE, chain_list, sizeof chain_list,
+                               chain_pool, sizeof chain_pool, out, SHEET);
+}
+
+static void read_many(void) { sink = zgv_read_book(many, sizeof many); }
+static void print_many(void)
+{
+    sink = zgv_print_separated(many, sizeof many, 2, 1, 1, ZGV_MODE_SPARE, chain_list, sizeof chain_list, chain_pool,
+                               sizeof chain_pool, out, SHEET);
+}
+
+#define EACH_LARGEST(f) \
+    f(0) f(1) f(2) f(3) f(4) f(5) f(6) f(7) f(8) f(9) f(10) f(11) f(12) f(13) f(14) f(15) f(16) f(17)
+#define LARGEST_RUNS(k)                                     \
+    static void read_largest_##k(void) { read_largest(k); } \
+    static void print_largest_##k(void) { print_largest(k); }
+#define LARGEST_CONTENDERS(k) {"", read_largest_##k, 0, 0}, {"", print_largest_##k, 0, 0},
+EACH_LARGEST(LARGEST_RUNS)
+
+static void largest_line(const char *name, const char *order, size_t len, size_t moves, const contender *both)
+{
+    const double reading = both[0].best, printing = both[1].best;
+    printf("| %s%s | %lu | %lu | %.2f | %.2f | %.2f | %.2f | %.2f |\n", name, order, (unsigned long)len, (unsigned long)moves,
+           reading * 1e6, reading * 1e9 / (double)moves, printing * 1e6, printing * 1e9 / (double)moves, printing / reading);
+}
+
+static void bench_largest(void)
+{
+    contender all[] = {EACH_LARGEST(LARGEST_CONTENDERS) {"", read_many, 0, 0}, {"", print_many, 0, 0}};
+    const size_t count = sizeof all / sizeof all[0];
+    size_t i;
+    for (i = 0; i < count; i++) {
+        const unsigned rules = i < 2 * LARGEST ? shapes[i / 2 / ORDERS].rules : 32;
+        all[i].run();
+        if (zgv_number(sink) != ZGV_ACCEPTED || zgv_first(sink) != (i % 2 == 0 ? rules : 2))
+            fail("a largest book is answered otherwise");
+    }
+    measure(all, count);
+    printf("\n### The largest books\n\n| book, its states numbered | bytes | moves | `zgv_read_book`, µs | ns a move |"
+           " `zgv_print_separated`, µs | ns a move | print : read |\n|---|---:|---:|---:|---:|---:|---:|---:|\n");
+    for (i = 0; i < LARGEST; i++)
+        largest_line(shapes[i / ORDERS].name, orders[i % ORDERS], largest[i].len, largest[i].moves, all + 2 * i);
+    largest_line("32 rules of one move", "", sizeof many, 32, all + 2 * LARGEST);
+    printf("\n| time, upward = 1 | reading, downward | without order | printing, downward | without order |\n"
+           "|---|---:|---:|---:|---:|\n");
+    for (i = 0; i < SHAPES; i++) {
+        const contender *up = all + 2 * ORDERS * i;
+        printf("| %s | %.2f | %.2f | %.2f | %.2f |\n", shapes[i].name, up[2].best / up[0].best, up[4].best / up[0].best,
+               up[3].best / up[1].best, up[5].best / up[1].best);
+    }
+}
+
 /* ---- An earlier library beside this one, its calls renamed */
 
 #ifdef HAVE_OLD
@@ -393,6 +540,21 @@ static void old_lines_mode(uint32_t mode)
 }
 static void old_lines_mode_1(void) { old_lines_mode(ZGV_MODE_ALL); }
 static void old_lines_mode_2(void) { old_lines_mode(ZGV_MODE_SPARE); }
+static void old_read_largest(size_t book) { sink = old_zgv_read_book(largest[book].book, largest[book].len); }
+static void old_print_largest(size_t book)
+{
+    sink = old_zgv_print_separated(largest[book].book, largest[book].len, 2, 1, 1, ZGV_MODE_SPARE, chain_list, sizeof chain_list,
+                                   chain_pool, sizeof chain_pool, out, SHEET);
+}
+static void old_read_upward(void) { old_read_largest(0); }
+static void old_print_upward(void) { old_print_largest(0); }
+static void old_print_downward(void) { old_print_largest(1); }
+static void old_print_spans(void) { old_print_largest(ORDERS); }
+static void old_print_many(void)
+{
+    sink = old_zgv_print_separated(many, sizeof many, 2, 1, 1, ZGV_MODE_SPARE, chain_list, sizeof chain_list, chain_pool,
+                                   sizeof chain_pool, out, SHEET);
+}
 
 static void bench_old(void)
 {
@@ -409,7 +571,12 @@ static void bench_old(void)
                  {"`zgv_lex_builtin`, the sheet", old_sheet_builtin, sheet_builtin, 1},
                  {"`zgv_print`, the sheet", old_print, print_plain, 1},
                  {"`zgv_print_separated`, mode 1, the sheet", old_mode_1, print_mode_1, 1},
-                 {"`zgv_print_separated`, mode 2, the sheet", old_mode_2, print_mode_2, 1}};
+                 {"`zgv_print_separated`, mode 2, the sheet", old_mode_2, print_mode_2, 1},
+                 {"`zgv_print_separated`, 32 rules of one move", old_print_many, print_many, 1},
+                 {"`zgv_read_book`, 32 chains upward", old_read_upward, read_largest_0, 1},
+                 {"`zgv_print_separated`, 32 chains upward", old_print_upward, print_largest_0, 1},
+                 {"`zgv_print_separated`, 32 chains downward", old_print_downward, print_largest_1, 1},
+                 {"`zgv_print_separated`, 32 chains of spans upward", old_print_spans, print_largest_3, 1}};
     size_t i;
     printf("\n### An earlier library beside this one\n\n| | earlier, µs a call | this, µs a call | this : earlier |\n|---|---:|---:|---:|\n");
     for (i = 0; i < sizeof pairs / sizeof pairs[0]; i++) {
@@ -774,6 +941,8 @@ int main(int argc, char **argv)
     read_builtin(argv[1]);
     make_sheet();
     make_lines();
+    make_largest();
+    make_many();
     if (!dense_build(table, book, book_len))
         fail("the built-in book has no dense table");
     check_same();
@@ -788,6 +957,7 @@ int main(int argc, char **argv)
         return 0;
     bench_growth();
     bench_reading();
+    bench_largest();
     bench_hostile();
     return 0;
 }
