@@ -65,7 +65,7 @@
  *    zgv_read_book()                            73,728
  *    zgv_rule()                                 73,728
  *    zgv_print()                                143,360
- *    zgv_print_separated()                      143,360
+ *    zgv_print_separated()                      151,552
  *
  * Each is at least 4,096 more than bench/stack.c of the sources measures, for the
  * first call of a program that binds memset() only then. ZGV_STACK_BYTES is
@@ -112,9 +112,9 @@ extern "C" {
 
 /* ---- Version ------------------------------------------------------------ */
 
-#define ZGV_VERSION       "0.2.0"
+#define ZGV_VERSION       "0.3.0"
 #define ZGV_VERSION_MAJOR 0
-#define ZGV_VERSION_MINOR 2
+#define ZGV_VERSION_MINOR 3
 #define ZGV_VERSION_PATCH 0
 
 /* ---- Limits ------------------------------------------------------------- */
@@ -125,7 +125,7 @@ extern "C" {
 #define ZGV_TEXT_BYTES       65536  /* bytes of a text, to be cut or written */
 #define ZGV_LIST_TOKENS      65536  /* tokens of a list */
 #define ZGV_RECORD_BYTES     10     /* bytes of a token's record */
-#define ZGV_STACK_BYTES      147456 /* stack that is enough for every call */
+#define ZGV_STACK_BYTES      155648 /* stack that is enough for every call */
 
 /* Kinds of a rule, as in its RULE command. */
 #define ZGV_KIND_PLAIN     0
@@ -189,8 +189,9 @@ enum {
     ZGV_OUTPUT_TOO_SHORT  = 22,  /* the place is the number of bytes needed */
 
     /* Printing with separators. */
-    ZGV_SHARED_BYTE       = 23,  /* a plain and a separator rule both use a byte;
-                                    the place is the lowest such byte */
+    ZGV_SHARED_BYTE       = 23,  /* a byte stands in a string that a plain rule
+                                    matches and in one that a separator rule
+                                    matches; the place is the lowest such byte */
     ZGV_UNKNOWN_MODE      = 24,  /* mode above 2; place 0 */
     ZGV_NO_SEPARATOR      = 25,  /* the separator token is of plain kind */
     ZGV_SEPARATOR_IN_LIST = 26   /* a token of the list is of separator kind */
@@ -404,9 +405,11 @@ uint64_t zgv_print(const uint8_t *book, size_t book_len,
  * bytes with sheets that were stored under 0 passes ZGV_MODE_ALL, 1, from now on.
  * A program that cuts such sheets changes nothing: they are cut as they were.
  *
- * The plain and the separator rules of the book have no byte in common on
- * moves that do not lead to the error state; else 23 is answered, for every list
- * (FORMAT.md says what to do about it).
+ * No byte that a token of a plain rule can have is one that a token of a separator
+ * rule can have; else 23 is answered, for every list (FORMAT.md says what to do
+ * about it). A byte counts for a rule where it stands in some byte string that the
+ * rule matches. Moves that no such string takes do not count: those from states
+ * that are never reached, and those from which no final state is reached.
  *
  * Accepted: first value the number of bytes written, second 0. Cutting them by
  * the same book, and leaving out each token of a separator rule, gives the same

@@ -40,6 +40,16 @@ cell-small rows stamp s = go (eqb (stampAt rows s) stamp)
     go true = omega arith
     go false = omega arith
 
+-- one cell stored: the bound of the stamps
+pub stamp-set : (rows : List ℕ) (stamp j head mark : ℕ) → j < length rows → head * 2 + mark < 131072
+    → ((s : ℕ) → s < stateCount → stampAt rows s ≤ stamp)
+    → (s : ℕ) → s < stateCount → stampAt (set rows j (rowWord stamp head mark)) s ≤ stamp
+stamp-set rows stamp j head mark r l h s k = go (eqb s j) refl
+  where
+    go : (t : Bool) → eqb s j ≡ t → stampAt (set rows j (rowWord stamp head mark)) s ≤ stamp
+    go true e = rw (eqb-true s j e, getD-set-same rows j (rowWord stamp head mark) 0 r) (omega arith)
+    go false e = rw (getD-set-other rows j s (rowWord stamp head mark) 0 (eqb-false s j e)) (h s k)
+
 -- ---- what a change leaves alone
 
 -- the transitions from first to before end are the same in both tables, whatever spots they have
@@ -123,6 +133,7 @@ table-keeps {tb} {tb₁} {k} {r} n b s t =
       start = rw b (opens-agrees (keeps-agrees s) (t .start));
       body = rw b (body-keeps s (t .body));
       sound = t .sound;
+      few = t .few;
     }
 
 pub listed-order : (tb : List ℕ) (first end : ℕ) (ts : List Transition) → Listed tb first end ts → first ≤ end

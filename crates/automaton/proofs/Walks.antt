@@ -2,7 +2,7 @@
 use mathlib.Core.Path.{_≡_, refl, sym, _∙_, ap}
 use mathlib.Core.Bool.{Bool, true, false, _&&_}
 use mathlib.Core.List.{List, [], _∷_}
-use Prim.Native.Nat.{ℕ, zero, suc, _+_, _-_, _<_, _≤_}
+use Prim.Native.Nat.{ℕ, zero, suc, _+_, _-_, _*_, _/_, _%_, _<_, _≤_}
 use native.Mathlib.Nat.{zero-add, suc-add}
 use native.Mathlib.Omega.{arith}
 use native.Mathlib.Numerals.{add-one}
@@ -11,9 +11,9 @@ use lib.Dec.{eqb}
 use borrow.Author.Tests.{leb-true, le-leb}
 use Rattle.automaton.specs.Choice.{if, any, among}
 use Rattle.automaton.specs.Rule.{Transition, Rule, covers, target, step, walk, matches, longestWithin, longest}
-use Rattle.automaton.specs.Rule.{Sound}
+use Rattle.automaton.specs.Rule.{Sound, stateCount}
 use Rattle.automaton.specs.Contracts.{headOf, isFinal, lowOf, highOf, coversWord, spotOf, toOf, edgeAt, firstOf, endOf}
-use Rattle.automaton.specs.Contracts.{startOf, bodyAt, leaving, pick, Within, Chain, Finds, Spot, Table}
+use Rattle.automaton.specs.Contracts.{startOf, nameAt, bodyAt, leaving, pick, Within, Chain, Finds, Spot, Table}
 use Rattle.automaton.proofs.Tests.{clash, or-false, and-true}
 
 -- the chain of a state leads where the rule does
@@ -171,3 +171,21 @@ module _ {tb : List ℕ} {k : ℕ} {r : Rule} (table : Table tb k r) where
   -- an empty text
   pub walk-empty : (t : List ℕ) → length t ≡ 0 → 0 ≡ longest r t
   walk-empty t e = walk-end (walk-start t refl) (omega arith)
+
+-- ---- the start as a spot
+
+pub opens-spot : {tb : List ℕ} {k : ℕ} {r : Rule} → Table tb k r → {p : ℕ} → p ≡ startOf (bodyAt tb k)
+    → Spot tb (firstOf (bodyAt tb k)) (endOf (bodyAt tb k)) r.finals r.transitions r.start (p / 65536 * 65536 + nameAt tb k % 65536 * 2)
+opens-spot {tb} {k} {r} t {p} e =
+    let s : r.start < stateCount = t .sound .start-below in
+    let n : nameAt tb k % 65536 ≡ r.start = rw (t .name) (omega arith) in
+    let h : headOf (p / 65536 * 65536 + r.start * 2) ≡ headOf (startOf (bodyAt tb k)) = rw e (omega arith) in
+    let d : (p / 65536 * 65536 + r.start * 2) / 2 ≡ p / 65536 * 32768 + r.start = omega arith in
+    let m : (p / 65536 * 65536 + r.start * 2) % 2 ≡ 0 = omega arith in
+    rw n
+    (record {
+      state = rw d (omega arith);
+      chain = rw h (t .start .chain);
+      below = rw h (t .start .below);
+      final = rw (m, t .sound .nonempty) refl;
+    })

@@ -10,7 +10,7 @@ use Rattle.automaton.specs.Rule.{stateCount, Transition, Rule, covers, S
 use Rattle.automaton.specs.Choice.{if, All, among}
 
 -- ---- How one slice of words, the table, holds the rules of a book.
--- Word 0 is the number of rules. Two words for each rule follow, its name (tag, kind and error state) and its body (what a walk asks of its
+-- Word 0 is the number of rules. Two words for each rule follow, its name (tag, kind and the number of its start) and its body (what a walk asks of its
 -- start, and where the words of its transitions lie), with room for `ruleRoom` rules; then a word for each transition, rule by rule.
 -- A spot is what is kept of a state: its number, the head of the chain of the transitions that leave it, and whether it is final.
 -- Of the start, which is not final, the head is kept, and two bytes between which all lie that these transitions cover.
@@ -29,6 +29,10 @@ bodyPlace k = k + 33
 
 abbrev pub edgeStart : ℕ
 edgeStart = 65
+
+-- transitions that a rule may have
+abbrev pub edgeRoom : ℕ
+edgeRoom = 512
 
 -- ---- Words.
 
@@ -74,16 +78,13 @@ coversWord e b = leb (lowOf e) b && leb b (highOf e)
 
 -- the name of a rule, and its parts
 abbrev pub nameWord : ℕ → ℕ → ℕ → ℕ
-nameWord tag kind error = tag * 16777216 + kind * 65536 + error
+nameWord tag kind start = tag * 16777216 + kind * 65536 + start
 
 abbrev pub tagOf : ℕ → ℕ
 tagOf w = w / 16777216
 
 abbrev pub kindOf : ℕ → ℕ
 kindOf w = w / 65536 % 256
-
-abbrev pub errorOf : ℕ → ℕ
-errorOf w = w % 65536
 
 -- the body of a rule, and its parts: its transitions' words stand from `first` to before `end`
 abbrev pub bodyWord : ℕ → ℕ → ℕ → ℕ
@@ -198,11 +199,12 @@ pub record Body (tb : List ℕ) (first end : ℕ) (fs : List ℕ) (ts : List Tra
 pub record Table (tb : List ℕ) (k : ℕ) (r : Rule) : Type 0 where
   pub number : k < ruleRoom
   pub room : edgeStart ≤ length tb
-  pub name : nameAt tb k ≡ nameWord r.tag r.kind r.error
+  pub name : nameAt tb k ≡ nameWord r.tag r.kind r.start
   pub kind : r.kind < 256
   pub start : Opens tb (firstOf (bodyAt tb k)) (endOf (bodyAt tb k)) r.transitions r.start (startOf (bodyAt tb k))
   pub body : Body tb (firstOf (bodyAt tb k)) (endOf (bodyAt tb k)) r.finals r.transitions
   pub sound : Sound stateCount r
+  pub few : length r.transitions ≤ edgeRoom
 
 -- the table has a rule number k
 pub record Tabled (tb : List ℕ) (k : ℕ) : Type 0 where

@@ -1,6 +1,6 @@
 -- A rule of a book is a deterministic automaton with a tag and a kind. Bytes, states and tags are natural numbers.
 use mathlib.Core.Path.{_≡_}
-use mathlib.Core.Bool.{Bool, true, false, not, _&&_}
+use mathlib.Core.Bool.{Bool, true, false, _&&_, _||_}
 use mathlib.Core.List.{List, [], _∷_}
 use Prim.Native.Nat.{ℕ, zero, suc, _<_, _≤_}
 use lib.Dec.{leb, eqb}
@@ -53,10 +53,30 @@ longest r text = longestWithin r text (length text)
 
 -- ---- used bytes
 
--- The bytes that a rule uses (document 01, 'Used bytes and separators', sentence 1): those of the transitions that do not lead to the error
--- state.
+-- A byte that a rule uses (document 02, wish 5): it stands in some byte string that the rule matches.
+pub record Uses (r : Rule) (b : ℕ) : Type 0 where
+  pub text : List ℕ
+  pub bytes : All (λ (x : ℕ). x < 256) text
+  pub matched : matches r text ≡ true
+  pub inside : among b text ≡ true
+
+-- The same by computation, for a rule that a book may hold (proofs/Used.antt has it in both directions).
+
+-- by the transitions, any number of them, one gets from s to x; one that is taken more than once can be left out from its first to its last
+unfoldable pub leads : List Transition → ℕ → ℕ → Bool
+leads [] s x = eqb s x
+leads (t ∷ ts) s x = leads ts s x || leads ts s t.from && leads ts t.to x
+
+-- one gets from s to a final state
+abbrev pub ends : Rule → ℕ → Bool
+ends r s = any (leads r.transitions s) r.finals
+
+-- the transition covers b, from a state that the start leads to, to one that leads to a final state
+abbrev pub carries : Rule → ℕ → Transition → Bool
+carries r b t = covers t b && (leads r.transitions r.start t.from && ends r t.to)
+
 unfoldable pub used : Rule → ℕ → Bool
-used r b = any (λ (t : Transition). covers t b && not (eqb t.to r.error)) r.transitions
+used r b = any (carries r b) r.transitions
 
 -- ---- what the reading of a book sees to
 

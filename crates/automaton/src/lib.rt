@@ -9,7 +9,7 @@ ghost use mathlib.Core.Path.{_≡_};
 ghost use mathlib.Core.List.{List};
 ghost use lib.ListN.{length};
 ghost use Rattle.automaton.specs.Rule.{Rule};
-ghost use Rattle.automaton.specs.Contracts.{firstOf, endOf, startOf, bodyAt, Table, Tabled, Holds, Held, Ranks};
+ghost use Rattle.automaton.specs.Contracts.{firstOf, endOf, startOf, bodyAt, Spot, Table, Tabled, Holds, Held, Ranks};
 
 // A table has room for so many rules.
 pub const RULES: usize = 32;
@@ -42,20 +42,22 @@ pub fn kind_of(table: &[u64], rule: usize) -> u64
     table[rule + 1] / 65536 % 256
 }
 
-// The number of the error state.
-pub fn error_of(table: &[u64], rule: usize) -> u64
-    requires { ⌜ Tabled (now table) rule ⌝ }
-    ensures { λ r. ⌜ ((m : Rule) → Table (now (table .entry)) rule m → r ≡ m .error) ⌝ }
-{
-    table[rule + 1] % 65536
-}
-
 // What a walk asks of the start: the head of its chain and two bytes between which all lie that may come first.
 pub fn start_of(table: &[u64], rule: usize) -> u64
     requires { ⌜ Tabled (now table) rule ⌝ }
     ensures { λ r. ⌜ r ≡ startOf (bodyAt (now (table .entry)) rule) ⌝ }
 {
     table[rule + 33] / 4294967296
+}
+
+// The spot of the start.
+pub fn start_spot(table: &[u64], rule: usize) -> u64
+    requires { ⌜ Tabled (now table) rule ⌝ }
+    ensures { λ r. ⌜ ((m : Rule) → Table (now (table .entry)) rule m
+        → Spot (now (table .entry)) (firstOf (bodyAt (now (table .entry)) rule)) (endOf (bodyAt (now (table .entry)) rule))
+        (m .finals) (m .transitions) (m .start) r) ⌝ }
+{
+    start_of(table, rule) / 65536 * 65536 + table[rule + 1] % 65536 * 2
 }
 
 // The place of the rule's first transition, and the one behind its last.

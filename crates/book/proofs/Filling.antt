@@ -14,21 +14,11 @@ use Rattle.automaton.specs.Rule.{Transition, Rule, stateCount}
 use Rattle.automaton.specs.Contracts.{edgeStart, namePlace, bodyPlace, nameWord, bodyWord, startOf, firstOf, endOf, bareSpot, edgeWord}
 use Rattle.automaton.specs.Contracts.{startWord, countAt, nameAt, bodyAt, edgeAt}
 use Rattle.automaton.specs.Contracts.{stampAt, rowWord, headIn, cellAt, blank, ruleAt, Chain, Within, Table, Settles}
-use Rattle.automaton.proofs.Built.{built-edge, built-final, built-blank, built-start, built-body, built-order}
+use Rattle.automaton.proofs.Built.{stamp-set, built-edge, built-final, built-blank, built-start, built-body, built-order}
 use Rattle.automaton.proofs.Built.{Keeps, keeps-agrees, opens-agrees, body-keeps, table-keeps}
 use Rattle.book.specs.Limits.{maxRules}
 use Rattle.book.specs.Valid.{ValidRule}
 use Rattle.book.specs.Contracts.{Fresh, Stored}
-
--- one cell stored: the bound of the stamps
-stamp-set : (rows : List ℕ) (stamp j head mark : ℕ) → j < length rows → head * 2 + mark < 131072
-    → ((s : ℕ) → s < stateCount → stampAt rows s ≤ stamp)
-    → (s : ℕ) → s < stateCount → stampAt (set rows j (rowWord stamp head mark)) s ≤ stamp
-stamp-set rows stamp j head mark r l h s k = go (eqb s j) refl
-  where
-    go : (t : Bool) → eqb s j ≡ t → stampAt (set rows j (rowWord stamp head mark)) s ≤ stamp
-    go true e = rw (eqb-true s j e, getD-set-same rows j (rowWord stamp head mark) 0 r) (omega arith)
-    go false e = rw (getD-set-other rows j s (rowWord stamp head mark) 0 (eqb-false s j e)) (h s k)
 
 module _ {first end : ℕ} {tb rows : List ℕ} {rules : List Rule} {fs : List ℕ} {ts : List Transition}
     (st : Stored first end tb rows rules fs ts) where
@@ -98,7 +88,7 @@ module _ {first end : ℕ} {tb rows : List ℕ} {rules : List Rule} {fs : List �
     rule = length rules
 
     abbrev name : ℕ
-    name = nameWord r.tag r.kind r.error
+    name = nameWord r.tag r.kind r.start
 
     abbrev body : ℕ
     body = bodyWord (startWord (headIn rows stamp r.start) bytes) first end
@@ -190,10 +180,11 @@ module _ {first end : ℕ} {tb rows : List ℕ} {rules : List Rule} {fs : List �
           body = rw (body-here, first-here, end-here, same-finals, same-transitions)
               (body-keeps keeps (built-body (st .built) w (rw same-transitions at (v .sound .ranged))));
           sound = v .sound;
+          few = v .few;
         })
 
     pub stored-closed : Stored end end
-        (set (set (set middle (namePlace (length rules)) (nameWord r.tag r.kind r.error))
+        (set (set (set middle (namePlace (length rules)) (nameWord r.tag r.kind r.start))
         (bodyPlace (length rules)) (bodyWord (startWord (headIn rows (length rules + 1) r.start) bytes) first end)) 0 (length rules + 1))
         rows (rules ++ (r ∷ [])) [] []
     stored-closed =

@@ -11,10 +11,10 @@ use lib.ListN.{length, getD}
 use borrow.Author.Tests.{eqb-true, ltb-true}
 use Rattle.automaton.specs.Choice.{All, any}
 use Rattle.automaton.specs.Rule.{Transition, Rule, step, target}
-use Rattle.automaton.proofs.Tests.{or-false, and-true}
+use Rattle.automaton.proofs.Tests.{or-false, and-true, all-map}
 use Rattle.builtin.specs.Book.{builtinRules, timestamp, word, blanks, newline, bracket}
 use Rattle.builtin.specs.Classes.{classOf, tabulate, classTable, classAt, MovedAlike}
-use Rattle.builtin.proofs.Tests.{every, every-all, all-map, all-each, entries, entry}
+use Rattle.builtin.proofs.Tests.{every, every-all, all-each, entries, entry}
 
 -- ---- from every state
 
@@ -86,10 +86,10 @@ class-below b l = ltb-true _ _ (entry (λ a c. ltb c (length classBytes)) 0 clas
 -- so the byte of its class stands for every byte
 pub by-class : (b : ℕ) → b < 256 → All (λ (r : Rule). (s : ℕ) → step r s b ≡ step r s (byteOf (classAt b))) builtinRules
 by-class b l =
-    all-map _ _ builtinRules (λ r h. alike-step b (byteOf (classAt b)) r h)
+    all-map _ _ (λ r h. alike-step b (byteOf (classAt b)) r h) builtinRules
     (every-all (alike b (byteOf (classAt b))) builtinRules (entry (λ a c. every (alike a (byteOf c)) builtinRules) 0 classTable test b
     (rw length-classes l)))
 
 pub moved-alike : MovedAlike
-moved-alike = all-map _ _ builtinRules (λ r h s a b l m e. h a l s ∙ ap (λ (c : ℕ). step r s (byteOf c)) e
-    ∙ sym (h b m s)) (all-each _ builtinRules by-class)
+moved-alike = all-map _ _ (λ r h s a b l m e. h a l s ∙ ap (λ (c : ℕ). step r s (byteOf c)) e ∙ sym (h b m s))
+    builtinRules (all-each _ builtinRules by-class)

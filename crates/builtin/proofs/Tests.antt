@@ -17,10 +17,6 @@ pub every-all : {A : Type 0} (f : A → Bool) (xs : List A) → every f xs ≡ t
 every-all f [] e = tt
 every-all f (x ∷ xs) e = let p = and-true (f x) (every f xs) e in (p .0, every-all f xs (p .1))
 
-pub all-map : {A : Type 0} (P Q : A → Type 0) (xs : List A) → ((x : A) → P x → Q x) → All P xs → All Q xs
-all-map P Q [] g h = tt
-all-map P Q (x ∷ xs) g (p, h) = (g x p, all-map P Q xs g h)
-
 -- what each byte shows of all elements, each element shows of all bytes
 pub all-each : {A : Type 0} (P : ℕ → A → Type 0) (xs : List A) → ((b : ℕ) → b < 256 → All (P b) xs)
     → All (λ (x : A). (b : ℕ) → b < 256 → P b x) xs

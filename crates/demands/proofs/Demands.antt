@@ -11,7 +11,7 @@ use borrow.Author.Tests.{leb-false}
 use lib.Dec.{leb}
 use Rattle.automaton.specs.Choice.{any}
 use Rattle.automaton.specs.Rule.{Rule}
-use Rattle.automaton.proofs.Tests.{clash, or-false}
+use Rattle.automaton.proofs.Tests.{clash, or-false, all-map}
 use Rattle.automaton.proofs.Used.{start-in-error as error-matches-nothing}
 use Rattle.book.specs.Valid.{Valid, ValidRule}
 use Rattle.book.specs.Limits.{maxText}
@@ -31,7 +31,6 @@ use Rattle.printer.proofs.RoundTrip.{equal-lists, accepts-printable, output-cut
 use Rattle.spacing.specs.Separators.{dropSeparators, spelled}
 use Rattle.record.specs.declared.TokenRecord.{TokenRecord}
 use Rattle.separated.proofs.RoundTrip.{spelled-rest, spelled-back, spelled-injective}
-use Rattle.separated.proofs.Sides.{all-map}
 use Rattle.separated.proofs.Modes.{zero-outcome}
 use Rattle.builtin.specs.Book.{builtinBytes, builtinRules}
 use Rattle.builtin.proofs.Accepted.{read-builtin}
@@ -216,7 +215,7 @@ module _ (book : List ℕ) (rules : List Rule) (b : Book book rules) where
   pub spacing-accepts : SpacingAccepts book rules
   spacing-accepts sep mode records pool entry exit r c u =
       let w = spelled rules sep mode records pool in
-      let o = unrefused-outcome book rules (b .reads) sep mode records pool entry u in
+      let o = unrefused-outcome book rules (b .reads) sep mode records pool entry (valid .rules-valid .each) u in
       (c .answers ∙ rw o, ap (take (length w)) (c .leaves) ∙ rw o (take-append-seam w (drop (length w) entry)))
 
   -- an accepted call
@@ -224,7 +223,7 @@ module _ (book : List ℕ) (rules : List Rule) (b : Book book rules) where
       → Space book sep mode records pool entry exit (print.Printed n)
       → Unrefused rules sep mode records pool entry × (take n exit ≡ spelled rules sep mode records pool)
   unrefused {sep} {mode} {records} {pool} {entry} {exit} {n} c =
-      let a = printed-unrefused book rules (b .reads) sep mode records pool entry n (sym (c .answers)) in
+      let a = printed-unrefused book rules (b .reads) sep mode records pool entry (valid .rules-valid .each) n (sym (c .answers)) in
       (a .0, rw (a .1) (spacing-accepts sep mode records pool entry exit (print.Printed n) c (a .0) .1))
 
   pub spacing-accepts-no-other : SpacingAcceptsNoOther book rules
@@ -234,13 +233,14 @@ module _ (book : List ℕ) (rules : List Rule) (b : Book book rules) where
   spacing-equal-lists mode sep records pool entry exit n c sep₁ records₁ pool₁ entry₁ exit₁ n₁ c₁ same =
       let x = unrefused c in
       let y = unrefused c₁ in
-      rw (x .1, y .1) (spelled-injective (valid .rules-valid) (unrefused-passes (x .0)) (unrefused-passes (y .0)) same)
+      let v = valid .rules-valid in
+      rw (x .1, y .1) (spelled-injective v (unrefused-passes (v .each) (x .0)) (unrefused-passes (v .each) (y .0)) same)
 
   pub spacing-cuts-back : SpacingCutsBack book rules
   spacing-cuts-back sep mode records pool entry exit n c g room stored r d enough =
       let x = unrefused c in
       let w = x .1 in
-      let p = unrefused-passes (x .0) in
+      let p = unrefused-passes (valid .rules-valid .each) (x .0) in
       let short : length (take n exit) ≤ maxText = rw w (x .0 .not-20) in
       let rest : (lex rules (take n exit)) .rest ≡ [] = rw w (spelled-rest (valid .rules-valid) p) in
       let z : length (take n exit) - length ((lex rules (take n exit)) .rest) ≡ length (take n exit) = rw rest (omega arith) in

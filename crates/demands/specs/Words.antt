@@ -5,7 +5,7 @@ use mathlib.Core.List.{List, [], _∷_, _++_}
 use Prim.Native.Nat.{ℕ, _+_, _<_, _≤_}
 use lib.ListN.{length, take, drop}
 use Rattle.automaton.specs.Choice.{All}
-use Rattle.automaton.specs.Rule.{Rule, matches}
+use Rattle.automaton.specs.Rule.{Rule, matches, Uses}
 use Rattle.book.specs.Draft.{tagged}
 use Rattle.book.specs.Limits.{maxText, maxTokens}
 use Rattle.reader.specs.Reading.{accepted, readBook}
@@ -15,7 +15,6 @@ use Rattle.record.specs.Tokens.{recordsOf, bytesIn, InPool}
 use Rattle.record.specs.declared.TokenRecord.{TokenRecord}
 use Rattle.token_list.specs.Faults.{aloneIn}
 use Rattle.used_bytes.specs.Kinds.{plainKind, separatorKind, separates}
-use Rattle.used_bytes.specs.Bytes.{usedByKind}
 use Rattle.spacing.specs.Separators.{spelled}
 use Rattle.demands.specs.Calls.{Form, Lent, countIn, structsIn, listIn}
 
@@ -80,9 +79,13 @@ pub record FitPlain (rules : List Rule) (pool : List ℕ) (r : TokenRecord) : Ty
   pub fit : Fit rules pool r
   pub not-26 : separates rules (r .tag) ≡ false
 
+-- no rule of the kind uses the byte (document 02, wish 5)
+abbrev pub Unused : ℕ → List Rule → ℕ → Type 0
+Unused kind rules b = All (λ (r : Rule). r.kind ≡ kind → Uses r b → ⊥) rules
+
 -- a call of the spacing printer that meets none of its refusals
 pub record Unrefused (rules : List Rule) (sep : TokenRecord) (mode : ℕ) (records pool out : List ℕ) : Type 0 where
-  pub not-23 : (b : ℕ) → b < 256 → usedByKind plainKind rules b ≡ true → usedByKind separatorKind rules b ≡ true → ⊥
+  pub not-23 : (b : ℕ) → All (λ (p : Rule). p.kind ≡ plainKind → Uses p b → Unused separatorKind rules b) rules
   pub not-24 : mode ≤ 2
   pub separator : FitSeparator rules pool sep
   pub not-16 : recordCount records ≤ maxTokens

@@ -1,6 +1,6 @@
 -- Every example of the table is right, by computation. Assumes nothing.
 use mathlib.Core.Path.{refl}
-use Rattle.automaton.specs.Rule.{target, walk, matches, overlaps, used}
+use Rattle.automaton.specs.Rule.{target, walk, matches, overlaps, leads, used}
 use Rattle.command.specs.Commands.{placed, operandsOf, decode, commandAt}
 use Rattle.book.specs.Draft.{check, move, apply}
 use Rattle.reader.specs.Reading.{readFrom, readBook}
@@ -27,6 +27,6 @@ unfolding table target walk matches overlaps placed operandsOf decode commandAt 
     decimalFor decimal lastTwo tokenLine restLine refusedLine recordLine recordLines listing
     extends recordAt recordsFrom recordsOf tokensIn aloneIn faultOf refuse refuseBy firstFault firstExtended
     print.refusedIf print.unless print.printChecked print.printRules printOutcome
-    used usedByKind shared lowestFrom sharedByte separates meaning follows separated
+    leads used usedByKind shared lowestFrom sharedByte separates meaning follows separated
     orElse separatorFault plainFault sharing listRefusal separatedRefusal writing separatedRules separatedOutcome
 examples = (refl, (refl, (refl, (refl, (refl, (refl, (refl, (refl, (refl, (refl, (refl, (refl, (refl, (refl, (refl, tt)))))))))))))))

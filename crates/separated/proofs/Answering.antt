@@ -15,6 +15,7 @@ use Rattle.answer.specs.declared.BookAnswer.{BookAnswer}
 use Rattle.answer.specs.declared.PrintAnswer.{PrintAnswer}
 use Rattle.automaton.specs.Rule.{Rule}
 use Rattle.automaton.specs.Contracts.{Holds}
+use Rattle.automaton.proofs.Tests.{all-map}
 use Rattle.book.specs.Limits.{maxText}
 use Rattle.reader.specs.Contracts.{Loaded}
 use Rattle.record.specs.declared.TokenRecord.{TokenRecord}
@@ -31,7 +32,6 @@ use Rattle.token_list.specs.Contracts.{checkedOf}
 use Rattle.separated.specs.Refusals.{separatedRefusal}
 use Rattle.separated.specs.Contracts.{Passed, Roomy}
 use Rattle.separated.specs.Outcome.{writing, separatedRules, separatedOutcome}
-use Rattle.separated.proofs.Sides.{all-map}
 use Rattle.separated.proofs.Unrefused.{CallPasses, passes}
 use Rattle.answer.specs.declared.BookAnswer.the-variants as book
 use Rattle.answer.specs.declared.PrintAnswer.the-variants as print

@@ -9,7 +9,7 @@ use lib.Dec.{eqb}
 use borrow.Author.Tests.{eqb-true, eqb-false, eq-eqb, ne-eqb}
 use Rattle.automaton.specs.Choice.{All, any}
 use Rattle.automaton.specs.Rule.{Rule, used, Sound, stateCount}
-use Rattle.automaton.proofs.Tests.{clash, or-none, or-true}
+use Rattle.automaton.proofs.Tests.{clash, or-none, or-true, all-map}
 use Rattle.automaton.proofs.Used.{uses-all, used-byte}
 use Rattle.book.specs.Valid.{ValidRule, Distinct, ValidRules}
 use Rattle.longest_match.specs.Lexer.{Token, isSome, firstMatch, Alone}
@@ -22,10 +22,6 @@ use Rattle.used_bytes.specs.Bytes.{usedByKind, shared}
 pub all-right : {A : Type 0} (P : A → Type 0) (xs ys : List A) → All P (xs ++ ys) → All P ys
 all-right P [] ys h = h
 all-right P (x ∷ xs) ys h = all-right P xs ys (h .1)
-
-pub all-map : {A : Type 0} (P Q : A → Type 0) → ((a : A) → P a → Q a) → (xs : List A) → All P xs → All Q xs
-all-map P Q f [] h = tt
-all-map P Q f (x ∷ xs) (p, h) = (f x p, all-map P Q f xs h)
 
 any-middle : {A : Type 0} (f : A → Bool) (xs : List A) (x : A) (ys : List A) → f x ≡ true → any f (xs ++ x ∷ ys) ≡ true
 any-middle f [] x ys e = rw e

@@ -11,7 +11,7 @@ use borrow.Author.Tests.{le-ltb, ltb-false, eqb-true, eqb-false}
 use Rattle.answer.specs.declared.Refusal.{Refusal}
 use Rattle.automaton.specs.Choice.{if, All}
 use Rattle.automaton.specs.Rule.{Rule}
-use Rattle.automaton.proofs.Tests.{clash}
+use Rattle.automaton.proofs.Tests.{clash, all-map}
 use Rattle.book.specs.Limits.{maxText, maxTokens}
 use Rattle.reader.specs.Reading.{accepted, readBook}
 use Rattle.longest_match.specs.Lexer.{or}
@@ -29,7 +29,6 @@ use Rattle.used_bytes.specs.Bytes.{lowestFrom, shared, sharedByte}
 use Rattle.spacing.specs.Separators.{spelled}
 use Rattle.separated.specs.Refusals.{orElse, separatorFault, plainFault, sharing, listRefusal, separatedRefusal}
 use Rattle.separated.specs.Outcome.{writing, separatedRules, separatedOutcome}
-use Rattle.separated.proofs.Sides.{all-map}
 use Rattle.answer.specs.declared.PrintAnswer.the-variants as answer
 
 -- ---- the lowest byte

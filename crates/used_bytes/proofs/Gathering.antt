@@ -1,7 +1,7 @@
--- The used bytes of a rule from its transitions, and those of the rules of a kind: what holds at the head of each loop. Only this file
--- opens `used`. Assumes nothing.
-use mathlib.Core.Path.{_≡_, refl, sym, ap, _∙_}
-use mathlib.Core.Bool.{Bool, true, false, not, _&&_, _||_}
+-- The bytes that rules of a kind cover and use: what holds at the head of each loop. Assumes nothing.
+use mathlib.Core.Path.{_≡_, refl, ap, _∙_}
+use mathlib.Core.Bool.{Bool, true, false, _&&_, _||_}
+use mathlib.Core.Option.{none}
 use mathlib.Core.List.{List, [], _∷_}
 use Prim.Native.Nat.{ℕ, zero, suc, _+_, _-_, _≤_, _<_}
 use native.Mathlib.Omega.{arith}
@@ -9,82 +9,114 @@ use native.Mathlib.Numerals.{add-one}
 use lib.Dec.{eqb}
 use lib.ListN.{length, getD, take}
 use lib.Seq.{take-all}
-use borrow.Author.Tests.{eq-eqb, ne-eqb}
+use borrow.Author.Count.{below-more}
+use borrow.Author.Tests.{eqb-true}
 use Rattle.automaton.specs.Choice.{any}
 use Rattle.automaton.specs.Rule.{Transition, Rule, covers, used}
-use Rattle.automaton.specs.Contracts.{lowOf, highOf, toOf, edgeAt, bodyAt, firstOf, endOf, Edge, Listed, Table, ruleAt}
-use Rattle.automaton.proofs.Tests.{or-none, and-false-right}
+use Rattle.automaton.specs.Contracts.{lowOf, highOf, edgeAt, bodyAt, firstOf, endOf, Listed, Table, blank, ruleAt}
+use Rattle.automaton.proofs.Tests.{clash, or-true, or-none, and-true, all-of, any-some, any-map}
 use Rattle.used_bytes.specs.Kinds.{plainKind, separatorKind}
-use Rattle.used_bytes.specs.Contracts.{between}
+use Rattle.used_bytes.specs.Contracts.{Ranged, someBelow, MarksAll, Covers}
 use Rattle.used_bytes.specs.Bytes.{lowestFrom, usedByKind, shared, sharedByte}
+use Rattle.used_bytes.proofs.Marking.{not-from, some-not}
+use Rattle.used_bytes.proofs.States.{or-swap}
 
--- ---- one rule
+-- ---- covered bytes
 
--- the transition covers the byte and does not lead to the error state
-abbrev leads : ℕ → ℕ → Transition → Bool
-leads error b t = covers t b && not (eqb t.to error)
-
--- the transitions left, from `first` to before `at`, and the marks together have what the rule uses
-pub record Gathering (tb : List ℕ) (first at : ℕ) (r : Rule) (marks : List Bool) : Type 0 where
+-- the transitions left, from `first` to before `at`, and the marks together cover what all of them and the old marks do
+pub record Covering (tb : List ℕ) (first : ℕ) (ts : List Transition) (before : List Bool) (at : ℕ) (set : List Bool) : Type 0 where
   pub left : List Transition
   pub listed : Listed tb first at left
-  pub same : (b : ℕ) → b < 256 → any (leads r.error b) left || getD marks b false ≡ used r b
+  pub size : length set ≡ 256
+  pub marks : (b : ℕ) → b < 256 → any (λ (t : Transition). covers t b) left || getD set b false
+      ≡ any (λ (t : Transition). covers t b) ts || getD before b false
 
-pub gathering-start : {tb : List ℕ} {k first at : ℕ} {r : Rule} → Table tb k r → first ≡ firstOf (bodyAt tb k) → at ≡ endOf (bodyAt tb k)
-    → (marks : List Bool) → ((b : ℕ) → getD marks b false ≡ false) → Gathering tb first at r marks
-unfolding used
-gathering-start {r = r} table f e marks h =
-    record {
-      left = r.transitions;
-      listed = rw (f, e) (table .body .listed);
-      same = λ b l. rw (h b)
-          (or-none (any (leads r.error b) r.transitions));
-    }
+pub covering-start : {tb : List ℕ} {k first at : ℕ} {r : Rule} → Table tb k r → first ≡ firstOf (bodyAt tb k) → at ≡ endOf (bodyAt tb k)
+    → {set : List Bool} → length set ≡ 256 → Covering tb first r.transitions set at set
+covering-start {r = r} t f e z = record { left = r.transitions; listed = rw (f, e) (t .body .listed); size = z; marks = λ b l. refl }
 
-module _ {tb : List ℕ} {first at : ℕ} {r : Rule} {marks : List Bool} (w : Gathering tb first at r marks) where
-  pub gathering-room : first < at → at - 1 < length tb
-  gathering-room l = go (w .left) (w .listed)
+module _ {tb : List ℕ} {first : ℕ} {ts : List Transition} {before : List Bool} {at : ℕ} {set : List Bool}
+    (w : Covering tb first ts before at set) where
+  pub covering-room : first < at → at - 1 < length tb
+  covering-room l = go (w .left) (w .listed)
     where
-      go : (ts : List Transition) → Listed tb first at ts → at - 1 < length tb
+      go : (us : List Transition) → Listed tb first at us → at - 1 < length tb
       go [] c = absurd (omega arith)
-      go (t ∷ ts) (p, e, c) = e .room
+      go (u ∷ us) (p, e, c) = e .room
 
-  -- past a transition, with what it adds
-  gathering-next : {next : List Bool} → first < at → ((t : Transition) (us : List Transition) → Edge tb (at - 1) t → (b : ℕ) → b < 256
-      → any (leads r.error b) us || getD next b false ≡ any (leads r.error b) (t ∷ us) || getD marks b false)
-      → Gathering tb first (at - 1) r next
-  gathering-next {next} l h = go (w .left) (w .listed) (w .same)
+  pub covering-next : {low high : ℕ} {next : List Bool} → first < at → low ≡ lowOf (edgeAt tb (at - 1)) → high ≡ highOf (edgeAt tb (at - 1))
+      → Ranged low high set next → Covering tb first ts before (at - 1) next
+  covering-next {next = next} l p q m = go (w .left) (w .listed) (w .marks)
     where
-      go : (ts : List Transition) → Listed tb first at ts → ((b : ℕ) → b < 256 → any (leads r.error b) ts || getD marks b false ≡ used r b)
-          → Gathering tb first (at - 1) r next
-      go [] c s = absurd (omega arith)
-      go (t ∷ us) (p, e, c) s = record { left = us; listed = c; same = λ b q. h t us e b q ∙ s b q }
+      go : (us : List Transition) → Listed tb first at us → ((b : ℕ) → b < 256 → any (λ (t : Transition). covers t b) us || getD set b false
+          ≡ any (λ (t : Transition). covers t b) ts || getD before b false) → Covering tb first ts before (at - 1) next
+      go [] c k = absurd (omega arith)
+      go (u ∷ us) (i, e, c) k =
+          record {
+            left = us;
+            listed = c;
+            size = m .size;
+            marks = λ b j. rw (m .marks b, p, q, e .low, e .high)
+                (or-swap (covers u b) (any (λ (t : Transition). covers t b) us) (getD set b false) ∙ k b j);
+          }
 
-  -- one to the error state
-  pub gathering-pass : first < at → toOf (edgeAt tb (at - 1)) ≡ r.error → Gathering tb first (at - 1) r marks
-  gathering-pass l z = gathering-next l (λ t us e b q. rw (eq-eqb t.to r.error (sym (e .to) ∙ z), and-false-right))
-
-  -- one whose range is marked
-  pub gathering-mark : {next : List Bool} → first < at → (toOf (edgeAt tb (at - 1)) ≡ r.error → ⊥)
-      → ((b : ℕ) → b < 256 → getD next b false ≡ between (lowOf (edgeAt tb (at - 1))) (highOf (edgeAt tb (at - 1))) b || getD marks b false)
-      → Gathering tb first (at - 1) r next
-  gathering-mark l ne m = gathering-next l
-      (λ t us e b q. rw (m b q, e .low, e .high, ne-eqb t.to r.error (λ z. ne (e .to ∙ z)))
-      (swap (covers t b) (any (leads r.error b) us) (getD marks b false)))
+  pub covering-end : at ≤ first → MarksAll ts before set
+  covering-end l = go (w .left) (w .listed) (w .marks)
     where
-      swap : (x y z : Bool) → y || (x || z) ≡ (x && true || y) || z
-      swap true true z = refl
-      swap true false z = refl
-      swap false true z = refl
-      swap false false z = refl
+      go : (us : List Transition) → Listed tb first at us → ((b : ℕ) → b < 256 → any (λ (t : Transition). covers t b) us || getD set b false
+          ≡ any (λ (t : Transition). covers t b) ts || getD before b false) → MarksAll ts before set
+      go [] c k = record { size = w .size; marks = k }
+      go (u ∷ us) (i, e, c) k = absurd (omega arith)
 
-  pub gathering-end : at ≤ first → (b : ℕ) → b < 256 → getD marks b false ≡ used r b
-  gathering-end l b q = go (w .left) (w .listed) (w .same b q)
-    where
-      go : (ts : List Transition) → Listed tb first at ts → any (leads r.error b) ts || getD marks b false ≡ used r b
-          → getD marks b false ≡ used r b
-      go [] c s = s
-      go (t ∷ us) (p, e, c) s = absurd (omega arith)
+-- what a rule uses it covers
+used-covered : (r : Rule) (b : ℕ) → used r b ≡ true → any (λ (t : Transition). covers t b) r.transitions ≡ true
+unfolding used
+used-covered r b = any-map _ (λ (t : Transition). covers t b) (λ t e. and-true (covers t b) _ e .0) r.transitions
+
+pub covers-start : (rules : List Rule) (kind : ℕ) (set : List Bool) → length set ≡ 256 → Covers rules kind 0 set
+covers-start rules kind set z = record { size = z; marks = λ k l. absurd (omega arith) }
+
+module _ {rules : List Rule} {kind n : ℕ} {set : List Bool} (w : Covers rules kind n set) where
+  pub covers-with : {set₁ : List Bool} → MarksAll ((ruleAt rules n) .transitions) set set₁ → Covers rules kind (n + 1) set₁
+  covers-with {set₁} m =
+      record {
+        size = m .size;
+        marks = below-more (λ (k : ℕ). (ruleAt rules k) .kind ≡ kind → (b : ℕ) → b < 256 → used (ruleAt rules k) b ≡ true
+            → getD set₁ b false ≡ true) n
+            (λ k l e b j u. m .marks b j ∙ rw (w .marks k l e b j u, or-true))
+            (λ e b j u. m .marks b j ∙ rw (used-covered (ruleAt rules n) b u));
+      }
+
+  pub covers-without : ((ruleAt rules n) .kind ≡ kind → ⊥) → Covers rules kind (n + 1) set
+  covers-without ne =
+      record {
+        size = w .size;
+        marks = below-more (λ (k : ℕ). (ruleAt rules k) .kind ≡ kind → (b : ℕ) → b < 256 → used (ruleAt rules k) b ≡ true
+            → getD set b false ≡ true) n (w .marks) (λ e. absurd (ne e));
+      }
+
+covered : (rules : List Rule) (kind : ℕ) {set : List Bool} → Covers rules kind (length rules) set → (b : ℕ) → b < 256
+    → usedByKind kind rules b ≡ true → getD set b false ≡ true
+unfolding usedByKind
+covered rules kind w b l = any-some (λ (r : Rule). eqb r.kind kind && used r b) rules
+    (all-of (λ (r : Rule). eqb r.kind kind && used r b ≡ true → _) rules blank
+    (λ k j e. let a = and-true (eqb ((ruleAt rules k) .kind) kind) _ e in w .marks k j (eqb-true _ _ (a .0)) b l (a .1)))
+
+-- where no byte is covered by both kinds none is shared
+pub covers-apart : (rules : List Rule) {plain separators : List Bool} → Covers rules plainKind (length rules) plain
+    → Covers rules separatorKind (length rules) separators
+    → someBelow (λ (b : ℕ). getD plain b false && getD separators b false) 256 ≡ false → sharedByte rules ≡ none
+unfolding sharedByte shared
+covers-apart rules {plain} {separators} p s e =
+    not-from (shared rules) 0 256 (λ b l. go b l (usedByKind plainKind rules b) refl (usedByKind separatorKind rules b) refl)
+  where
+    go : (b : ℕ) → b < 256 → (x : Bool) → usedByKind plainKind rules b ≡ x → (y : Bool) → usedByKind separatorKind rules b ≡ y
+        → x && y ≡ false
+    go b l true q true r =
+        clash (rw (covered rules plainKind p b l q, covered rules separatorKind s b l r))
+        (some-not (λ (b : ℕ). getD plain b false && getD separators b false) 256 e b l)
+    go b l true q false r = refl
+    go b l false q y r = refl
 
 -- ---- the rules of a kind
 
@@ -106,33 +138,16 @@ any-more f (r ∷ rs) (suc k) l = rw (any-more f rs k (omega arith)) (or-assoc (
     or-assoc true y z = refl
     or-assoc false y z = refl
 
-module _ {rules : List Rule} {kind k : ℕ} {marks : List Bool} (w : Kinds rules kind k marks) (l : k < length rules) where
-  pub kinds-join : {next : List Bool} → (ruleAt rules k) .kind ≡ kind
-      → ((b : ℕ) → b < 256 → getD next b false ≡ getD marks b false || used (ruleAt rules k) b) → Kinds rules kind (k + 1) next
-  unfolding usedByKind
-  kinds-join e m =
-      record {
-        same = λ b p.
-            m b p ∙ rw (
-              add-one,
-              any-more (λ (r : Rule). eqb r.kind kind && used r b) rules k l,
-              eq-eqb ((ruleAt rules k) .kind) kind e,
-              w .same b p,
-            );
-      }
-
-  pub kinds-pass : ((ruleAt rules k) .kind ≡ kind → ⊥) → Kinds rules kind (k + 1) marks
-  unfolding usedByKind
-  kinds-pass ne =
-      record {
-        same = λ b p.
-            w .same b p ∙ rw (
-              add-one,
-              any-more (λ (r : Rule). eqb r.kind kind && used r b) rules k l,
-              ne-eqb ((ruleAt rules k) .kind) kind ne,
-              or-none,
-            );
-      }
+pub kinds-next : {rules : List Rule} {kind k : ℕ} {marks next : List Bool} → Kinds rules kind k marks → k < length rules
+    → (of : ℕ) → of ≡ (ruleAt rules k) .kind
+    → ((b : ℕ) → b < 256 → getD next b false ≡ getD marks b false || eqb of kind && used (ruleAt rules k) b)
+    → Kinds rules kind (k + 1) next
+unfolding usedByKind
+kinds-next {rules} {kind} {k} w l of e m =
+    record {
+      same = λ b p.
+          m b p ∙ rw (add-one, any-more (λ (r : Rule). eqb r.kind kind && used r b) rules k l, w .same b p, e);
+    }
 
 pub kinds-end : {rules : List Rule} {kind k : ℕ} {marks : List Bool} → Kinds rules kind k marks → length rules ≤ k
     → (b : ℕ) → b < 256 → getD marks b false ≡ usedByKind kind rules b

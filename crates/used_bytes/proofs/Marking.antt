@@ -11,7 +11,8 @@ use lib.Dec.{leb, eqb}
 use lib.ListN.{length, getD, set, replicate, length-set}
 use lib.Seq.{getD-set-same, getD-set-other}
 use borrow.Author.Tests.{leb-true, leb-false, eqb-true, eqb-false}
-use Rattle.used_bytes.specs.Contracts.{Ranged}
+use Rattle.automaton.proofs.Tests.{or-false}
+use Rattle.used_bytes.specs.Contracts.{Ranged, someBelow}
 use Rattle.used_bytes.specs.Bytes.{lowestFrom}
 
 -- no marks
@@ -95,3 +96,30 @@ module _ {f : ℕ → Bool} {n b : ℕ} (w : Seeking f n b) where
   pub seeking-end : n ≤ b → lowestFrom f 0 n ≡ none
   unfolding lowestFrom
   seeking-end l = let q : n - b ≡ 0 = omega arith in w .lowest ∙ rw q
+
+-- ---- whether there is one
+
+pub some-none : (f : ℕ → Bool) → false ≡ someBelow f 0
+unfolding someBelow
+some-none f = refl
+
+pub some-next : (f : ℕ → Bool) (b : ℕ) {common : Bool} → common ≡ someBelow f b → common || f b ≡ someBelow f (b + 1)
+unfolding someBelow
+some-next f b e = rw (e, add-one)
+
+pub some-not : (f : ℕ → Bool) (n : ℕ) → someBelow f n ≡ false → (b : ℕ) → b < n → f b ≡ false
+unfolding someBelow
+some-not f zero e b l = absurd (omega arith)
+some-not f (suc n) e b l = go (eqb b n) refl (some-not f n (or-false (someBelow f n) (f n) e .0) b)
+  where
+    go : (c : Bool) → eqb b n ≡ c → (b < n → f b ≡ false) → f b ≡ false
+    go true q ih = let y : b ≡ n = eqb-true b n q in rw y (or-false (someBelow f n) (f n) e .1)
+    go false q ih = let y = eqb-false b n q in ih (omega arith)
+
+pub not-from : (f : ℕ → Bool) (b n : ℕ) → ((x : ℕ) → x < b + n → f x ≡ false) → lowestFrom f b n ≡ none
+unfolding lowestFrom
+not-from f b zero h = refl
+not-from f b (suc n) h = rw (h b (omega arith), not-from f (suc b) n (λ x l. h x (omega arith)))
+
+pub lowest-none : (f : ℕ → Bool) (n : ℕ) → someBelow f n ≡ false → lowestFrom f 0 n ≡ none
+lowest-none f n e = not-from f 0 n (λ x l. some-not f n e x (omega arith))

@@ -16,7 +16,7 @@ use Rattle.answer.specs.declared.LexAnswer.{LexAnswer}
 use Rattle.answer.specs.declared.PrintAnswer.{PrintAnswer}
 use Rattle.automaton.specs.Choice.{if, All, any, among}
 use Rattle.automaton.specs.Rule.{Transition, Rule, overlaps}
-use Rattle.automaton.proofs.Tests.{clash}
+use Rattle.automaton.proofs.Tests.{clash, all-map}
 use Rattle.command.specs.declared.Command.{Command}
 use Rattle.command.specs.declared.Command.the-variants.{Rule as RULE, Start, Error, Final, Step, Span, Close, End}
 use Rattle.command.specs.declared.Decoded.{Decoded}
@@ -42,7 +42,6 @@ use Rattle.used_bytes.specs.Bytes.{lowestFrom, shared, sharedByte}
 use Rattle.spacing.specs.Separators.{spelled}
 use Rattle.separated.specs.Refusals.{orElse, separatorFault, plainFault, sharing, listRefusal, separatedRefusal}
 use Rattle.separated.specs.Outcome.{writing, separatedRules, separatedReading, separatedOutcome}
-use Rattle.separated.proofs.Sides.{all-map}
 use Rattle.zagvulem.specs.Numbers.{bookNumbers, ruleNumbers, lexNumbers, printNumbers, separatedNumbers, Refused}
 use Rattle.answer.specs.declared.BookAnswer.the-variants as books
 use Rattle.answer.specs.declared.RuleAnswer.the-variants as ruled

@@ -5,7 +5,7 @@ use Prim.Native.Nat.{ℕ, _-_}
 use native.Mathlib.Omega.{arith}
 use borrow.Author.Needs.{needs}
 use Rattle.used_bytes.specs.Contracts.{mark}
-use Rattle.used_bytes.proofs.Marking.{Filling, filling-start, filling-next}
+use Rattle.used_bytes.proofs.Marking.{Filling, filling-next, filling-start}
 use Rattle.used_bytes.proofs.byteset.ByteSet.joined.Statement.{statement}
 use Rattle.used_bytes.proofs.byteset.ByteSet.joined.Tie as tie
 
