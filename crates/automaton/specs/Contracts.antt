@@ -10,8 +10,9 @@ use Rattle.automaton.specs.Rule.{stateCount, Transition, Rule, covers, S
 use Rattle.automaton.specs.Choice.{if, All, among}
 
 -- ---- How one slice of words, the table, holds the rules of a book.
--- Word 0 is the number of rules. Two words for each rule follow, its name (tag, kind and the number of its start) and its body (what a walk asks of its
--- start, and where the words of its transitions lie), with room for `ruleRoom` rules; then a word for each transition, rule by rule.
+-- Word 0 is the number of rules. Two words for each rule follow, its name (tag, kind and the number of its start) and its body (what a walk
+-- asks of its start, and where the words of its transitions lie), with room for `ruleRoom` rules; then a word for each transition, rule by
+-- rule.
 -- A spot is what is kept of a state: its number, the head of the chain of the transitions that leave it, and whether it is final.
 -- Of the start, which is not final, the head is kept, and two bytes between which all lie that these transitions cover.
 -- The word of a transition has the spot to which it leads and the next link of its chain. A link is 0 for none, else the place of a
