@@ -10,6 +10,7 @@ use crate::reference::{Move, BOOK_BYTES, RULE_MOVES};
 pub fn branches(add: Add) {
     pairs(add);
     neighbours(add);
+    spans(add);
     among_many(add);
     before_the_list(add);
     places(add);
@@ -67,6 +68,11 @@ fn used(o: u8, x: u8) -> Vec<Shape> {
         s("behind one branch", &[o, o, x], &[5], &[(0, o, 1), (0, p, 2), (1, o, 3), (2, o, 4), (3, x, 5), (4, o, 5)]),
         s("behind the other", &[o, o, o], &[5], &[(0, o, 1), (0, p, 2), (1, o, 3), (2, o, 4), (3, o, 5), (4, x, 5)]),
         s("a way that has a dead end", &[x, o], &[2], &[(0, x, 1), (1, o, 2), (1, x, 5), (5, x, 5)]),
+        s("the longer way to the final state", &[o], &[1], &[(0, o, 1), (0, p, 2), (2, x, 1)]),
+        s("the longer way, written first", &[o], &[1], &[(0, p, 2), (0, o, 1), (2, x, 1)]),
+        s("from behind the final state back to it", &[o], &[1], &[(0, o, 1), (1, o, 2), (2, x, 1)]),
+        s("a round behind the final state", &[o], &[1], &[(0, o, 1), (1, o, 2), (2, o, 3), (2, p, 1), (3, x, 2)]),
+        s("a round on a round", &[o, o], &[4], &[(0, o, 1), (1, o, 4), (1, p, 2), (2, o, 3), (2, p, 1), (3, x, 2)]),
     ]
 }
 
@@ -200,7 +206,29 @@ fn neighbours(add: Add) {
     }
 }
 
-/// The same in one of 32 rules, the first, the last or one between them, the others with each of the states on a way.
+/// A SPAN in each place: the bytes from its low to its high one are used, and those beside it are not.
+fn spans(add: Add) {
+    for (kind, own) in [(0, PLAIN), (1, BLANK)] {
+        for (i, one) in shapes(own, X).iter().enumerate() {
+            for (low, high) in [(X - 1, X), (X, X + 1), (X - 1, X + 1), (X - 8, X + 2)] {
+                let mut rule = named(&one.rule, 3, kind);
+                rule.moves.iter_mut().filter(|m| m.1 == X).for_each(|m| (m.1, m.2) = (low, high));
+                if i % 2 == 1 {
+                    rule = turned(rule);
+                }
+                for byte in [low - 1, low, X, high, high + 1] {
+                    let used = one.uses && low <= byte && byte <= high;
+                    let name = format!("a SPAN from {low:02X} to {high:02X} and the byte {byte:02X}: {}", one.name);
+                    let other = letter(4, 1 - kind, byte, true);
+                    let rules = vec![other, rule.clone(), letter(1, 0, b'1', true), letter(2, 1, b'2', true)];
+                    add_call(add, &name, rules, b"1", b"2", used.then_some(byte));
+                }
+            }
+        }
+    }
+}
+
+/// A byte in one of 32 rules, the first, the last or one between them, the others with each of the states on a way.
 fn among_many(add: Add) {
     let way = |tag: u16, kind: u8, byte: u8| Rule {
         tag,

@@ -2,6 +2,7 @@
 
 use crate::calls::{Call, Operation, BUILTIN};
 use crate::dead;
+use crate::fewest;
 use crate::generate::{bytes_of, Book, Rule};
 use crate::reference::{self as paper, Record};
 
@@ -87,6 +88,7 @@ pub fn calls() -> Vec<(String, Call)> {
     prints(&mut add);
     separated(&mut add);
     dead::branches(&mut add);
+    fewest::lists(&mut add);
     all
 }
 
@@ -407,12 +409,14 @@ fn lengths(add: Add) {
     let bytes = book(vec![run(1, 0, b'a', b'z'), run(2, 1, b' ', b'/')]).bytes();
     // words in the first half of the pool, separators in the second, no two bytes that follow each other alike
     let half = 200;
-    let pool: Vec<u8> = (0..half).map(|i| b'a' + (i * 7 % 26) as u8).chain((0..half).map(|i| b' ' + (i * 5 % 16) as u8)).collect();
+    let pool: Vec<u8> =
+        (0..half).map(|i| b'a' + (i * 7 % 26) as u8).chain((0..half).map(|i| b' ' + (i * 5 % 16) as u8)).collect();
     for length in 1..=140 {
         let between = record(2, half + length % 5, length);
         let words = [record(1, length % 7, length), record(1, 3, length / 3 + 1), record(1, 0, length)];
         for mode in [1, 2] {
-            let call = Call::print_separated(&bytes, between, mode, bytes_of(&words), &pool, vec![0xEE; 5 * length + 2]);
+            let call =
+                Call::print_separated(&bytes, between, mode, bytes_of(&words), &pool, vec![0xEE; 5 * length + 2]);
             add(&format!("words and separators of {length} bytes, mode {mode}"), call);
         }
         let list = bytes_of(&[words[0], between, words[1], between, words[2]]);

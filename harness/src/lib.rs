@@ -6,6 +6,7 @@ mod calls;
 mod dead;
 mod edges;
 mod examples;
+mod fewest;
 mod generate;
 mod library;
 mod plant;
@@ -15,6 +16,7 @@ mod report;
 mod round_trip;
 
 use calls::{Answer, Call, Operation, Outcome, OPERATIONS};
+use fewest::Tried;
 use library::{Against, Library};
 use plant::Fault;
 use random::Random;
@@ -68,11 +70,12 @@ struct Run {
     library: Library,
     plant: Option<Fault>,
     met: Met,
+    tried: Tried,
 }
 
 impl Run {
     fn new(plant: Option<Fault>) -> Run {
-        Run { library: Library::new(), plant, met: Met::new() }
+        Run { library: Library::new(), plant, met: Met::new(), tried: Tried::default() }
     }
 
     fn case(&mut self, seed: u64, case: u64) -> Result<(), String> {
@@ -91,9 +94,14 @@ impl Run {
                 return Err(format!("DIFFERENCE in {what}: {difference}\n{reproduction}"));
             }
         }
-        if let Some(difference) = round_trip::broken(&mut self.library, call) {
-            let reproduction = report::reproduction(call, &Ok(second.clone()), &second);
-            return Err(format!("ROUND TRIP in {what}: {difference}\n{reproduction}"));
+        if let Some(text) = round_trip::written(&mut self.library, call) {
+            let reproduction = || report::reproduction(call, &Ok(second.clone()), &second);
+            if let Some(difference) = round_trip::broken(&mut self.library, call, &text) {
+                return Err(format!("ROUND TRIP in {what}: {difference}\n{}", reproduction()));
+            }
+            if let Some(difference) = self.tried.list(&mut self.library, call, &text) {
+                return Err(format!("NOT THE FEWEST in {what}: {difference}\n{}", reproduction()));
+            }
         }
         *self.met.entry((call.operation, Answer(second.answer).number())).or_default() += 1;
         Ok(())
@@ -161,13 +169,13 @@ struct State {
 }
 
 impl Work<'_> {
-    fn run(&self) -> Met {
+    fn run(&self) -> (Met, Tried) {
         let mut run = Run::new(self.options.plant);
         while let Some(number) = self.take() {
             let result = self.one(&mut run, number);
             self.done(number, result);
         }
-        run.met
+        (run.met, run.tried)
     }
 
     /// The next number; none where there is no more or one before it has a difference.
@@ -240,16 +248,25 @@ pub fn main() {
     // random cases first: a difference among them is smaller than one at an edge
     let edges = edges::calls();
     let work = Work { options: &options, edges: &edges, state: Mutex::default() };
-    let each: Vec<Met> = std::thread::scope(|scope| {
+    let each: Vec<(Met, Tried)> = std::thread::scope(|scope| {
         let spawn = |_| std::thread::Builder::new().stack_size(STACK).spawn_scoped(scope, || work.run()).unwrap();
         let started: Vec<_> = (0..options.threads).map(spawn).collect();
         started.into_iter().map(|thread| thread.join().unwrap()).collect()
     });
     let mut met = Met::new();
-    for (answer, count) in each.into_iter().flatten() {
-        *met.entry(answer).or_default() += count;
+    let mut tried = Tried::default();
+    for (answers, lists) in each {
+        answers.into_iter().for_each(|(answer, count)| *met.entry(answer).or_default() += count);
+        tried.add(lists);
     }
-    let missing = never_met(&met);
+    let mut missing = never_met(&met);
+    let Tried { lists, ways, tighter } = tried;
+    println!(
+        "fewest separators: {lists} lists, {ways} ways with fewer copies; in mode 1 {tighter} lists can be tighter"
+    );
+    if ways == 0 || tighter == 0 {
+        missing.push("a list that wants separators".to_string());
+    }
     let numbers: BTreeSet<u8> = met.keys().map(|(_, n)| *n).filter(|n| *n > 0).collect();
     println!(
         "seed {}: {} cases, {} edges, {} calls, {} refusal numbers met, {wrong} examples wrong, no difference",

@@ -6,33 +6,44 @@ use crate::reference;
 use std::collections::BTreeSet;
 
 /// A token's tag and bytes.
-type Token<'a> = (u16, Option<&'a [u8]>);
+pub type Token<'a> = (u16, Option<&'a [u8]>);
 
-/// Says how the round trip of an accepted printing is broken.
-pub fn broken(library: &mut Library, call: &Call) -> Option<String> {
+/// What an accepted call of a printer writes.
+pub fn written(library: &mut Library, call: &Call) -> Option<Vec<u8>> {
     if !matches!(call.operation, Operation::Print | Operation::PrintSeparated) {
         return None;
     }
-    let written = library.run(call, Against::Back).ok()?;
-    let answer = Answer(written.answer);
-    if answer.number() != 0 {
-        return None;
-    }
-    let text = &written.buffers[3][..answer.first() as usize];
+    let outcome = library.run(call, Against::Back).ok()?;
+    let answer = Answer(outcome.answer);
+    (answer.number() == 0).then(|| outcome.buffers[3][..answer.first() as usize].to_vec())
+}
+
+/// The list that a printer was given.
+pub fn given(call: &Call) -> Vec<Token<'_>> {
+    reference::records_of(&call.records).into_iter().map(|t| (t.tag, t.bytes(&call.text))).collect()
+}
+
+/// How the library answers when it cuts a text by the book of a printer's call, and the tokens without separators.
+pub fn cut<'a>(library: &mut Library, call: &Call, text: &'a [u8]) -> Option<(Answer, Vec<Token<'a>>)> {
     let cut = library.run(&Call::lex(&call.book, text, vec![0; text.len() * 10]), Against::Back).ok()?;
-    let cut_answer = Answer(cut.answer);
-    if cut_answer.number() != 0 || cut_answer.second() != answer.first() {
-        return Some(format!("cutting the output: {cut_answer}"));
-    }
+    let answer = Answer(cut.answer);
     let dropped = separators(call);
-    let read: Vec<Token> = reference::records_of(&cut.buffers[2][..cut_answer.first() as usize * 10])
-        .into_iter()
-        .filter(|t| !dropped.contains(&t.tag))
-        .map(|t| (t.tag, t.bytes(text)))
-        .collect();
-    let given: Vec<Token> =
-        reference::records_of(&call.records).into_iter().map(|t| (t.tag, t.bytes(&call.text))).collect();
-    (read != given).then(|| format!("{} tokens were given, {} other ones come back", given.len(), read.len()))
+    let tokens = reference::records_of(&cut.buffers[2][..answer.first() as usize * 10]);
+    let kept = tokens.into_iter().filter(|t| !dropped.contains(&t.tag)).map(|t| (t.tag, t.bytes(text))).collect();
+    (answer.number() == 0).then_some((answer, kept))
+}
+
+/// Says how the round trip of what a printer wrote is broken.
+pub fn broken(library: &mut Library, call: &Call, text: &[u8]) -> Option<String> {
+    let given = given(call);
+    match cut(library, call, text) {
+        None => Some("the output is not cut".to_string()),
+        Some((answer, _)) if answer.second() != text.len() as u64 => Some(format!("cutting the output: {answer}")),
+        Some((_, read)) if read != given => {
+            Some(format!("{} tokens were given, {} other ones come back", given.len(), read.len()))
+        }
+        Some(_) => None,
+    }
 }
 
 /// The tags that are dropped: those of separator rules, where separators were written.
