@@ -112,10 +112,10 @@ extern "C" {
 
 /* ---- Version ------------------------------------------------------------ */
 
-#define ZGV_VERSION       "0.3.0"
+#define ZGV_VERSION       "0.3.1"
 #define ZGV_VERSION_MAJOR 0
 #define ZGV_VERSION_MINOR 3
-#define ZGV_VERSION_PATCH 0
+#define ZGV_VERSION_PATCH 1
 
 /* ---- Limits ------------------------------------------------------------- */
 
@@ -413,7 +413,9 @@ uint64_t zgv_print(const uint8_t *book, size_t book_len,
  *
  * Accepted: first value the number of bytes written, second 0. Cutting them by
  * the same book, and leaving out each token of a separator rule, gives the same
- * tags and bytes, and no rest.
+ * tags and bytes, and no rest. By ZGV_MODE_SPARE and ZGV_MODE_DEFAULT they are as
+ * few as can be: other copies of the separator between the tokens, if they are
+ * fewer, do not give the list back.
  * Refused: 1 to 13 for the book; 23; 24; for the separator token 17, 18, 19, 25;
  * then 16; for each token 17, 18, 19, 26; then 20, 22. The book, the mode and the
  * separator are checked for an empty list too.

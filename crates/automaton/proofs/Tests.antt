@@ -1,8 +1,8 @@
 -- Tests and choices, taken apart, and what holds of every element. Assumes nothing.
 use mathlib.Core.Path.{_≡_, refl, sym, subst}
 use mathlib.Core.Bool.{Bool, true, false, _&&_, _||_}
-use mathlib.Core.List.{List, [], _∷_}
-use Prim.Native.Nat.{ℕ, suc, _<_}
+use mathlib.Core.List.{List, [], _∷_, _++_}
+use Prim.Native.Nat.{ℕ, zero, suc, _<_}
 use native.Mathlib.Omega.{arith}
 use lib.Dec.{eqb}
 use lib.ListN.{length, getD}
@@ -47,6 +47,22 @@ all-of P (x ∷ xs) d h = (h 0 (omega arith), all-of P xs d (λ k l. h (suc k) (
 pub all-with : {A : Type 0} (P Q R : A → Type 0) → ((x : A) → P x → Q x → R x) → (xs : List A) → All P xs → All Q xs → All R xs
 all-with P Q R f [] a b = tt
 all-with P Q R f (x ∷ xs) (p, a) (q, b) = (f x p q, all-with P Q R f xs a b)
+
+pub all-at : {A : Type 0} (P : A → Type 0) (xs : List A) (d : A) → All P xs → (k : ℕ) → k < length xs → P (getD xs k d)
+all-at P [] d h k l = absurd (omega arith)
+all-at P (x ∷ xs) d (p, h) zero l = p
+all-at P (x ∷ xs) d (p, h) (suc k) l = all-at P xs d h k (omega arith)
+
+pub all-append : {A : Type 0} (P : A → Type 0) (xs ys : List A) → All P xs → All P ys → All P (xs ++ ys)
+all-append P [] ys h g = g
+all-append P (x ∷ xs) ys (p, h) g = (p, all-append P xs ys h g)
+
+pub all-right : {A : Type 0} (P : A → Type 0) (xs ys : List A) → All P (xs ++ ys) → All P ys
+all-right P [] ys h = h
+all-right P (x ∷ xs) ys h = all-right P xs ys (h .1)
+
+pub all-middle : {A : Type 0} (P : A → Type 0) (xs : List A) (x : A) (ys : List A) → All P (xs ++ x ∷ ys) → P x
+all-middle P xs x ys h = all-right P xs (x ∷ ys) h .0
 
 -- ---- some element passes a test
 

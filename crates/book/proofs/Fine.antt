@@ -10,7 +10,7 @@ use lib.ListN.{length, length-append}
 use borrow.Author.Tests.{leb-false, ltb-false, eqb-false, ne-eqb}
 use Rattle.automaton.specs.Choice.{All, any, among}
 use Rattle.automaton.specs.Rule.{Transition, Rule, overlaps, Ranged, stateCount}
-use Rattle.automaton.proofs.Tests.{clash, or-false}
+use Rattle.automaton.proofs.Tests.{clash, or-false, all-append}
 use Rattle.command.specs.declared.Command.{Command}
 use Rattle.command.specs.declared.Command.the-variants.{Rule as RULE, Start, Error, Final, Step, Span, Close, End}
 use Rattle.book.specs.Limits.{maxRules, maxTransitions}
@@ -43,16 +43,12 @@ check-good false number place v h = h refl
 
 -- ---- lists of rules
 
-all-snoc : {A : Type 0} (P : A → Type 0) (xs : List A) (x : A) → All P xs → P x → All P (xs ++ (x ∷ []))
-all-snoc P [] x h p = (p, tt)
-all-snoc P (y ∷ ys) x (q, h) p = (q, all-snoc P ys x h p)
-
 distinct-snoc : (rs : List Rule) (r : Rule) → Distinct rs → tagged r.tag rs ≡ false → Distinct (rs ++ (r ∷ []))
 distinct-snoc [] r d e = (tt, tt)
 distinct-snoc (q ∷ rs) r (h, d) e =
     let p = or-false (eqb q.tag r.tag) (tagged r.tag rs) e in
     let n = ne-eqb r.tag q.tag (λ z. eqb-false q.tag r.tag (p .0) (sym z)) in
-    (all-snoc (λ (x : Rule). eqb x.tag q.tag ≡ false) rs r h n, distinct-snoc rs r d (p .1))
+    (all-append (λ (x : Rule). eqb x.tag q.tag ≡ false) rs (r ∷ []) h (n, tt), distinct-snoc rs r d (p .1))
 
 -- ---- one command
 
@@ -160,7 +156,7 @@ apply-good d Close at len f r i =
     let l = length-append d.rules (ruleOf d ∷ []) in
     between-fine (d.rules ++ (ruleOf d ∷ []))
     (record {
-      each = all-snoc ValidRule d.rules (ruleOf d) (f .closed .each) (closed-rule d f o apart stays fails nonempty);
+      each = all-append ValidRule d.rules (ruleOf d ∷ []) (f .closed .each) (closed-rule d f o apart stays fails nonempty, tt);
       distinct = distinct-snoc d.rules (ruleOf d) (f .closed .distinct) (o .tag-new);
       few = omega (arith, o .room, l);
     }))))))

@@ -2,16 +2,16 @@
 use mathlib.Core.Path.{_≡_, refl, sym, _∙_, ap}
 use mathlib.Core.Bool.{false}
 use mathlib.Core.Option.{some}
-use mathlib.Core.List.{List, [], _∷_}
+use mathlib.Core.List.{List, _∷_}
 use Prim.Native.Nat.{ℕ, zero, suc, _+_, _-_, _<_, _≤_}
 use native.Mathlib.Nat.{zero-add}
 use native.Mathlib.Omega.{arith}
 use lib.ListN.{length, getD, take, drop, length-append, List·getD-append}
 use lib.Seq.{getD-append-seam}
 use borrow.Author.Count.{below-more}
-use Rattle.automaton.specs.Choice.{All}
 use Rattle.automaton.specs.Rule.{Rule, matches}
 use Rattle.automaton.specs.Contracts.{blank, ruleAt}
+use Rattle.automaton.proofs.Tests.{all-at}
 use Rattle.longest_match.specs.Lexer.{choose, found}
 use Rattle.longest_match.specs.Contracts.{front, Chooses}
 use Rattle.longest_match.proofs.First.{Earliest}
@@ -92,11 +92,6 @@ pub record Picked (rules : List Rule) (text : List ℕ) (tag len : ℕ) : Type 0
   pub rule : ℕ
   pub chooses : Chooses rules text rule len
   pub names : 0 < len → tag ≡ (ruleAt rules rule) .tag
-
-all-at : {A : Type 0} (P : A → Type 0) (xs : List A) (d : A) → All P xs → (k : ℕ) → k < length xs → P (getD xs k d)
-all-at P [] d h k l = absurd (omega arith)
-all-at P (x ∷ xs) d (p, h) zero l = p
-all-at P (x ∷ xs) d (p, h) (suc k) l = all-at P xs d h k (omega arith)
 
 module _ (rules : List Rule) (text : List ℕ) (tag len : ℕ) (p : 0 < len) (within : len ≤ length text)
     (e : choose rules text ≡ some (front tag len text))

@@ -4,6 +4,7 @@ use mathlib.Core.Bool.{Bool, true, false}
 use mathlib.Core.List.{List, [], _∷_}
 use Prim.Native.Nat.{ℕ, _-_, _*_, _≤_}
 use native.Mathlib.Omega.{arith}
+use native.Mathlib.Nat.{mul-le-mul-right}
 use lib.ListN.{length, take, drop}
 use lib.Seq.{take-append-seam}
 use Rattle.answer.specs.declared.LexAnswer.{LexAnswer}
@@ -15,36 +16,41 @@ use Rattle.automaton.proofs.Tests.{clash, or-false, all-map}
 use Rattle.automaton.proofs.Used.{start-in-error as error-matches-nothing}
 use Rattle.book.specs.Valid.{Valid, ValidRule}
 use Rattle.book.specs.Limits.{maxText}
-use Rattle.reader.specs.Reading.{accepted}
 use Rattle.reader.proofs.Accepted.{accepted-valid}
 use Rattle.longest_match.specs.Lexer.{Token, Lexed, lex, join}
 use Rattle.longest_match.proofs.Lexing.{joins, rest-drop}
 use Rattle.longest_match.proofs.Cutting.{lex-nil}
 use Rattle.record.specs.Records.{recordCount}
-use Rattle.record.specs.Tokens.{tokensOf}
+use Rattle.record.specs.Tokens.{bytesIn, tokenIn, tokensOf}
 use Rattle.lexer.specs.Outcome.{LexOutcome, lexOutcome}
 use Rattle.token_list.specs.Faults.{aloneIn}
+use Rattle.token_list.proofs.Extended.{matched-long}
 use Rattle.printer.specs.Outcome.{PrintOutcome, printOutcome}
 use Rattle.printer.proofs.Accepting.{written-joins, alone-tagged}
-use Rattle.printer.proofs.RoundTrip.{byte-below, same-rules, lexed-cut, cut-accepts, stored-say}
+use Rattle.printer.proofs.RoundTrip.{byte-below, valid-empty, same-rules, lexed-cut, cut-accepts, stored-say}
 use Rattle.printer.proofs.RoundTrip.{equal-lists, accepts-printable, output-cut, cut-printed}
-use Rattle.spacing.specs.Separators.{dropSeparators, spelled}
+use Rattle.spacing.specs.Separators.{dropSeparators, meaning, spelled}
 use Rattle.record.specs.declared.TokenRecord.{TokenRecord}
-use Rattle.separated.proofs.RoundTrip.{spelled-rest, spelled-back, spelled-injective}
+use Rattle.separated.proofs.RoundTrip.{disjoint, spacer, plain, spelled-cut, spelled-back, spelled-injective}
+use Rattle.separated.proofs.Unrefused.{CallPasses}
 use Rattle.separated.proofs.Modes.{zero-outcome}
 use Rattle.builtin.specs.Book.{builtinBytes, builtinRules}
 use Rattle.builtin.proofs.Accepted.{read-builtin}
 use Rattle.zagvulem.proofs.Refused.{lex-refused, print-refused, separated-refused}
 use Rattle.demands.specs.Calls.{Form, Lent, recordsIn, countIn, firstIn, pastIn, listIn, Cut, Print, Space}
 use Rattle.demands.specs.Words.{Bytes, Book, LongestMatch, Unrefused}
+use Rattle.demands.specs.Gaps.{Way, inAll, GivesBack, spelledBy, puts, putCount, HasCopies}
 use Rattle.demands.specs.Demands.{RefusedCut, PastTheTokens, RefusedPrint, RefusedSpace, PastTheBytes, PastTheSpaced}
 use Rattle.demands.specs.Demands.{StartInError, CutIsLongestMatch, StoredIsLongestMatch, CutIsAccepted, TokensAndRestJoined}
 use Rattle.demands.specs.Demands.{WritingJoins, EqualLists, AcceptedExactly, UnknownNotAlone, OutputsAreCut, CutsArePrinted}
 use Rattle.demands.specs.Demands.{EmptyTextIsCut, SpacingAccepts, SpacingAcceptsNoOther, SpacingEqualLists, SpacingCutsBack}
-use Rattle.demands.specs.Demands.{ZeroIsSparing, MostInOne, EveryBook, BuiltinBook}
+use Rattle.demands.specs.Demands.{ZeroIsSparing, MostInOne, SeparatorsCounted, FewestSeparators, NoTighterSheet}
+use Rattle.demands.specs.Demands.{EveryBook, BuiltinBook}
 use Rattle.demands.proofs.LongestMatch.{lex-longest, longest-lex}
 use Rattle.demands.proofs.Separable.{separable-printable, printable-separable}
 use Rattle.demands.proofs.Spacing.{unrefused-passes, unrefused-outcome, printed-unrefused, space-past, most-outcome}
+use Rattle.demands.proofs.Gaps.{scattered-tokens, scattered-bytes, separated-puts}
+use Rattle.demands.proofs.Fewest.{fewest}
 use Rattle.demands.proofs.Forms.{count-in, structs-in, list-in, first-in, past-in, typed-first, typed-past, same-in}
 use Rattle.demands.proofs.Untouched.{cut-leaves, cut-past, print-leaves, print-past, space-leaves}
 use Rattle.answer.specs.declared.LexAnswer.the-variants as lexed
@@ -219,37 +225,63 @@ module _ (book : List ℕ) (rules : List Rule) (b : Book book rules) where
       (c .answers ∙ rw o, ap (take (length w)) (c .leaves) ∙ rw o (take-append-seam w (drop (length w) entry)))
 
   -- an accepted call
-  unrefused : {sep : TokenRecord} {mode : ℕ} {records pool entry exit : List ℕ} {n : ℕ}
-      → Space book sep mode records pool entry exit (print.Printed n)
-      → Unrefused rules sep mode records pool entry × (take n exit ≡ spelled rules sep mode records pool)
-  unrefused {sep} {mode} {records} {pool} {entry} {exit} {n} c =
-      let a = printed-unrefused book rules (b .reads) sep mode records pool entry (valid .rules-valid .each) n (sym (c .answers)) in
-      (a .0, rw (a .1) (spacing-accepts sep mode records pool entry exit (print.Printed n) c (a .0) .1))
+  module _ {sep : TokenRecord} {mode : ℕ} {records pool entry exit : List ℕ} {n : ℕ}
+      (c : Space book sep mode records pool entry exit (print.Printed n)) where
+    unrefused : Unrefused rules sep mode records pool entry × (n ≡ length (spelled rules sep mode records pool))
+    unrefused = printed-unrefused book rules (b .reads) sep mode records pool entry (valid .rules-valid .each) n (sym (c .answers))
+
+    spelled-written : take n exit ≡ spelled rules sep mode records pool
+    spelled-written = rw (unrefused .1) (spacing-accepts sep mode records pool entry exit (print.Printed n) c (unrefused .0) .1)
+
+    passes : CallPasses rules sep mode records pool
+    passes = unrefused-passes (valid .rules-valid .each) (unrefused .0)
+
+    abbrev spacing : Token
+    spacing = tokenIn pool sep
+
+    abbrev listed : List Token
+    listed = tokensOf records pool
+
+    -- the separators that it puts are counted,
+    counted : HasCopies rules spacing mode listed n (take n exit)
+    counted =
+        let s = separated-puts rules spacing mode listed in
+        record {
+          put = s;
+          written = spelled-written ∙ ap join s;
+          gives-back = rw spelled-written (spelled-back (valid .rules-valid) passes);
+          by-tokens = rw s (scattered-tokens spacing (puts rules spacing mode listed) listed);
+          by-bytes = unrefused .1 ∙ rw s (scattered-bytes spacing (puts rules spacing mode listed) listed);
+          some-byte = matched-long rules spacing.bytes spacing.tag (valid-empty (valid .rules-valid))
+              (spacer (valid .rules-valid) passes .alone);
+        }
+
+    -- and in mode 2 they are the fewest
+    least : meaning mode ≡ 2 → (way : Way) → GivesBack rules listed (spelledBy way sep records pool)
+        → putCount rules spacing mode listed ≤ inAll way listed
+    least m way e =
+        let v = valid .rules-valid in
+        fewest v (disjoint v passes) (spacer v passes) mode m way listed (plain v passes) e
 
   pub spacing-accepts-no-other : SpacingAcceptsNoOther book rules
-  spacing-accepts-no-other sep mode records pool entry exit n c = unrefused c
+  spacing-accepts-no-other sep mode records pool entry exit n c = (unrefused c .0, spelled-written c)
 
   pub spacing-equal-lists : SpacingEqualLists book rules
   spacing-equal-lists mode sep records pool entry exit n c sep₁ records₁ pool₁ entry₁ exit₁ n₁ c₁ same =
-      let x = unrefused c in
-      let y = unrefused c₁ in
-      let v = valid .rules-valid in
-      rw (x .1, y .1) (spelled-injective v (unrefused-passes (v .each) (x .0)) (unrefused-passes (v .each) (y .0)) same)
+      rw (spelled-written c, spelled-written c₁) (spelled-injective (valid .rules-valid) (passes c) (passes c₁) same)
 
   pub spacing-cuts-back : SpacingCutsBack book rules
   spacing-cuts-back sep mode records pool entry exit n c g room stored r d enough =
-      let x = unrefused c in
-      let w = x .1 in
-      let p = unrefused-passes (valid .rules-valid .each) (x .0) in
-      let short : length (take n exit) ≤ maxText = rw w (x .0 .not-20) in
-      let rest : (lex rules (take n exit)) .rest ≡ [] = rw w (spelled-rest (valid .rules-valid) p) in
+      let w = spelled-written c in
+      let short : length (take n exit) ≤ maxText = rw w (unrefused c .0 .not-20) in
+      let rest : (lex rules (take n exit)) .rest ≡ [] = rw (w, spelled-cut (valid .rules-valid) (passes c)) in
       let z : length (take n exit) - length ((lex rules (take n exit)) .rest) ≡ length (take n exit) = rw rest (omega arith) in
       let a : r ≡ lexed.Lexed (length ((lex rules (take n exit)) .tokens)) (length (take n exit)) = accepts d short enough ∙ rw z in
       let k : Cut g book (take n exit) room stored (lexed.Lexed (length ((lex rules (take n exit)) .tokens)) (length (take n exit))) =
       subst (Cut g book (take n exit) room stored) a d in (
         a,
         ap (dropSeparators rules) (tokens-are k)
-            ∙ ap (λ (x : List ℕ). dropSeparators rules ((lex rules x) .tokens)) w ∙ spelled-back (valid .rules-valid) p,
+            ∙ ap (λ (x : List ℕ). dropSeparators rules ((lex rules x) .tokens)) w ∙ spelled-back (valid .rules-valid) (passes c),
       )
 
 -- ==== document 02, wish 7
@@ -267,6 +299,21 @@ pub most-in-one : MostInOne
 most-in-one book sep records pool entry exit n c mode exit₁ r known d =
     let o = most-outcome book sep records pool entry n (sym (c .answers)) mode known in
     (o .0, d .answers ∙ o .1, o .2)
+
+-- ==== document 02, wish 8
+
+pub separators-counted : SeparatorsCounted
+separators-counted book rules b sep mode records pool entry exit n c = counted book rules b c
+
+pub fewest-separators : FewestSeparators
+fewest-separators book rules sep mode records pool entry exit n s = least book rules (s .reads) (s .call) (s .spares)
+
+pub no-tighter-sheet : NoTighterSheet
+no-tighter-sheet book rules sep mode records pool entry exit n s way g room stored m place d e =
+    let b = s .reads in
+    let l = least book rules b (s .call) (s .spares) way (ap (dropSeparators rules) (sym (tokens-are book rules b d)) ∙ e) in
+    let q = scattered-bytes (tokenIn pool sep) way (tokensOf records pool) in
+    omega (arith, counted book rules b (s .call) .by-bytes, q, mul-le-mul-right (length (bytesIn pool sep)) l)
 
 -- ==== together
 

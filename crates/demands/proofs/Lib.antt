@@ -1,8 +1,11 @@
 -- A proof of each demand (Demands), and what these rest on: `lex` goes by longest match (LongestMatch), what the printers accept, in
--- the words of the demands (Separable, Spacing), a list in every form (Forms), and what stands in the lent buffers (Untouched).
+-- the words of the demands (Separable, Spacing), a list in every form (Forms), what stands in the lent buffers (Untouched), and how many
+-- separators a list wants (Gaps, Fewest).
 pub mod LongestMatch
 pub mod Separable
 pub mod Forms
 pub mod Untouched
 pub mod Spacing
+pub mod Gaps
+pub mod Fewest
 pub mod Demands

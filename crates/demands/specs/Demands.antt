@@ -4,7 +4,7 @@ use mathlib.Core.Path.{_≡_}
 use mathlib.Core.Logic.{_↔_}
 use mathlib.Core.Bool.{true, false}
 use mathlib.Core.List.{List, [], _++_}
-use Prim.Native.Nat.{ℕ, _≤_, _-_}
+use Prim.Native.Nat.{ℕ, _-_, _≤_}
 use lib.ListN.{length, take, drop}
 use Rattle.answer.specs.declared.LexAnswer.{LexAnswer}
 use Rattle.answer.specs.declared.PrintAnswer.{PrintAnswer}
@@ -14,14 +14,15 @@ use Rattle.automaton.specs.Rule.{Rule, matches}
 use Rattle.book.specs.Draft.{tagged}
 use Rattle.book.specs.Limits.{maxText}
 use Rattle.longest_match.specs.Lexer.{Token, lex, join}
-use Rattle.record.specs.Tokens.{tokensOf, tokenIn}
+use Rattle.record.specs.Tokens.{tokenIn, tokensOf}
 use Rattle.record.specs.declared.TokenRecord.{TokenRecord}
 use Rattle.token_list.specs.Faults.{aloneIn}
-use Rattle.spacing.specs.Separators.{dropSeparators, spelled}
+use Rattle.spacing.specs.Separators.{dropSeparators, meaning, spelled}
 use Rattle.builtin.specs.Book.{builtinBytes, builtinRules}
 use Rattle.zagvulem.specs.Numbers.{lexNumbers, printNumbers, separatedNumbers}
 use Rattle.demands.specs.Calls.{Form, Lent, countIn, firstIn, pastIn, listIn, Cut, Print, Space}
 use Rattle.demands.specs.Words.{Book, LongestMatch, Separable, Unlimited, Unrefused}
+use Rattle.demands.specs.Gaps.{Way, inAll, GivesBack, spelledBy, putCount, HasCopies}
 use Rattle.answer.specs.declared.LexAnswer.the-variants as lexed
 use Rattle.answer.specs.declared.PrintAnswer.the-variants as print
 
@@ -182,6 +183,39 @@ MostInOne = (book : List ℕ) (sep : TokenRecord) (records pool entry exit : Lis
     → Space book sep 1 records pool entry exit (print.Printed n)
     → (mode : ℕ) (exit₁ : List ℕ) (r : PrintAnswer) → mode ≤ 2 → Space book sep mode records pool entry exit₁ r
     → (m : ℕ) × (r ≡ print.Printed m) × (m ≤ n)
+
+-- ==== document 02, wish 8
+
+-- What an accepted call of the spacing printer puts, in every mode, is counted by `putCount`.
+abbrev pub SeparatorsCounted : Type 0
+SeparatorsCounted = (book : List ℕ) (rules : List Rule) → Book book rules
+    → (sep : TokenRecord) (mode : ℕ) (records pool entry exit : List ℕ) (n : ℕ)
+    → Space book sep mode records pool entry exit (print.Printed n)
+    → HasCopies rules (tokenIn pool sep) mode (tokensOf records pool) n (take n exit)
+
+-- an accepted call in mode 2, or in mode 0, which stands for it
+pub record Sparing (book : List ℕ) (rules : List Rule) (sep : TokenRecord) (mode : ℕ) (records pool entry exit : List ℕ) (n : ℕ)
+    : Type 0 where
+  pub reads : Book book rules
+  pub spares : meaning mode ≡ 2
+  pub call : Space book sep mode records pool entry exit (print.Printed n)
+
+-- No way of putting copies of the separator into the gaps that gives the list back has fewer of them. The bytes of that way may be more
+-- than a call takes, and its cut may leave a rest.
+abbrev pub FewestSeparators : Type 0
+FewestSeparators = (book : List ℕ) (rules : List Rule) (sep : TokenRecord) (mode : ℕ) (records pool entry exit : List ℕ) (n : ℕ)
+    → Sparing book rules sep mode records pool entry exit n
+    → (way : Way) → GivesBack rules (tokensOf records pool) (spelledBy way sep records pool)
+    → putCount rules (tokenIn pool sep) mode (tokensOf records pool) ≤ inAll way (tokensOf records pool)
+
+-- So, where a call cuts the bytes of a way and stores the same list but for separators, they are no fewer than the printer wrote.
+abbrev pub NoTighterSheet : Type 0
+NoTighterSheet = (book : List ℕ) (rules : List Rule) (sep : TokenRecord) (mode : ℕ) (records pool entry exit : List ℕ) (n : ℕ)
+    → Sparing book rules sep mode records pool entry exit n
+    → (way : Way) (g : Form) (room stored : Lent g) (m place : ℕ)
+    → Cut g book (spelledBy way sep records pool) room stored (lexed.Lexed m place)
+    → dropSeparators rules (listIn g (firstIn g m stored) (spelledBy way sep records pool)) ≡ tokensOf records pool
+    → n ≤ length (spelledBy way sep records pool)
 
 -- ==== together
 

@@ -1,24 +1,22 @@
 -- What is printed of an accepted cut is a line for each of its tokens, and the rest. Assumes nothing.
-use mathlib.Core.Path.{_≡_, refl, sym, _∙_, ap, subst}
-use mathlib.Core.Option.{Option, none, some}
+use mathlib.Core.Path.{_≡_, refl, sym, _∙_, ap}
 use mathlib.Core.List.{List, [], _∷_, _++_, append-assoc, append-nil}
 use Prim.Native.Nat.{ℕ, zero, suc, _+_, _-_, _*_, _<_, _≤_}
 use native.Mathlib.Omega.{arith}
 use native.Mathlib.Nat.{add-zero, zero-add}
-use lib.ListN.{length, getD, take, drop, length-append}
+use lib.ListN.{length, take, drop, length-append}
 use lib.Seq.{take-suc, take-length, length-take-le}
 use borrow.Author.Tests.{le-ltb}
 use Rattle.big_endian.proofs.Numbers.{two-value}
-use Rattle.automaton.specs.Choice.{All}
 use Rattle.automaton.specs.Rule.{Rule}
+use Rattle.automaton.proofs.Tests.{all-map, all-at}
 use Rattle.command.specs.Commands.{byteAt}
 use Rattle.book.specs.Valid.{ValidRule}
 use Rattle.book.specs.Limits.{maxText}
 use Rattle.reader.specs.Reading.{accepted, readBook}
 use Rattle.reader.proofs.Accepted.{accepted-valid}
-use Rattle.longest_match.specs.Lexer.{Token, Found, Lexed, choose, proceed, lexFor, lex, join}
-use Rattle.longest_match.proofs.Choosing.{choose-some}
-use Rattle.longest_match.proofs.Lexing.{lex-lengths}
+use Rattle.longest_match.specs.Lexer.{Token, lex, join}
+use Rattle.longest_match.proofs.Lexing.{lex-lengths, lex-tags}
 use Rattle.record.specs.Records.{recordsAt, recordCount}
 use Rattle.record.proofs.Records.{tokenAt, placeAt, laid-within}
 use Rattle.record.specs.Tokens.{recordAt}
@@ -28,10 +26,6 @@ use Rattle.listing.specs.Lines.{tokenLine, tokenLines, recordLine, restL
 use Rattle.listing.proofs.Bounds.{byte-at, place-is, length-is}
 
 -- ---- a token more
-
-join-snoc : (ts : List Token) (t : Token) → join (ts ++ (t ∷ [])) ≡ join ts ++ t.bytes
-join-snoc [] t = append-nil t.bytes
-join-snoc (u ∷ ts) t = rw (join-snoc ts t, append-assoc)
 
 lines-snoc : (number place : ℕ) (ts : List Token) (t : Token)
     → tokenLines number place (ts ++ (t ∷ []))
@@ -81,43 +75,6 @@ module _ (ts : List Token) (more : List ℕ) (small : length (join ts) < 4294967
   pub token-lines : recordLines filled (length ts) ≡ tokenLines 0 0 ts
   token-lines = lines-are (length ts) (omega arith) ∙ rw take-length
 
--- ---- tags
-
-abbrev TagBelow : Token → Type 0
-TagBelow t = t.tag < 65536
-
-all-at : {A : Type 0} (P : A → Type 0) (xs : List A) (y : A) (ys : List A) → All P (xs ++ y ∷ ys) → P y
-all-at P [] y ys (p, h) = p
-all-at P (x ∷ xs) y ys (p, h) = all-at P xs y ys h
-
-all-get : {A : Type 0} (P : A → Type 0) (xs : List A) (d : A) → All P xs → (k : ℕ) → k < length xs → P (getD xs k d)
-all-get P [] d h k l = absurd (omega arith)
-all-get P (x ∷ xs) d (p, h) zero l = p
-all-get P (x ∷ xs) d (p, h) (suc k) l = all-get P xs d h k (omega arith)
-
-all-tags : (rules : List Rule) → All ValidRule rules → All (λ (r : Rule). r.tag < 65536) rules
-all-tags [] h = tt
-all-tags (r ∷ rs) (v, h) = (v .tag-below, all-tags rs h)
-
-tags-proceed : (rules : List Rule) (text : List ℕ) (o : Option Found) → choose rules text ≡ o → All (λ (r : Rule). r.tag < 65536) rules
-    → (go : List ℕ → Lexed)
-    → ((x : List ℕ) → All TagBelow ((go x) .tokens)) → All TagBelow ((proceed o text go) .tokens)
-tags-proceed rules text none e h go ih = tt
-tags-proceed rules text (some f) e h go ih =
-    let c = choose-some rules text f e .earliest in
-    let p = all-at (λ (r : Rule). r.tag < 65536) c.before c.rule c.behind (subst (All (λ (r : Rule). r.tag < 65536)) c.splits h) in
-    (rw c.tagged at p, ih f.rest)
-
-tagsFor : (rules : List Rule) → All (λ (r : Rule). r.tag < 65536) rules → (n : ℕ) (text : List ℕ)
-    → All TagBelow ((lexFor n rules text) .tokens)
-unfolding lexFor
-tagsFor rules h zero text = tt
-tagsFor rules h (suc n) text = tags-proceed rules text _ refl h _ (tagsFor rules h n)
-
-lex-tags : (rules : List Rule) → All (λ (r : Rule). r.tag < 65536) rules → (text : List ℕ) → All TagBelow ((lex rules text) .tokens)
-unfolding lex
-lex-tags rules h text = tagsFor rules h (length text) text
-
 -- ---- the whole
 
 -- For an accepted book, and a text and records within their limits: a line for each token of the cut, and one for the rest.
@@ -130,12 +87,13 @@ unfolding listing lexOutcome lexRules
 listing-lexed book text records rules byte e small few =
     let j = lex-lengths rules text in
     let r : length text - (length text - length ((lex rules text) .rest)) ≡ length ((lex rules text) .rest) = omega arith in
-    let tags = lex-tags rules (all-tags rules (accepted-valid book rules byte e .rules-valid .each)) text in
+    let valid = accepted-valid book rules byte e .rules-valid in
+    let tags = lex-tags (λ (x : ℕ). x < 65536) rules (all-map ValidRule _ (λ r v. v .tag-below) rules (valid .each)) text in
     rw (
       e,
       le-ltb _ _ small,
       le-ltb _ _ few,
       r,
       token-lines ((lex rules text) .tokens) (drop (10 * length ((lex rules text) .tokens)) records) (omega arith)
-          (all-get TagBelow ((lex rules text) .tokens) (tokenAt [] 0) tags),
+          (all-at (λ (t : Token). t.tag < 65536) ((lex rules text) .tokens) (tokenAt [] 0) tags),
     )

@@ -10,7 +10,7 @@ use lib.ListN.{length, take, drop, length-append}
 use lib.Seq.{take-append-add, take-append-seam, drop-append-seam}
 use Rattle.automaton.specs.Choice.{All}
 use Rattle.automaton.specs.Rule.{Rule, matches}
-use Rattle.automaton.proofs.Tests.{clash, or-false}
+use Rattle.automaton.proofs.Tests.{clash, or-true, or-false}
 use Rattle.longest_match.specs.Lexer.{Found, or, found, isSome, firstMatch, choose, extends, Alone}
 use Rattle.longest_match.proofs.First.{nothing, none-of, Earliest, earliest, unmatched}
 use Rattle.longest_match.proofs.Longest.{grow, choose-grow}
@@ -124,6 +124,12 @@ pub extends-true : (rules : List Rule) (w after : List ℕ) → extends rules w 
 unfolding extends
 extends-true rules w [] e = clash e refl
 extends-true rules w (b ∷ after) e = longer-if rules w b after _ refl (extends-true rules (w ++ (b ∷ [])) after) e
+
+pub extends-longer : (rules : List Rule) (w : List ℕ) (b : ℕ) (more behind : List ℕ) → isSome (firstMatch rules (w ++ b ∷ more)) ≡ true
+    → extends rules w (b ∷ more ++ behind) ≡ true
+unfolding extends
+extends-longer rules w b [] behind m = rw m
+extends-longer rules w b (c ∷ more) behind m = rw (extends-longer rules (w ++ (b ∷ [])) c more behind (rw append-assoc m), or-true)
 
 -- what is chosen: a stretch of at least one byte that its tag's rule matches and no earlier one does; no longer one is matched by any rule
 pub record Chosen (rules : List Rule) (text : List ℕ) (f : Found) : Type 0 where

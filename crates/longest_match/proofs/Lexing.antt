@@ -1,13 +1,18 @@
 -- What `lex` does, and how it and `join` are inverse. Assumes nothing.
-use mathlib.Core.Path.{_≡_, refl, sym, ap, _∙_}
+use mathlib.Core.Path.{_≡_, refl, sym, ap, _∙_, subst}
+use mathlib.Core.Bool.{false}
 use mathlib.Core.Option.{Option, none, some}
 use mathlib.Core.List.{List, [], _∷_, _++_, append-assoc, append-nil}
 use Prim.Native.Nat.{ℕ, zero, suc, _+_, _-_, _≤_, _<_}
 use native.Mathlib.Omega.{arith}
 use lib.ListN.{length, drop, length-append}
 use lib.Seq.{drop-at}
+use Rattle.automaton.specs.Choice.{All}
 use Rattle.automaton.specs.Rule.{Rule}
-use Rattle.longest_match.specs.Lexer.{Token, Found, Lexed, firstMatch, chooseWithin, choose, proceed, lexFor, lex, join, Printable}
+use Rattle.automaton.proofs.Tests.{all-middle}
+use Rattle.longest_match.specs.Lexer.{Token, Found, Lexed, firstMatch, chooseWithin, choose, proceed, lexFor, lex, join}
+use Rattle.longest_match.specs.Lexer.{extends, Alone, Printable}
+use Rattle.longest_match.proofs.First.{earliest}
 use Rattle.longest_match.proofs.Choosing.{choose-at, chosen-splits, chosen-shorter, choose-some}
 
 -- ---- the lexer unfolds: nobody opens its definition again
@@ -34,6 +39,10 @@ lex-unfolds rules (b ∷ text) = proceed-same rules (b ∷ text) _ refl _ _
     (λ x l. fuel rules (length text) (length x) x (omega arith) (omega arith))
 
 -- ---- tokens and rest, joined, are the text
+
+pub join-append : (ts us : List Token) → join (ts ++ us) ≡ join ts ++ join us
+join-append [] us = refl
+join-append (t ∷ ts) us = rw (join-append ts us, append-assoc)
 
 joins-proceed : (rules : List Rule) (text : List ℕ) (o : Option Found) → choose rules text ≡ o → (go : List ℕ → Lexed)
     → ((x : List ℕ) → join ((go x) .tokens) ++ (go x) .rest ≡ x) → join ((proceed o text go) .tokens) ++ (proceed o text go) .rest ≡ text
@@ -89,24 +98,48 @@ printed-lexes rules (t ∷ ts) e (a, x, h) =
 
 -- ---- what is cut without a rest can be printed
 
-printable-proceed : (rules : List Rule) (text : List ℕ) (o : Option Found) → choose rules text ≡ o → (go : List ℕ → Lexed)
-    → ((x : List ℕ) → join ((go x) .tokens) ++ (go x) .rest ≡ x) → ((x : List ℕ) → (go x) .rest ≡ [] → Printable rules ((go x) .tokens))
-    → (proceed o text go) .rest ≡ [] → Printable rules ((proceed o text go) .tokens)
-printable-proceed rules text none e go j h z = tt
-printable-proceed rules text (some f) e go j h z =
-    let g = choose-some rules text f e in
-    let y : join ((go f.rest) .tokens) ≡ f.rest = rw (z, append-nil) at (j f.rest) in
-    (g.alone, rw y g.stops, h f.rest z)
+-- every token is cut as itself, and none is read on into those after it and the rest
+abbrev pub Cuts : List Rule → List Token → List ℕ → Type 0
+Cuts rules [] rest = Unit {0}
+Cuts rules (t ∷ ts) rest = Alone rules t × (extends rules t.bytes (join ts ++ rest) ≡ false) × Cuts rules ts rest
 
-printableFor : (rules : List Rule) (n : ℕ) (text : List ℕ) → (lexFor n rules text) .rest ≡ []
-    → Printable rules ((lexFor n rules text) .tokens)
+cuts-proceed : (rules : List Rule) (text : List ℕ) (o : Option Found) → choose rules text ≡ o → (go : List ℕ → Lexed)
+    → ((x : List ℕ) → join ((go x) .tokens) ++ (go x) .rest ≡ x) → ((x : List ℕ) → Cuts rules ((go x) .tokens) ((go x) .rest))
+    → Cuts rules ((proceed o text go) .tokens) ((proceed o text go) .rest)
+cuts-proceed rules text none e go j h = tt
+cuts-proceed rules text (some f) e go j h =
+    let g = choose-some rules text f e in
+    (g.alone, rw (j f.rest) g.stops, h f.rest)
+
+cutsFor : (rules : List Rule) (n : ℕ) (text : List ℕ) → Cuts rules ((lexFor n rules text) .tokens) ((lexFor n rules text) .rest)
 unfolding lexFor
-printableFor rules zero text z = tt
-printableFor rules (suc n) text z = printable-proceed rules text _ refl _ (joinsFor rules n) (printableFor rules n) z
+cutsFor rules zero text = tt
+cutsFor rules (suc n) text = cuts-proceed rules text _ refl _ (joinsFor rules n) (cutsFor rules n)
+
+pub lexed-cuts : (rules : List Rule) (text : List ℕ) → Cuts rules ((lex rules text) .tokens) ((lex rules text) .rest)
+unfolding lex
+lexed-cuts rules text = cutsFor rules (length text) text
+
+-- what holds of the tags of all rules holds of those of a cut
+cuts-tags : (P : ℕ → Type 0) (rules : List Rule) → All (λ (r : Rule). P r.tag) rules → (ts : List Token) (rest : List ℕ)
+    → Cuts rules ts rest → All (λ (t : Token). P t.tag) ts
+cuts-tags P rules h [] rest c = tt
+cuts-tags P rules h (t ∷ ts) rest (a, stops, c) =
+    let f = earliest rules t.bytes t.tag a in
+    let p = all-middle (λ (r : Rule). P r.tag) f.before f.rule f.behind (subst (All (λ (r : Rule). P r.tag)) f.splits h) in
+    (subst P f.tagged p, cuts-tags P rules h ts rest c)
+
+pub lex-tags : (P : ℕ → Type 0) (rules : List Rule) → All (λ (r : Rule). P r.tag) rules → (text : List ℕ)
+    → All (λ (t : Token). P t.tag) ((lex rules text) .tokens)
+lex-tags P rules h text = cuts-tags P rules h ((lex rules text) .tokens) ((lex rules text) .rest) (lexed-cuts rules text)
+
+cuts-printable : (rules : List Rule) (ts : List Token) → Cuts rules ts [] → Printable rules ts
+cuts-printable rules [] c = tt
+cuts-printable rules (t ∷ ts) (a, stops, c) = (a, rw append-nil at stops, cuts-printable rules ts c)
 
 pub lexed-printable : (rules : List Rule) (text : List ℕ) → (lex rules text) .rest ≡ [] → Printable rules ((lex rules text) .tokens)
-unfolding lex
-lexed-printable rules text = printableFor rules (length text) text
+lexed-printable rules text z =
+    cuts-printable rules ((lex rules text) .tokens) (subst (Cuts rules ((lex rules text) .tokens)) z (lexed-cuts rules text))
 
 pub lexed-whole : (rules : List Rule) (text : List ℕ) (ts : List Token) → lex rules text ≡ record { tokens = ts; rest = [] }
     → Printable rules ts × (join ts ≡ text)

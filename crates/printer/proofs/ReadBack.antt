@@ -1,7 +1,5 @@
 -- The records of a list, read back from their bytes. Assumes nothing.
 use mathlib.Core.Path.{_≡_, refl, sym, ap, _∙_}
-use mathlib.Core.Option.{some}
-use mathlib.Core.Bool.{Bool, true, false}
 use mathlib.Core.List.{List, [], _∷_, _++_}
 use Prim.Native.Nat.{ℕ, zero, suc, _+_, _*_, _/_, _%_, _<_, _≤_}
 use native.Mathlib.Omega.{arith}
@@ -10,11 +8,9 @@ use lib.ListN.{length, getD, take, drop, length-append}
 use lib.Seq.{getD-take, getD-drop}
 use Rattle.big_endian.specs.Numbers.{twoAt, fourAt}
 use Rattle.big_endian.proofs.Numbers.{two-value, four-value}
-use Rattle.automaton.specs.Choice.{if, All}
-use Rattle.automaton.specs.Rule.{Rule, matches}
+use Rattle.automaton.specs.Choice.{All}
 use Rattle.book.specs.Limits.{maxText}
-use Rattle.longest_match.specs.Lexer.{Token, firstMatch, join}
-use Rattle.longest_match.proofs.First.{nothing}
+use Rattle.longest_match.specs.Lexer.{Token, join}
 use Rattle.record.specs.Records.{recordCount, recordOf, recordsAt}
 use Rattle.record.proofs.Records.{length-records, tokenAt, placeAt, records-at, token-laid, laid-within}
 use Rattle.record.specs.Tokens.{recordAt, recordsFrom, recordsOf, tokenIn, tokensIn, tokensOf, InPool}
@@ -112,15 +108,3 @@ module _ (ts : List Token) (rest text : List ℕ) (s : Storable ts rest text) wh
 
   pub records-count : recordCount (recordsAt 0 ts) ≡ length ts
   records-count = count-is
-
--- ---- the tags of a list that is cut
-
-pub matched-tag : (rules : List Rule) (w : List ℕ) (tag : ℕ) → All (λ (r : Rule). r.tag < 65536) rules → firstMatch rules w ≡ some tag
-    → tag < 65536
-unfolding firstMatch
-matched-tag [] w tag h e = nothing refl e
-matched-tag (r ∷ rs) w tag (b, h) e = go (matches r w) (matched-tag rs w tag h) e
-  where
-    go : (m : Bool) → (firstMatch rs w ≡ some tag → tag < 65536) → if m (some r.tag) (firstMatch rs w) ≡ some tag → tag < 65536
-    go true ih z = let q : r.tag ≡ tag = cc in omega arith
-    go false ih z = ih z

@@ -1,8 +1,8 @@
 -- Demand 3 on the plain printer, of the outcomes of `lex` and `print`. Assumes nothing.
-use mathlib.Core.Path.{_≡_, refl, sym, ap, _∙_, subst}
+use mathlib.Core.Path.{_≡_, refl, sym, ap, _∙_}
 use mathlib.Core.Logic.{_↔_}
 use mathlib.Core.Bool.{Bool, true, false}
-use mathlib.Core.Option.{Option, none, some}
+use mathlib.Core.Option.{none}
 use mathlib.Core.List.{List, [], _∷_, append-nil}
 use Prim.Native.Nat.{ℕ, zero, suc, _-_, _*_, _<_, _≤_}
 use native.Mathlib.Omega.{arith}
@@ -12,15 +12,15 @@ use lib.Seq.{take-append-seam, take-at}
 use borrow.Author.Tests.{le-ltb, ltb-false}
 use Rattle.automaton.specs.Choice.{if, All}
 use Rattle.automaton.specs.Rule.{Rule, Sound, stateCount}
+use Rattle.automaton.proofs.Tests.{all-map}
 use Rattle.command.specs.Commands.{byteAt}
-use Rattle.book.specs.Valid.{ValidRule, Valid}
+use Rattle.book.specs.Valid.{ValidRule, ValidRules, Valid}
 use Rattle.book.specs.Limits.{maxText, maxTokens}
 use Rattle.reader.specs.Reading.{Reading, accepted, refused, readBook}
 use Rattle.reader.proofs.Accepted.{accepted-valid}
-use Rattle.longest_match.specs.Lexer.{Token, Found, Lexed, firstMatch, choose, proceed, lex, join, Alone, Printable}
+use Rattle.longest_match.specs.Lexer.{Lexed, firstMatch, lex, join, Printable}
 use Rattle.longest_match.proofs.First.{nothing-empty}
-use Rattle.longest_match.proofs.Choosing.{chosen-shorter, choose-some}
-use Rattle.longest_match.proofs.Lexing.{lex-unfolds, joins, lex-few, lex-lengths, printed-lexes, lexed-printable, join-injective}
+use Rattle.longest_match.proofs.Lexing.{joins, lex-few, lex-lengths, lex-tags, printed-lexes, lexed-printable, join-injective}
 use Rattle.record.specs.Records.{recordsAt, recordCount}
 use Rattle.record.proofs.Records.{length-records}
 use Rattle.record.specs.Tokens.{recordsOf, tokensOf, InPool}
@@ -28,7 +28,7 @@ use Rattle.lexer.specs.Outcome.{LexOutcome, lexAccepted, lexRules, lexReading, 
 use Rattle.printer.specs.Outcome.{PrintOutcome, printAccepted, printOutcome}
 use Rattle.printer.proofs.Accepting.{Passes, Accepts, book-accepts, printed-accepts, written-joins, passes-printable}
 use Rattle.printer.proofs.Accepting.{printable-faultless, printable-apart}
-use Rattle.printer.proofs.ReadBack.{Storable, records-say, records-inside, records-count, matched-tag}
+use Rattle.printer.proofs.ReadBack.{Storable, records-say, records-inside, records-count}
 use Rattle.answer.specs.declared.LexAnswer.the-variants as lexed
 use Rattle.answer.specs.declared.PrintAnswer.the-variants as print
 
@@ -39,16 +39,8 @@ byte-below [] h i = omega arith
 byte-below (b ∷ bytes) (p, h) zero = p
 byte-below (b ∷ bytes) (p, h) (suc i) = byte-below bytes h i
 
-rules-sound : (rules : List Rule) → All ValidRule rules → All (Sound stateCount) rules
-rules-sound [] h = tt
-rules-sound (r ∷ rs) (v, h) = (v .sound, rules-sound rs h)
-
-rules-tags : (rules : List Rule) → All ValidRule rules → All (λ (r : Rule). r.tag < 65536) rules
-rules-tags [] h = tt
-rules-tags (r ∷ rs) (v, h) = (v .tag-below, rules-tags rs h)
-
-pub valid-empty : {rules : List Rule} → Valid rules → firstMatch rules [] ≡ none
-valid-empty {rules} v = nothing-empty stateCount rules (rules-sound rules (v .rules-valid .each))
+pub valid-empty : {rules : List Rule} → ValidRules rules → firstMatch rules [] ≡ none
+valid-empty {rules} v = nothing-empty stateCount rules (all-map ValidRule (Sound stateCount) (λ r h. h .sound) rules (v .each))
 
 pub same-rules : (book : List ℕ) {rules rules₁ : List Rule} → readBook book ≡ accepted rules → readBook book ≡ accepted rules₁ → rules
     ≡ rules₁
@@ -110,33 +102,11 @@ stored-records {book} {text} {room} {n} {place} c =
 
 -- ---- the tokens of a cut
 
--- each token of a cut is alone, whether there is a rest or not
-lex-alone : (rules : List Rule) (n : ℕ) (text : List ℕ) → length text ≤ n → All (Alone rules) ((lex rules text) .tokens)
-lex-alone rules zero text l = subst (λ (x : Lexed). All (Alone rules) (x .tokens)) (sym (lex-unfolds rules text))
-    (go (choose rules text) refl)
-  where
-    go : (o : Option Found) → choose rules text ≡ o → All (Alone rules) ((proceed o text (lex rules)) .tokens)
-    go none e = tt
-    go (some f) e = absurd (omega (arith, chosen-shorter rules text f e))
-lex-alone rules (suc n) text l = subst (λ (x : Lexed). All (Alone rules) (x .tokens)) (sym (lex-unfolds rules text))
-    (go (lex-alone rules n) (choose rules text) refl)
-  where
-    go : ((x : List ℕ) → length x ≤ n → All (Alone rules) ((lex rules x) .tokens)) → (o : Option Found) → choose rules text ≡ o
-        → All (Alone rules) ((proceed o text (lex rules)) .tokens)
-    go ih none e = tt
-    go ih (some f) e = (choose-some rules text f e .alone, ih f.rest (omega (arith, chosen-shorter rules text f e)))
-
-alone-tags : (rules : List Rule) (ts : List Token) → All (λ (r : Rule). r.tag < 65536) rules → All (Alone rules) ts
-    → All (λ (t : Token). t.tag < 65536) ts
-alone-tags rules [] h p = tt
-alone-tags rules (t ∷ ts) h (a, p) = (matched-tag rules t.bytes t.tag h a, alone-tags rules ts h p)
-
 pub cut-storable : (rules : List Rule) (text : List ℕ) → Valid rules → length text ≤ maxText
     → Storable ((lex rules text) .tokens) ((lex rules text) .rest) text
 cut-storable rules text v s =
     record {
-      tags = alone-tags rules ((lex rules text) .tokens) (rules-tags rules (v .rules-valid .each))
-          (lex-alone rules (length text) text (omega arith));
+      tags = lex-tags (λ (x : ℕ). x < 65536) rules (all-map ValidRule _ (λ r h. h .tag-below) rules (v .rules-valid .each)) text;
       short = s;
       joins = joins rules text;
     }
@@ -166,7 +136,7 @@ module _ (book : List ℕ) (bytes : All (λ (b : ℕ). b < 256) book) where
       let a = printed-accepts book records pool out n e in
       let a₁ = printed-accepts book records₁ pool₁ out₁ n₁ e₁ in (
         λ q. w ∙ ap join q ∙ sym w₁,
-        λ q. join-injective (a .rules) (tokensOf records pool) (tokensOf records₁ pool₁) (valid-empty (valid (a .reads)))
+        λ q. join-injective (a .rules) (tokensOf records pool) (tokensOf records₁ pool₁) (valid-empty (valid (a .reads) .rules-valid))
             (passes-printable (a .passes))
             (rw (same-rules book (a .reads) (a₁ .reads)) (passes-printable (a₁ .passes))) (sym w ∙ q ∙ w₁),
       )
@@ -193,7 +163,7 @@ module _ (book : List ℕ) (bytes : All (λ (b : ℕ). b < 256) book) where
   -- what is written is cut without a rest, into the list
   pub output-lexes : (records pool out : List ℕ) (n : ℕ) (a : Accepts book records pool out n)
       → lex (a .rules) (join (tokensOf records pool)) ≡ record { tokens = tokensOf records pool; rest = [] }
-  output-lexes records pool out n a = printed-lexes (a .rules) (tokensOf records pool) (valid-empty (valid (a .reads)))
+  output-lexes records pool out n a = printed-lexes (a .rules) (tokensOf records pool) (valid-empty (valid (a .reads) .rules-valid))
       (passes-printable (a .passes))
 
   pub output-cut : (records pool out : List ℕ) (n : ℕ) → (printOutcome book records pool out) .answer ≡ print.Printed n

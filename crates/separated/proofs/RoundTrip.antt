@@ -10,20 +10,21 @@ use Rattle.automaton.specs.Choice.{All}
 use Rattle.automaton.specs.Rule.{Rule}
 use Rattle.automaton.proofs.Tests.{clash, or-false}
 use Rattle.book.specs.Valid.{ValidRules}
-use Rattle.longest_match.specs.Lexer.{Token, Lexed, firstMatch, extends, lex, join, Alone, Printable}
+use Rattle.longest_match.specs.Lexer.{Token, firstMatch, extends, lex, join, Alone, Printable}
 use Rattle.longest_match.proofs.First.{nothing}
 use Rattle.longest_match.proofs.Choosing.{extends-true}
 use Rattle.longest_match.proofs.Lexing.{printed-lexes}
 use Rattle.record.specs.declared.TokenRecord.{TokenRecord}
 use Rattle.record.specs.Tokens.{recordsOf, tokenIn, tokensIn, tokensOf}
 use Rattle.token_list.proofs.Alone.{alone-first}
+use Rattle.printer.proofs.RoundTrip.{valid-empty}
 use Rattle.used_bytes.specs.Kinds.{separates}
 use Rattle.spacing.specs.Separators.{dropSeparators, meaning, follows, put, separated, spelled}
-use Rattle.separated.proofs.Sides.{all-right, Side, Disjoint, side-unique, token-side, match-side, valid-empty}
+use Rattle.separated.proofs.Sides.{Side, Disjoint, side-unique, token-side, read-on-side}
 use Rattle.separated.proofs.Unrefused.{Taken, CallPasses}
 
 -- a token that is cut as itself, of separator kind or not
-record OfKind (rules : List Rule) (separator : Bool) (t : Token) : Type 0 where
+pub record OfKind (rules : List Rule) (separator : Bool) (t : Token) : Type 0 where
   pub alone : Alone rules t
   pub kind : separates rules t.tag ≡ separator
 
@@ -35,11 +36,10 @@ module _ {rules : List Rule} (v : ValidRules rules) (d : Disjoint rules) where
   -- a text on one side is not read on into bytes on the other
   parted : (s q : Bool) (w x rest : List ℕ) (k l : ℕ) → (s ≡ q → ⊥) → firstMatch rules w ≡ some k → firstMatch rules x ≡ some l
       → All (Side rules s) w → All (Side rules q) x → extends rules w (x ++ rest) ≡ false
-  parted s q [] x rest k l n f g hw hx = nothing (valid-empty v) f
-  parted s q (b ∷ w) [] rest k l n f g hw hx = nothing (valid-empty v) g
-  parted s q (b ∷ w) (c ∷ x) rest k l n f g hw hx = false-of _ (λ e.
-      let y = extends-true rules (b ∷ w) (c ∷ x ++ rest) e in
-      let m = all-right (Side rules s) (b ∷ w) (y.first ∷ y.more) (match-side v s b (w ++ y.first ∷ y.more) d y.matched (hw .0)) in
+  parted s q w [] rest k l n f g hw hx = nothing (valid-empty v) g
+  parted s q w (c ∷ x) rest k l n f g hw hx = false-of _ (λ e.
+      let y = extends-true rules w (c ∷ x ++ rest) e in
+      let m = read-on-side v d s w (y.first ∷ y.more) f hw y.matched in
       let z : y.first ≡ c = cc in
       n (side-unique d (rw z at (m .0)) (hx .0)))
 
@@ -99,18 +99,22 @@ taken-kinds rules pool (r ∷ rs) (t, h) = (taken-kind t, taken-kinds rules pool
 
 module _ {rules : List Rule} (v : ValidRules rules) {sep : TokenRecord} {mode : ℕ} {records pool : List ℕ}
     (p : CallPasses rules sep mode records pool) where
-  disjoint : Disjoint rules
+  pub disjoint : Disjoint rules
   disjoint = record { apart = p .unshared }
 
-  plain : All (OfKind rules false) (tokensOf records pool)
+  pub spacer : OfKind rules true (tokenIn pool sep)
+  spacer = taken-kind (p .separator)
+
+  pub plain : All (OfKind rules false) (tokensOf records pool)
   plain = taken-kinds rules pool (recordsOf records) (p .tokens)
 
   -- what is put together is cut without a rest, and gives the list back
-  pub spelled-rest : (lex rules (spelled rules sep mode records pool)) .rest ≡ []
-  spelled-rest = ap (λ (l : Lexed). l.rest) (separated-lexes v disjoint mode (taken-kind (p .separator)) (tokensOf records pool) plain)
+  pub spelled-cut : lex rules (spelled rules sep mode records pool)
+      ≡ record { tokens = separated rules (tokenIn pool sep) mode (tokensOf records pool); rest = [] }
+  spelled-cut = separated-lexes v disjoint mode spacer (tokensOf records pool) plain
 
   pub spelled-back : dropSeparators rules ((lex rules (spelled rules sep mode records pool)) .tokens) ≡ tokensOf records pool
-  spelled-back = separated-back v disjoint mode (taken-kind (p .separator)) (tokensOf records pool) plain
+  spelled-back = separated-back v disjoint mode spacer (tokensOf records pool) plain
 
 -- and is put together of one list only
 pub spelled-injective : {rules : List Rule} → ValidRules rules → {mode : ℕ}

@@ -1,27 +1,24 @@
 -- Where no byte is used by both kinds of rules, each byte of a token is on the side of the token's kind. Assumes nothing.
 use mathlib.Core.Path.{_≡_, refl, sym, subst}
 use mathlib.Core.Bool.{Bool, true, false, _&&_}
-use mathlib.Core.Option.{none}
+use mathlib.Core.Option.{some}
 use mathlib.Core.List.{List, [], _∷_, _++_}
 use Prim.Native.Nat.{ℕ, _≤_, _<_}
 use native.Mathlib.Omega.{arith}
 use lib.Dec.{eqb}
 use borrow.Author.Tests.{eqb-true, eqb-false, eq-eqb, ne-eqb}
 use Rattle.automaton.specs.Choice.{All, any}
-use Rattle.automaton.specs.Rule.{Rule, used, Sound, stateCount}
-use Rattle.automaton.proofs.Tests.{clash, or-none, or-true, all-map}
+use Rattle.automaton.specs.Rule.{Rule, used}
+use Rattle.automaton.proofs.Tests.{clash, or-none, or-true, all-map, all-right, all-middle}
 use Rattle.automaton.proofs.Used.{uses-all, used-byte}
 use Rattle.book.specs.Valid.{ValidRule, Distinct, ValidRules}
 use Rattle.longest_match.specs.Lexer.{Token, isSome, firstMatch, Alone}
-use Rattle.longest_match.proofs.First.{some-of, Earliest, earliest, nothing-empty}
+use Rattle.longest_match.proofs.First.{nothing, some-of, Earliest, earliest}
+use Rattle.printer.proofs.RoundTrip.{valid-empty}
 use Rattle.used_bytes.specs.Kinds.{plainKind, separatorKind, separates}
 use Rattle.used_bytes.specs.Bytes.{usedByKind, shared}
 
 -- ---- lists
-
-pub all-right : {A : Type 0} (P : A → Type 0) (xs ys : List A) → All P (xs ++ ys) → All P ys
-all-right P [] ys h = h
-all-right P (x ∷ xs) ys h = all-right P xs ys (h .1)
 
 any-middle : {A : Type 0} (f : A → Bool) (xs : List A) (x : A) (ys : List A) → f x ≡ true → any f (xs ++ x ∷ ys) ≡ true
 any-middle f [] x ys e = rw e
@@ -66,9 +63,6 @@ unfolding separates
 untagged [] tag h = refl
 untagged (r ∷ rs) tag (e, h) = rw (e, untagged rs tag h)
 
-all-middle : {A : Type 0} (P : A → Type 0) (xs : List A) (x : A) (ys : List A) → All P (xs ++ x ∷ ys) → P x
-all-middle P xs x ys h = all-right P xs (x ∷ ys) h .0
-
 side-of-tag : (before : List Rule) (r : Rule) (behind : List Rule) → Distinct (before ++ r ∷ behind)
     → separates (before ++ r ∷ behind) r.tag ≡ eqb r.kind separatorKind
 unfolding separates
@@ -104,12 +98,15 @@ module _ {rules : List Rule} (v : ValidRules rules) where
   token-side t a = let f = earliest rules t.bytes t.tag a in rw (tag-side f) (rule-side f)
 
   -- what some rule matches is on one side
-  pub match-side : (s : Bool) (b : ℕ) (w : List ℕ) → Disjoint rules → isSome (firstMatch rules (b ∷ w)) ≡ true → Side rules s b
+  match-side : (s : Bool) (b : ℕ) (w : List ℕ) → Disjoint rules → isSome (firstMatch rules (b ∷ w)) ≡ true → Side rules s b
       → All (Side rules s) (b ∷ w)
   match-side s b w d e h =
       let m = some-of _ e in
       let x = rule-side (earliest rules (b ∷ w) (m .0) (m .1)) in
       subst (λ (k : Bool). All (Side rules k) (b ∷ w)) (side-unique d (x .0) h) x
 
-  pub valid-empty : firstMatch rules [] ≡ none
-  valid-empty = nothing-empty stateCount rules (all-map ValidRule (Sound stateCount) (λ r h. h .sound) rules (v .each))
+  -- what some rule reads a text on into is on the text's side
+  pub read-on-side : Disjoint rules → (s : Bool) (w x : List ℕ) {tag : ℕ} → firstMatch rules w ≡ some tag → All (Side rules s) w
+      → isSome (firstMatch rules (w ++ x)) ≡ true → All (Side rules s) x
+  read-on-side d s [] x f h m = nothing (valid-empty v) f
+  read-on-side d s (b ∷ w) x f h m = all-right (Side rules s) (b ∷ w) x (match-side s b (w ++ x) d m (h .0))

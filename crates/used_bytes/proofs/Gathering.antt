@@ -18,22 +18,20 @@ use Rattle.automaton.proofs.Tests.{clash, or-true, or-none, and-true, all-of, a
 use Rattle.used_bytes.specs.Kinds.{plainKind, separatorKind}
 use Rattle.used_bytes.specs.Contracts.{Ranged, someBelow, MarksAll, Covers}
 use Rattle.used_bytes.specs.Bytes.{lowestFrom, usedByKind, shared, sharedByte}
-use Rattle.used_bytes.proofs.Marking.{not-from, some-not}
-use Rattle.used_bytes.proofs.States.{or-swap}
+use Rattle.used_bytes.proofs.Marking.{not-from, some-not, Together, together-start, together-next, together-end}
 
 -- ---- covered bytes
 
--- the transitions left, from `first` to before `at`, and the marks together cover what all of them and the old marks do
+-- the transitions left are those from `first` to before `at`
 pub record Covering (tb : List ℕ) (first : ℕ) (ts : List Transition) (before : List Bool) (at : ℕ) (set : List Bool) : Type 0 where
   pub left : List Transition
   pub listed : Listed tb first at left
-  pub size : length set ≡ 256
-  pub marks : (b : ℕ) → b < 256 → any (λ (t : Transition). covers t b) left || getD set b false
-      ≡ any (λ (t : Transition). covers t b) ts || getD before b false
+  pub marked : Together ts before left set
 
 pub covering-start : {tb : List ℕ} {k first at : ℕ} {r : Rule} → Table tb k r → first ≡ firstOf (bodyAt tb k) → at ≡ endOf (bodyAt tb k)
     → {set : List Bool} → length set ≡ 256 → Covering tb first r.transitions set at set
-covering-start {r = r} t f e z = record { left = r.transitions; listed = rw (f, e) (t .body .listed); size = z; marks = λ b l. refl }
+covering-start {r = r} t f e z =
+    record { left = r.transitions; listed = rw (f, e) (t .body .listed); marked = together-start r.transitions z }
 
 module _ {tb : List ℕ} {first : ℕ} {ts : List Transition} {before : List Bool} {at : ℕ} {set : List Bool}
     (w : Covering tb first ts before at set) where
@@ -46,26 +44,17 @@ module _ {tb : List ℕ} {first : ℕ} {ts : List Transition} {before : List Boo
 
   pub covering-next : {low high : ℕ} {next : List Bool} → first < at → low ≡ lowOf (edgeAt tb (at - 1)) → high ≡ highOf (edgeAt tb (at - 1))
       → Ranged low high set next → Covering tb first ts before (at - 1) next
-  covering-next {next = next} l p q m = go (w .left) (w .listed) (w .marks)
+  covering-next {next = next} l p q m = go (w .left) (w .listed) (w .marked)
     where
-      go : (us : List Transition) → Listed tb first at us → ((b : ℕ) → b < 256 → any (λ (t : Transition). covers t b) us || getD set b false
-          ≡ any (λ (t : Transition). covers t b) ts || getD before b false) → Covering tb first ts before (at - 1) next
+      go : (us : List Transition) → Listed tb first at us → Together ts before us set → Covering tb first ts before (at - 1) next
       go [] c k = absurd (omega arith)
-      go (u ∷ us) (i, e, c) k =
-          record {
-            left = us;
-            listed = c;
-            size = m .size;
-            marks = λ b j. rw (m .marks b, p, q, e .low, e .high)
-                (or-swap (covers u b) (any (λ (t : Transition). covers t b) us) (getD set b false) ∙ k b j);
-          }
+      go (u ∷ us) (i, e, c) k = record { left = us; listed = c; marked = together-next k (p ∙ e .low) (q ∙ e .high) m }
 
   pub covering-end : at ≤ first → MarksAll ts before set
-  covering-end l = go (w .left) (w .listed) (w .marks)
+  covering-end l = go (w .left) (w .listed) (w .marked)
     where
-      go : (us : List Transition) → Listed tb first at us → ((b : ℕ) → b < 256 → any (λ (t : Transition). covers t b) us || getD set b false
-          ≡ any (λ (t : Transition). covers t b) ts || getD before b false) → MarksAll ts before set
-      go [] c k = record { size = w .size; marks = k }
+      go : (us : List Transition) → Listed tb first at us → Together ts before us set → MarksAll ts before set
+      go [] c k = together-end k
       go (u ∷ us) (i, e, c) k = absurd (omega arith)
 
 -- what a rule uses it covers

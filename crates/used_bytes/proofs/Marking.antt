@@ -3,7 +3,7 @@ use mathlib.Core.Path.{_≡_, refl, ap, _∙_}
 use mathlib.Core.Bool.{Bool, true, false, _&&_, _||_}
 use mathlib.Core.Logic.{_⊎_, inl, inr}
 use mathlib.Core.Option.{none, some}
-use mathlib.Core.List.{List}
+use mathlib.Core.List.{List, [], _∷_}
 use Prim.Native.Nat.{ℕ, zero, suc, _+_, _-_, _≤_, _<_}
 use native.Mathlib.Omega.{arith}
 use native.Mathlib.Numerals.{add-one}
@@ -11,8 +11,10 @@ use lib.Dec.{leb, eqb}
 use lib.ListN.{length, getD, set, replicate, length-set}
 use lib.Seq.{getD-set-same, getD-set-other}
 use borrow.Author.Tests.{leb-true, leb-false, eqb-true, eqb-false}
-use Rattle.automaton.proofs.Tests.{or-false}
-use Rattle.used_bytes.specs.Contracts.{Ranged, someBelow}
+use Rattle.automaton.specs.Choice.{any}
+use Rattle.automaton.specs.Rule.{Transition, covers}
+use Rattle.automaton.proofs.Tests.{or-true, or-false}
+use Rattle.used_bytes.specs.Contracts.{Ranged, someBelow, MarksAll}
 use Rattle.used_bytes.specs.Bytes.{lowestFrom}
 
 -- no marks
@@ -71,6 +73,34 @@ ranging-end {low} {high} {before = before} {after} w l m = record { size = w .si
         let z : high < x = leb-false x high q in
         w .outside x (inr (omega arith))
     go x false p t q = let y : x < low = leb-false low x p in w .outside x (inl y)
+
+-- ---- the bytes of transitions
+
+pub or-swap : (a b c : Bool) → b || (a || c) ≡ (a || b) || c
+or-swap true b c = or-true b
+or-swap false b c = refl
+
+-- the transitions left and the marks together cover what all of them and the old marks do
+pub record Together (ts : List Transition) (before : List Bool) (left : List Transition) (set : List Bool) : Type 0 where
+  pub size : length set ≡ 256
+  pub marks : (b : ℕ) → b < 256 → any (λ (t : Transition). covers t b) left || getD set b false
+      ≡ any (λ (t : Transition). covers t b) ts || getD before b false
+
+pub together-start : (ts : List Transition) {set : List Bool} → length set ≡ 256 → Together ts set ts set
+together-start ts z = record { size = z; marks = λ b l. refl }
+
+module _ {ts : List Transition} {before : List Bool} {t : Transition} {us : List Transition} {set : List Bool} where
+  pub together-next : Together ts before (t ∷ us) set → {low high : ℕ} → low ≡ t.low → high ≡ t.high
+      → {set₁ : List Bool} → Ranged low high set set₁ → Together ts before us set₁
+  together-next w p q m =
+      record {
+        size = m .size;
+        marks = λ b l. rw (m .marks b, p, q)
+            (or-swap (covers t b) (any (λ (u : Transition). covers u b) us) (getD set b false) ∙ w .marks b l);
+      }
+
+pub together-end : {ts : List Transition} {before set : List Bool} → Together ts before [] set → MarksAll ts before set
+together-end w = record { size = w .size; marks = w .marks }
 
 -- ---- the lowest byte
 

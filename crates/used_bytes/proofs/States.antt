@@ -1,6 +1,6 @@
 -- Lists of states and of transitions: which leave a state, which are noted, and which stand in a queue. Assumes nothing.
 use mathlib.Core.Path.{_≡_, refl, sym}
-use mathlib.Core.Bool.{Bool, true, false, _||_}
+use mathlib.Core.Bool.{Bool, true, false}
 use mathlib.Core.List.{List, [], _∷_}
 use Prim.Native.Nat.{ℕ, zero, suc, _-_, _<_}
 use native.Mathlib.Omega.{arith}
@@ -19,10 +19,6 @@ pub either-way : (x y : Bool) → (x ≡ true → y ≡ true) → (y ≡ true �
 either-way true y f g = sym (f refl)
 either-way false true f g = g refl
 either-way false false f g = refl
-
-pub or-swap : (a b c : Bool) → b || (a || c) ≡ (a || b) || c
-or-swap true b c = or-true b
-or-swap false b c = refl
 
 -- a test that t passes is passed by one of them
 abbrev pub Passed : List Transition → Transition → Type 0

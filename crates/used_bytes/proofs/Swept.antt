@@ -17,7 +17,8 @@ use Rattle.automaton.proofs.Tests.{or-true, or-none, all-map, all-among}
 use Rattle.automaton.proofs.Built.{stamp-set, built-edge}
 use Rattle.used_bytes.specs.Contracts.{hits, queued, Worklist, noted, turned, Marked, Free, Releases, Waits, Waiting, waits, Passes}
 use Rattle.used_bytes.specs.Contracts.{between}
-use Rattle.used_bytes.proofs.States.{noted-all, noted-here, or-swap}
+use Rattle.used_bytes.proofs.Marking.{or-swap}
+use Rattle.used_bytes.proofs.States.{noted-all, noted-here}
 use Rattle.used_bytes.proofs.Queues.{Standing, hits-new, standing}
 
 -- ---- one more waits

@@ -76,7 +76,8 @@ way-each r = all-map (λ (t : Transition). (leads r.transitions t.from t.to ≡ 
       any-map (leads r.transitions t.to) (leads r.transitions t.from) (λ f q. leads-on r.transitions t.from t.to f (p .0) q) r.finals e,
       λ b c. p .1 b (rw (c, l, e)),
     )) r.transitions
-    (all-with (λ (t : Transition). leads r.transitions t.from t.to ≡ true) (λ (t : Transition). (b : ℕ) → carries r b t ≡ true → used r b ≡ true)
+    (all-with (λ (t : Transition). leads r.transitions t.from t.to ≡ true)
+    (λ (t : Transition). (b : ℕ) → carries r b t ≡ true → used r b ≡ true)
     (λ (t : Transition). (leads r.transitions t.from t.to ≡ true) × ((b : ℕ) → carries r b t ≡ true → used r b ≡ true)) (λ t p q. (p, q))
     r.transitions (leads-each r.transitions) (flip r.transitions (λ b. any-each (carries r b) r.transitions)))
   where

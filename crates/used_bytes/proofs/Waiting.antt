@@ -15,22 +15,21 @@ use Rattle.automaton.proofs.Chains.{At}
 use Rattle.automaton.proofs.Tests.{or-true, or-none, and-true, all-map, all-with, any-each, any-some, any-map, all-among, among-all}
 use Rattle.used_bytes.specs.Contracts.{Ranged, queued, Worklist, notedAll, Leading}
 use Rattle.used_bytes.specs.Contracts.{Marked, MarksAll, Lets, Waits, Free, Releases}
-use Rattle.used_bytes.proofs.States.{Passed, all-noted, all-noted-all, all-noted-kept, leaving-all, leaving-from, or-swap}
+use Rattle.used_bytes.proofs.Marking.{Together, together-start, together-next, together-end}
+use Rattle.used_bytes.proofs.States.{Passed, all-noted, all-noted-all, all-noted-kept, leaving-all, leaving-from}
 use Rattle.used_bytes.proofs.States.{passed-each, queued-all, queued-at}
 
 -- ---- the bytes of a chain
 
--- the walk along the chain `ts` stands at h: what is left has the bytes that are still to be marked
+-- the walk along the chain `ts` stands at h
 pub record Bytes (tb : List ℕ) (first : ℕ) (ts : List Transition) (before : List Bool) (h : ℕ) (set : List Bool) : Type 0 where
   pub left : List Transition
   pub chain : Chain tb first h left
-  pub size : length set ≡ 256
-  pub marks : (b : ℕ) → b < 256 → any (λ (t : Transition). covers t b) left || getD set b false
-      ≡ any (λ (t : Transition). covers t b) ts || getD before b false
+  pub marked : Together ts before left set
 
 pub bytes-start : {tb : List ℕ} {first : ℕ} {ts : List Transition} {h : ℕ} {set : List Bool} → Chain tb first h ts → length set ≡ 256
     → Bytes tb first ts set h set
-bytes-start {ts = ts} c z = record { left = ts; chain = c; size = z; marks = λ b l. refl }
+bytes-start {ts = ts} c z = record { left = ts; chain = c; marked = together-start ts z }
 
 module _ {tb : List ℕ} {first : ℕ} {ts : List Transition} {before : List Bool} {h : ℕ} {set : List Bool}
     (w : Bytes tb first ts before h set) where
@@ -43,27 +42,18 @@ module _ {tb : List ℕ} {first : ℕ} {ts : List Transition} {before : List Boo
 
   pub bytes-next : {next low high : ℕ} {set₁ : List Bool} → 0 < h → next ≡ nextOf (edgeAt tb h) → low ≡ lowOf (edgeAt tb h)
       → high ≡ highOf (edgeAt tb h) → Ranged low high set set₁ → Bytes tb first ts before next set₁
-  bytes-next {next} {low} {high} {set₁} pos e p q m = go (w .left) (w .chain) (w .marks)
+  bytes-next {next} {set₁ = set₁} pos e p q m = go (w .left) (w .chain) (w .marked)
     where
-      go : (us : List Transition) → Chain tb first h us → ((b : ℕ) → b < 256 → any (λ (t : Transition). covers t b) us || getD set b false
-          ≡ any (λ (t : Transition). covers t b) ts || getD before b false) → Bytes tb first ts before next set₁
+      go : (us : List Transition) → Chain tb first h us → Together ts before us set → Bytes tb first ts before next set₁
       go [] c k = absurd (omega arith)
       go (t ∷ us) (l, c) k =
-          let i : low ≡ t.low = p ∙ l .edge .low in
-          let j : high ≡ t.high = q ∙ l .edge .high in
-          record {
-            left = us;
-            chain = rw e c;
-            size = m .size;
-            marks = λ b n. rw (m .marks b, i, j, or-swap (covers t b) (any (λ (u : Transition). covers u b) us) (getD set b false)) (k b n);
-          }
+          record { left = us; chain = rw e c; marked = together-next k (p ∙ l .edge .low) (q ∙ l .edge .high) m }
 
   pub bytes-end : h ≡ 0 → MarksAll ts before set
-  bytes-end z = go (w .left) (w .chain) (w .marks)
+  bytes-end z = go (w .left) (w .chain) (w .marked)
     where
-      go : (us : List Transition) → Chain tb first h us → ((b : ℕ) → b < 256 → any (λ (t : Transition). covers t b) us || getD set b false
-          ≡ any (λ (t : Transition). covers t b) ts || getD before b false) → MarksAll ts before set
-      go [] c k = record { size = w .size; marks = k }
+      go : (us : List Transition) → Chain tb first h us → Together ts before us set → MarksAll ts before set
+      go [] c k = together-end k
       go (t ∷ us) (l, c) k = let q = l .some in absurd (omega arith)
 
 -- ---- the states of a queue

@@ -41,7 +41,7 @@ mark-range-requires : tie.Need-mark-range-requires Inv-loop μ-loop
 mark-range-requires c κs =
     let k = c .before .before .before .before .before in
     let a = entry k .pre .0 in
-    (omega (arith, c .high .ensures), k .loop .inv (a .rule) (a .table) .size)
+    (omega (arith, c .high .ensures), k .loop .inv (a .rule) (a .table) .marked .size)
 
 loop-less : tie.Need-loop-less Inv-loop μ-loop
 loop-less c = omega (arith, c .before .before .before .before .before .loop-test .taken)

@@ -40,7 +40,7 @@ shared-slice-read-e c = here (c .before) .link .edge .room
 
 mark-range-requires : tie.Need-mark-range-requires Inv-loop μ-loop
 mark-range-requires c κs =
-    (omega (arith, c .high .ensures), known (c .before .before .before .before .before) .size)
+    (omega (arith, c .high .ensures), known (c .before .before .before .before .before) .marked .size)
 
 loop-less : tie.Need-loop-less Inv-loop μ-loop
 loop-less c =
