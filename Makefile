@@ -1,6 +1,6 @@
 # Zagvulem: what make builds goes to build/.
 #
-#   make               the library build/libzagvulem.a, the program build/cutlist and the example build/player
+#   make               the library build/libzagvulem.a, the program build/cutlist and the examples build/player and build/modernize
 #   make sheet         cuts the sample sheet by the built-in book and prints its tokens
 #   make example       runs the player on the sample sheet
 #   make cutlist       build/cutlist alone: cuts text.bin by book.bin of the folder that it is run in
@@ -40,11 +40,11 @@ BELOW := $(shell sed -n 's/^zagvulem://p' crates.txt)
 RT = flock build/rt.lock tools/quiet.sh
 
 DOCUMENTS = docs/FORMAT.md docs/PERFORMANCE.md
-EXAMPLES = examples/player.c examples/sheet.txt examples/builtin.bin examples/make-book.sh examples/list-book.sh
+EXAMPLES = examples/player.c examples/modernize.c examples/sheet.txt examples/builtin.bin examples/make-book.sh examples/list-book.sh
 DIST = zagvulem-$(VERSION)
 DOC = $(DESTDIR)$(PREFIX)/share/doc/zagvulem
 
-all: build/libzagvulem.a build/cutlist build/player
+all: build/libzagvulem.a build/cutlist build/player build/modernize
 
 help:
 	@sed -n -e '/^#/!q' -e 's/^# \{0,1\}//p' Makefile
@@ -69,8 +69,8 @@ cutlist: build/cutlist
 sheet: build/cutlist
 	@cd examples/sheet && ../../build/cutlist
 
-build/player: examples/player.c include/zagvulem.h build/libzagvulem.a
-	$(CC) $(WARNINGS) $(CFLAGS) -Iinclude examples/player.c build/libzagvulem.a -o $@
+build/player build/modernize: build/%: examples/%.c include/zagvulem.h build/libzagvulem.a
+	$(CC) $(WARNINGS) $(CFLAGS) -Iinclude $< build/libzagvulem.a -o $@
 
 example: build/player
 	build/player examples/builtin.bin examples/sheet.txt 2 boats ships

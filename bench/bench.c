@@ -361,7 +361,7 @@ static void bench_line_printers(void)
 
 /* ---- The largest books: each rule a chain of states to a final one, and a dead branch at its middle */
 
-enum { SHAPES = 6, ORDERS = 3, LARGEST = SHAPES * ORDERS, CHAIN_LINKS = 254, CHAIN_ERROR = 255 };
+enum { SHAPES = 6, ORDERS = 3, LARGEST = SHAPES * ORDERS, OF_STEPS = LARGEST, CHAIN_LINKS = 254, CHAIN_ERROR = 255 };
 
 static const struct {
     const char *name;
@@ -378,7 +378,7 @@ static const char *const orders[ORDERS] = {", upward", ", downward", ", without 
 static struct {
     uint8_t book[ZGV_BOOK_BYTES];
     size_t len, moves;
-} largest[LARGEST];
+} largest[LARGEST + 1]; /* the last one is OF_STEPS */
 
 /* The number of the chain's state `i`. */
 static uint8_t chain_state(size_t order, unsigned i)
@@ -433,6 +433,18 @@ static void make_largest(void)
             }
             largest[book].book[largest[book].len++] = 8;
         }
+}
+
+/* 32 chains of as many STEPs as a book has room for when they are SPANs. */
+static void make_of_steps(void)
+{
+    unsigned rule, left = (ZGV_BOOK_BYTES - 1 - 13 * 32) / 5;
+    for (rule = 0; rule < 32; rule++) {
+        const unsigned links = left / (32 - rule);
+        put_chain(OF_STEPS, 0, 0, rule, links);
+        left -= links;
+    }
+    largest[OF_STEPS].book[largest[OF_STEPS].len++] = 8;
 }
 
 /* As many rules as a book may have, each of one move. */
@@ -784,6 +796,29 @@ static void bench_reading(void)
     printf("\nThe built-in book has %lu bytes, the full one %lu.\n", (unsigned long)book_len, (unsigned long)wide_len);
 }
 
+static void read_of_steps(void) { read_largest(OF_STEPS); }
+static void rewrite_zgv(void) { sink = zgv_rewrite_book(book, book_len, out, SHEET); }
+static void rewrite_of_steps(void) { sink = zgv_rewrite_book(largest[OF_STEPS].book, largest[OF_STEPS].len, out, SHEET); }
+
+static void rewriting_line(const char *name, size_t len, const contender *both)
+{
+    both[1].run();
+    if (zgv_number(sink) != ZGV_ACCEPTED)
+        fail("a book is not rewritten");
+    printf("| %s | %lu | %lu | %.2f | %.2f | %.2f |\n", name, (unsigned long)len, (unsigned long)(zgv_first(sink) - len),
+           both[0].best * 1e6, both[1].best * 1e6, both[1].best / both[0].best);
+}
+
+static void bench_rewriting(void)
+{
+    contender all[] = {{"", read_zgv, 0, 0}, {"", rewrite_zgv, 0, 0}, {"", read_of_steps, 0, 0}, {"", rewrite_of_steps, 0, 0}};
+    measure(all, 4);
+    printf("\n### Rewriting a book\n\n| book | bytes | STEPs | `zgv_read_book`, µs | `zgv_rewrite_book`, µs | rewrite : read |\n"
+           "|---|---:|---:|---:|---:|---:|\n");
+    rewriting_line("the built-in one", book_len, all);
+    rewriting_line("32 chains of STEPs", largest[OF_STEPS].len, all + 2);
+}
+
 static void bench_growth(void)
 {
     static const unsigned rules[] = {1, 8, 32}, moves[] = {16, 128, 512};
@@ -942,6 +977,7 @@ int main(int argc, char **argv)
     make_sheet();
     make_lines();
     make_largest();
+    make_of_steps();
     make_many();
     if (!dense_build(table, book, book_len))
         fail("the built-in book has no dense table");
@@ -957,6 +993,7 @@ int main(int argc, char **argv)
         return 0;
     bench_growth();
     bench_reading();
+    bench_rewriting();
     bench_largest();
     bench_hostile();
     return 0;

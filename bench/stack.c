@@ -27,6 +27,8 @@ static const uint8_t text[] = "[00:12.50]oh yes [fade]\n[00:1";
 static uint8_t records[sizeof text * ZGV_RECORD_BYTES];
 static uint8_t plain[2 * ZGV_RECORD_BYTES];
 static uint8_t out[256];
+static uint8_t spans[ZGV_BOOK_BYTES], rewritten[ZGV_BOOK_BYTES];
+static size_t spans_len;
 static volatile uint64_t sink;
 
 static void *nothing(void *unused)
@@ -37,6 +39,16 @@ static void *nothing(void *unused)
 static void *read_book(void *unused)
 {
     sink = zgv_read_book(book, book_len);
+    return unused;
+}
+static void *read_book_strict(void *unused)
+{
+    sink = zgv_read_book_strict(spans, spans_len);
+    return unused;
+}
+static void *rewrite_book(void *unused)
+{
+    sink = zgv_rewrite_book(book, book_len, rewritten, sizeof rewritten);
     return unused;
 }
 static void *rule(void *unused)
@@ -70,7 +82,9 @@ static const struct {
     const char *name;
     void *(*call)(void *);
 } calls[] = {{"zgv_read_book", read_book},
+             {"zgv_read_book_strict", read_book_strict},
              {"zgv_rule", rule},
+             {"zgv_rewrite_book", rewrite_book},
              {"zgv_lex", lex},
              {"zgv_lex_builtin", lex_builtin},
              {"zgv_print", print},
@@ -111,6 +125,20 @@ static void enlarge(unsigned count)
         book[book_len++] = 7;
     }
     book[book_len++] = 8;
+}
+
+/* The book for the stricter reading: a SPAN in the place of each STEP. */
+static void fill_spans(void)
+{
+    static const uint8_t lengths[] = {1, 4, 2, 2, 2, 4, 5, 1, 1};
+    const uint8_t *command = book;
+    spans_len = 0;
+    for (; command < book + book_len; command += lengths[*command]) {
+        const uint8_t span[] = {6, command[1], command[2], command[2], command[3]};
+        const size_t length = *command == 5 ? sizeof span : lengths[*command];
+        memcpy(spans + spans_len, *command == 5 ? span : command, length);
+        spans_len += length;
+    }
 }
 
 /* The stack that a thread takes which makes the call; 0 where the call refuses. */
@@ -205,6 +233,7 @@ int main(int argc, char **argv)
     base = depth("nothing", nothing);
     for (size = 0; size < SIZES; size++) {
         lengths[size] = book_len;
+        fill_spans();
         for (i = 0; i < CALLS; i++) {
             size_t all = depth(calls[i].name, calls[i].call);
             used[size][i] = all > base ? all - base : 0;

@@ -9,6 +9,10 @@
  * between them, so that cutting what it wrote and dropping the separators gives
  * the same list back.
  *
+ * A rule's moves are SPANs. STEP, a shorter form of a move at one byte, is retired:
+ * books that have it are read as ever, zgv_rewrite_book() puts SPANs in the place
+ * of their STEPs, and zgv_read_book_strict() refuses a book that has one.
+ *
  * The library is for x86-64 Linux. FORMAT.md and PERFORMANCE.md, which this
  * header names, come with it: in share/doc/zagvulem where it is installed, in
  * docs/ of a tarball.
@@ -28,8 +32,8 @@
  *  - Each buffer is a pointer and its length in bytes, and so many bytes are
  *    there. The pointer may be NULL where the length is 0. It needs no alignment.
  *  - A buffer that the call may write (`records` of the two lexing calls, `out`
- *    of the two printing calls) shares no byte with any other buffer of the same
- *    call. Buffers that are only read may overlap freely.
+ *    of the two printing calls and of zgv_rewrite_book()) shares no byte with any
+ *    other buffer of the same call. Buffers that are only read may overlap freely.
  *  - Calls may run in several threads at once, but no thread writes a buffer
  *    that another one's running call was given.
  *  - The thread has stack enough (STACK below).
@@ -63,7 +67,9 @@
  *    zgv_lex(), a book of up to 8,192 bytes     24,576
  *    zgv_lex(), a longer book                   92,160
  *    zgv_read_book()                            73,728
+ *    zgv_read_book_strict()                     73,728
  *    zgv_rule()                                 73,728
+ *    zgv_rewrite_book()                         73,728
  *    zgv_print()                                143,360
  *    zgv_print_separated()                      151,552
  *
@@ -86,6 +92,7 @@
  *                               than 65,536 times the pool's
  *    reading a book             its length, and for each move the moves that left
  *                               the same state before it: under 10 ms
+ *    rewriting a book           reading it, and its length twice more
  *
  * A step looks through the moves that leave a state one by one, at most 256. On
  * the machine of PERFORMANCE.md one rule that matches "a", and also any number of
@@ -112,10 +119,10 @@ extern "C" {
 
 /* ---- Version ------------------------------------------------------------ */
 
-#define ZGV_VERSION       "0.3.1"
+#define ZGV_VERSION       "0.4.0"
 #define ZGV_VERSION_MAJOR 0
-#define ZGV_VERSION_MINOR 3
-#define ZGV_VERSION_PATCH 1
+#define ZGV_VERSION_MINOR 4
+#define ZGV_VERSION_PATCH 0
 
 /* ---- Limits ------------------------------------------------------------- */
 
@@ -149,10 +156,13 @@ enum {
     /*
      * The book, in every call that takes one. Commands are checked from the
      * front; within one command the order is 3, 2, 5, 6, 7, 8, at a CLOSE 8, 9,
-     * 10, 11, 12, at END 13, 4. The place is a byte of the book, from 0: the
-     * first one of the command, unless said otherwise.
+     * 10, 11, 12, at END 13, 4. In zgv_read_book_strict() 33 stands directly after
+     * 3. The place is a byte of the book, from 0: the first one of the command,
+     * unless said otherwise.
      */
-    ZGV_BOOK_TOO_LONG     = 1,   /* over 32,768 bytes; place 0 */
+    ZGV_BOOK_TOO_LONG     = 1,   /* over 32,768 bytes; place 0. Of
+                                    zgv_rewrite_book() also where the rewritten
+                                    book would be that long */
     ZGV_CUT_OFF           = 2,   /* operands cut off; or the book stops before
                                     END, then the place is its length */
     ZGV_MISPLACED         = 3,   /* no command, or one not allowed here */
@@ -186,7 +196,8 @@ enum {
     ZGV_OUTPUT_TOO_LONG   = 20,  /* over 65,536 bytes to be written; place 0 */
     ZGV_READ_ON           = 21,  /* some rule matches the token's bytes and a
                                     non-empty beginning of what follows */
-    ZGV_OUTPUT_TOO_SHORT  = 22,  /* the place is the number of bytes needed */
+    ZGV_OUTPUT_TOO_SHORT  = 22,  /* the place is the number of bytes needed; of
+                                    zgv_rewrite_book() too */
 
     /* Printing with separators. */
     ZGV_SHARED_BYTE       = 23,  /* a byte stands in a string that a plain rule
@@ -194,7 +205,10 @@ enum {
                                     matches; the place is the lowest such byte */
     ZGV_UNKNOWN_MODE      = 24,  /* mode above 2; place 0 */
     ZGV_NO_SEPARATOR      = 25,  /* the separator token is of plain kind */
-    ZGV_SEPARATOR_IN_LIST = 26   /* a token of the list is of separator kind */
+    ZGV_SEPARATOR_IN_LIST = 26,  /* a token of the list is of separator kind */
+
+    /* The book, in zgv_read_book_strict() alone. */
+    ZGV_RETIRED           = 33   /* a STEP where one may stand: inside a rule */
 };
 
 /* What a number says, in a few English words; for numbers that no call answers
@@ -229,6 +243,7 @@ static inline const char *zgv_refusal_text(unsigned number)
     case ZGV_UNKNOWN_MODE:      return "there is no such mode";
     case ZGV_NO_SEPARATOR:      return "the separator token is of a plain rule";
     case ZGV_SEPARATOR_IN_LIST: return "a token of the list is of a separator rule";
+    case ZGV_RETIRED:           return "the book has a STEP, which is retired";
     default:                    return "no number that a call answers";
     }
 }
@@ -299,11 +314,49 @@ static inline void zgv_put_record(uint8_t *records, size_t index, zgv_token toke
 /* ---- The calls ---------------------------------------------------------- */
 
 /*
- * Checks a book.
+ * Checks a book. This is the ordinary reading, by which every call but
+ * zgv_read_book_strict() takes its book. It accepts SPAN and STEP: a STEP from s
+ * at b to t means a SPAN from s to t whose low and high are b.
  *
  * Accepted: first value the number of its rules, second 0. Refused: 1 to 13.
  */
 uint64_t zgv_read_book(const uint8_t *book, size_t book_len);
+
+/*
+ * Checks a book by the stricter reading, which takes no STEP; for a book before it
+ * is given to others. Of a book without STEP it answers as zgv_read_book().
+ *
+ * Accepted: first value the number of its rules, second 0.
+ * Refused: 1 to 13, and 33 at the first byte of the STEP that is met first. At one
+ * command 33 stands after 3 and before all others: outside a rule a STEP is
+ * refused by 3; inside one by 33, also where its operands are cut off or it is the
+ * rule's 513th move.
+ */
+uint64_t zgv_read_book_strict(const uint8_t *book, size_t book_len);
+
+/*
+ * Writes `book` from the start of `out` with a SPAN in the place of each STEP,
+ * `06 from byte byte to` for `05 from byte to`, and every other command byte for
+ * byte. `out` shares no byte with `book`.
+ *
+ * What it writes has the same rules. Both readings accept it, and all other calls
+ * answer and write the same by it as by `book`. A book without STEP is written as
+ * it is.
+ *
+ * Each STEP makes the book one byte longer: the first value less book_len is the
+ * number of STEPs. A book never has more than ZGV_BOOK_BYTES, so that an `out` of
+ * so many bytes is always long enough.
+ *
+ * Accepted: first value the number of bytes written, second 0. The bytes of `out`
+ * past them stay as they were.
+ * Refused: 1 to 13 for the book; then 1 at place 0 where the rewritten book would
+ * have more than ZGV_BOOK_BYTES (with a book_len up to that, 1 always says this);
+ * then 22 where `out` is shorter than the rewritten book. The place of 22 is the
+ * number of bytes needed, so that a call with no output says how many they are.
+ * All of `out` stays as it was.
+ */
+uint64_t zgv_rewrite_book(const uint8_t *book, size_t book_len,
+                          uint8_t *out, size_t out_len);
 
 /*
  * Says the tag and the kind of rule number `index` of a book, from 0 in the
@@ -354,7 +407,8 @@ uint64_t zgv_lex_builtin(const uint8_t *text, size_t text_len,
 
 /*
  * The built-in book as bytes, for calls that take a book: zgv_lex() by it answers
- * as zgv_lex_builtin(), and the printers print what either has cut.
+ * as zgv_lex_builtin(), and the printers print what either has cut. It has STEPs,
+ * so that zgv_read_book_strict() refuses it.
  */
 static const uint8_t zgv_builtin_book[168] ZGV_UNUSED = {
     0x01, 0x00, 0x01, 0x00, 0x02, 0x00, 0x03, 0x0B, 0x04, 0x0A, 0x05, 0x00,

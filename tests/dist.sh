@@ -20,6 +20,7 @@ PATH=/usr/bin:/bin
 ! command -v rt >/dev/null || fail "rt is in $PATH"
 sh -e "$tmp/commands" >"$tmp/written" 2>"$tmp/said" || fail "the commands of the tarball's README.md: $(cat "$tmp/said")"
 grep -q 'ships' "$tmp/written" || fail 'the player of the tarball writes no changed sheet'
+[ -s spans.bin ] || fail 'modernize of the tarball writes no book'
 cc -std=c99 -Wall -Wextra -Werror -pedantic -Iinclude cut.c lib/libzagvulem.a -o cut || fail 'compiling the program of README.md'
 [ "$(./cut <"$sheet" | wc -l)" -eq 168 ] || fail 'the program of README.md does not run'
 sh "$tmp/format" >"$tmp/printed" 2>&1
@@ -28,4 +29,4 @@ for link in $(sed 's/](/\n](/g' README.md docs/*.md | sed -n 's/^](\([^)#]*\).*/
     [ -e "docs/$link" ] || fail "a document of the tarball points to $link, which is not there"
 done
 
-echo "dist: $(basename "$tarball"), its player, README's program and FORMAT.md's commands work without rt"
+echo "dist: $(basename "$tarball"), its examples, README's program and FORMAT.md's commands work without rt"

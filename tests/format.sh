@@ -1,14 +1,15 @@
 #!/bin/sh
 # docs/FORMAT.md: its commands print what it says, and its numbers are so.
 . "$(dirname "$0")/common"
-needs build/cutlist build/player
+needs build/cutlist build/player build/modernize
 cutlist=$PWD/build/cutlist
+modernize=$PWD/build/modernize
 PATH=$PWD/examples:$PATH
 
 # run from a folder that has what the commands ask for
 mkdir "$tmp/top" "$tmp/top/build"
 cp -R examples "$tmp/top/"
-cp build/cutlist build/player "$tmp/top/build/"
+cp build/cutlist build/player build/modernize "$tmp/top/build/"
 printf 'all:\n' >"$tmp/top/Makefile"
 awk -v LANG=sh -f tests/blocks.awk docs/FORMAT.md >"$tmp/commands"
 awk -v LANG=text -f tests/blocks.awk docs/FORMAT.md >"$tmp/wanted"
@@ -23,6 +24,7 @@ hex() { od -An -v -tx1 "$1" | tr -d '\n'; }
 hex comments.bin | sed 's/01 00 03 01/01 00 03 00/' | make-book.sh >feeds.bin
 [ "$("$player" -l feeds.bin sheet 2>/dev/null)" = "$(printf 'oh no # twice\nyes')" ] || fail 'the line feed as the only separator'
 builtin=$tmp/top/examples/builtin.bin
+[ "$(list-book.sh "$builtin" | awk '$2 == "STEP" { print $1; exit }')" -eq 10 ] || fail 'the first STEP of the built-in book'
 { hex "$builtin" | sed 's/08$//'; echo ' 01 00 06 00 02 00 03 02 04 01 06 00 00 ff 01 07 08'; } | make-book.sh >book.bin
 printf 'oh\r\n' >text.bin
 [ "$("$cutlist" | tr '\n' /)" = '0 2 0 2/1 6 2 1/2 4 3 1/rest 4 0/' ] || fail 'a catch-all over all bytes'
@@ -51,6 +53,8 @@ moves() {
     }' | make-book.sh >book.bin
 }
 moves 8103 4; reads 'rest 0 0' '8,103 STEPs in 32 rules'
+"$modernize" book.bin spans.bin 2>said && fail 'a book that is full of STEPs is rewritten'
+grep -q 'more than 32768 .*(number 1)$' said || fail "of a book that is full of STEPs modernize says: $(cat said)"
 moves 8104 4; reads 'refused 1 0' '8,104 STEPs in 32 rules'
 moves 6483 5; reads 'rest 0 0' '6,483 SPANs in 32 rules'
 moves 6484 5; reads 'refused 1 0' '6,484 SPANs in 32 rules'
@@ -65,7 +69,8 @@ words() {
                 from = 0
                 for (letter = 0; letter < 6; letter++) {
                     state++
-                    printf "05 %02x %02x %02x\n", from, letter == 0 ? 65 + word : 97 + letter, state
+                    byte = letter == 0 ? 65 + word : 97 + letter
+                    printf "06 %02x %02x %02x %02x\n", from, byte, byte, state
                     from = state
                 }
                 printf "04 %02x\n", from
@@ -75,8 +80,8 @@ words() {
         print "08"
     }' | make-book.sh >book.bin
 }
-words 29; reads 'rest 0 0' '29 rules of 42 words of six letters'
-words 30; reads 'refused 1 0' '30 rules of 42 words of six letters'
+words 24; reads 'rest 0 0' '24 rules of 42 words of six letters'
+words 25; reads 'refused 1 0' '25 rules of 42 words of six letters'
 words 1
 printf 'AbcdefBbcdefjbcdef' >text.bin
 [ "$("$cutlist" | tail -n 1)" = 'rest 18 0' ] || fail 'words of a list are not cut'

@@ -26,18 +26,21 @@ static void versions(void)
     HOLDS(strcmp(numbers, ZGV_VERSION) == 0);
 }
 
+static int is_answered(unsigned number)
+{
+    return number <= ZGV_SEPARATOR_IN_LIST || number == ZGV_RETIRED;
+}
+
 /* Each number has a text of its own, all others one that is none of them. */
 static void texts(void)
 {
     unsigned i, k;
-    HOLDS(ZGV_SEPARATOR_IN_LIST == 26);
-    for (i = 0; i <= 27; i++) {
+    HOLDS(ZGV_SEPARATOR_IN_LIST == 26 && ZGV_RETIRED == 33);
+    for (i = 0; i < 1000; i++) {
         HOLDS(strlen(zgv_refusal_text(i)) > 5);
         for (k = 0; k < i; k++)
-            HOLDS(strcmp(zgv_refusal_text(i), zgv_refusal_text(k)) != 0);
+            HOLDS((strcmp(zgv_refusal_text(i), zgv_refusal_text(k)) == 0) == (!is_answered(i) && !is_answered(k)));
     }
-    for (i = 28; i < 1000; i++)
-        HOLDS(strcmp(zgv_refusal_text(i), zgv_refusal_text(27)) == 0);
     HOLDS(strcmp(zgv_refusal_text((unsigned)-1), zgv_refusal_text(27)) == 0);
 }
 
@@ -105,6 +108,45 @@ static void records(void)
     HOLDS(memcmp(bytes + 10, "\xAB\xCD\x01\x23\x45\x67\x89\xAB\xCD\xEF", 10) == 0 && bytes[9] == 0);
 }
 
+/* The built-in book has STEPs; rewritten it has none, and cuts the sheet that cuts() has read as before. */
+static void rewriting(void)
+{
+    static uint8_t spans[ZGV_BOOK_BYTES], again[ZGV_BOOK_BYTES];
+    size_t length = strlen((const char *)sheet), needed, i;
+    uint64_t answer = zgv_read_book_strict(BOOK);
+    HOLDS(zgv_number(answer) == ZGV_RETIRED && zgv_place(answer) == 10 && zgv_builtin_book[10] == 5);
+    answer = zgv_rewrite_book(BOOK, NULL, 0);
+    needed = (size_t)zgv_place(answer);
+    HOLDS(zgv_number(answer) == ZGV_OUTPUT_TOO_SHORT && needed > sizeof zgv_builtin_book);
+    memset(spans, 0xC7, sizeof spans);
+    HOLDS(zgv_rewrite_book(BOOK, spans, needed - 1) == answer);
+    for (i = 0; i < sizeof spans; i++)
+        HOLDS(spans[i] == 0xC7);
+    HOLDS(zgv_rewrite_book(BOOK, spans, sizeof spans) == (uint64_t)needed << 28);
+    for (i = needed; i < sizeof spans; i++)
+        HOLDS(spans[i] == 0xC7);
+    HOLDS(zgv_read_book_strict(spans, needed) == zgv_read_book(BOOK) && zgv_read_book(spans, needed) == zgv_read_book(BOOK));
+    HOLDS(zgv_rewrite_book(spans, needed, again, needed) == (uint64_t)needed << 28 && memcmp(spans, again, needed) == 0);
+    for (i = 0; i <= 5; i++)
+        HOLDS(zgv_rule(spans, needed, (uint32_t)i) == zgv_rule(BOOK, (uint32_t)i));
+    memset(first, 1, sizeof first);
+    memset(second, 1, sizeof second);
+    answer = zgv_lex(BOOK, sheet, length, first, sizeof first);
+    HOLDS(zgv_first(answer) > 100 && zgv_lex(spans, needed, sheet, length, second, sizeof second) == answer);
+    HOLDS(memcmp(first, second, sizeof first) == 0);
+}
+
+/* At a STEP 33 stands after 3 and before the others; of a book without one both readings answer alike. */
+static void strictly(void)
+{
+    static const uint8_t outside[] = {5, 0, 'a', 1}, cut_off[] = {1, 0, 1, 0, 5, 0}, spare[] = {1, 0, 1, 0, 2, 0, 2, 0, 5, 0, 'a', 1};
+    HOLDS(zgv_read_book_strict(outside, sizeof outside) == (uint64_t)ZGV_MISPLACED << 56);
+    HOLDS(zgv_read_book_strict(cut_off, sizeof cut_off) == ((uint64_t)ZGV_RETIRED << 56 | 4));
+    HOLDS(zgv_read_book(cut_off, sizeof cut_off) == ((uint64_t)ZGV_CUT_OFF << 56 | 4));
+    HOLDS(zgv_read_book_strict(spare, sizeof spare) == ((uint64_t)ZGV_TWICE_OR_MISSING << 56 | 6));
+    HOLDS(zgv_read_book_strict(NULL, 0) == zgv_read_book(NULL, 0) && zgv_rewrite_book(NULL, 0, NULL, 0) == zgv_read_book(NULL, 0));
+}
+
 /* Empty buffers may be NULL; 15 says how many records are needed, 22 how many bytes. */
 static void empty(void)
 {
@@ -148,6 +190,8 @@ int main(int argc, char **argv)
     texts();
     book(argv[1]);
     cuts();
+    rewriting();
+    strictly();
     records();
     empty();
     modes();

@@ -12,16 +12,19 @@ if command -v pkg-config >/dev/null; then
 else
     flags="-I$tmp/usr/include -L$tmp/usr/lib -lzagvulem"
 fi
-(cd "$tmp" && $CC -std=c99 cut.c $flags -o cut && $CC -std=c99 usr/share/doc/zagvulem/examples/player.c $flags -o player) ||
-    fail 'compiling by what is installed'
-"$tmp/cut" <examples/sheet.txt >/dev/null || fail 'the program of README.md does not run'
 examples=$tmp/usr/share/doc/zagvulem/examples
+(cd "$tmp" && $CC -std=c99 cut.c $flags -o cut && for program in player modernize; do
+    $CC -std=c99 "$examples/$program.c" $flags -o "$program" || exit 1
+done) || fail 'compiling by what is installed'
+"$tmp/cut" <examples/sheet.txt >/dev/null || fail 'the program of README.md does not run'
 "$tmp/player" "$examples/builtin.bin" "$examples/sheet.txt" 2>/dev/null | cmp - examples/sheet.txt || fail 'the player does not run'
 mkdir "$tmp/try"
 "$examples/make-book.sh" <<'END' >"$tmp/try/book.bin"
 01 00 01 00 02 00 03 02 04 01 05 00 61 01 07 08
 END
 [ "$(cd "$tmp/try" && "$tmp/usr/bin/cutlist")" = 'rest 0 0' ] || fail 'cutlist does not run'
+"$tmp/modernize" "$tmp/try/book.bin" "$tmp/try/spans.bin" 2>/dev/null || fail 'modernize does not run'
+[ "$("$examples/list-book.sh" "$tmp/try/spans.bin" | grep -c ' SPAN ')" -eq 1 ] || fail 'modernize does not rewrite'
 
 # each document that the header names is there, and points to nothing that is not
 for document in $(grep -o '[A-Z][A-Z]*\.md' "$tmp/usr/include/zagvulem.h" | sort -u); do

@@ -13,7 +13,10 @@ unset MAKEFLAGS MFLAGS MAKELEVEL
 
 make -j4 all >said 2>&1 || fail "make -j4 on a fresh clone: $(cat said)"
 [ ! -e overlap ] || fail "two runs of rt at once: $(cat overlap)"
-[ -s build/libzagvulem.a ] && [ -x build/cutlist ] && [ -x build/player ] || fail 'make -j4 leaves something unbuilt'
+[ -s build/libzagvulem.a ] || fail 'make -j4 leaves the library unbuilt'
+for program in cutlist player modernize; do
+    [ -x "build/$program" ] || fail "make -j4 leaves $program unbuilt"
+done
 grep -q '^rt: reader proved (4 s)$' said || fail "no line for a crate: $(cat said)"
 ! grep -q 'fn reader\|logic=\|unchanged' said || fail "make prints proofs: $(cat said)"
 [ "$(wc -l <said)" -lt 12 ] || fail "make prints $(wc -l <said) lines"

@@ -26,6 +26,6 @@ head -c 65537 /dev/zero | "$tmp/cut" >"$tmp/tokens" 2>"$tmp/said" && fail 'a tex
 nm build/libzagvulem.a | awk '$2 == "T" { print $3 }' | sort >"$tmp/has"
 sed -n 's/^uint64_t \(zgv_[a-z_]*\)(.*/\1/p' include/zagvulem.h | sort >"$tmp/declares"
 diff "$tmp/has" "$tmp/declares" || fail 'the library has other functions than the header declares'
-grep -q 'Six functions' README.md && [ "$(wc -l <"$tmp/has")" -eq 6 ] || fail 'README.md says another number of functions'
+grep -q 'Eight functions' README.md && [ "$(wc -l <"$tmp/has")" -eq 8 ] || fail 'README.md says another number of functions'
 
 echo "readme: its program and its first command do what it says"

@@ -1,10 +1,12 @@
-//! A call of one of the six operations, and what it leaves.
+//! A call of one of the eight operations, and what it leaves.
 
-use crate::reference::{self, Cut, Record, Refusal};
+use crate::reference::{self, Cut, Reading, Record, Refusal};
 
 #[derive(Clone, Copy, Debug, PartialEq, Eq, PartialOrd, Ord)]
 pub enum Operation {
     ReadBook,
+    ReadBookStrict,
+    RewriteBook,
     Rule,
     Lex,
     LexBuiltin,
@@ -12,8 +14,10 @@ pub enum Operation {
     PrintSeparated,
 }
 
-pub const OPERATIONS: [Operation; 6] = [
+pub const OPERATIONS: [Operation; 8] = [
     Operation::ReadBook,
+    Operation::ReadBookStrict,
+    Operation::RewriteBook,
     Operation::Rule,
     Operation::Lex,
     Operation::LexBuiltin,
@@ -25,6 +29,8 @@ impl Operation {
     pub fn name(self) -> &'static str {
         match self {
             Operation::ReadBook => "zgv_read_book",
+            Operation::ReadBookStrict => "zgv_read_book_strict",
+            Operation::RewriteBook => "zgv_rewrite_book",
             Operation::Rule => "zgv_rule",
             Operation::Lex => "zgv_lex",
             Operation::LexBuiltin => "zgv_lex_builtin",
@@ -69,6 +75,14 @@ impl Call {
         Call { book: book.to_vec(), ..Call::new(Operation::ReadBook) }
     }
 
+    pub fn read_book_strict(book: &[u8]) -> Call {
+        Call { book: book.to_vec(), ..Call::new(Operation::ReadBookStrict) }
+    }
+
+    pub fn rewrite_book(book: &[u8], out: Vec<u8>) -> Call {
+        Call { book: book.to_vec(), out, ..Call::new(Operation::RewriteBook) }
+    }
+
     pub fn rule(book: &[u8], index: u32) -> Call {
         Call { book: book.to_vec(), index, ..Call::new(Operation::Rule) }
     }
@@ -107,7 +121,8 @@ impl Call {
     /// The buffers lent, with the names of the header.
     pub fn buffers(&self) -> Vec<(&'static str, &Vec<u8>)> {
         match self.operation {
-            Operation::ReadBook | Operation::Rule => vec![("book", &self.book)],
+            Operation::ReadBook | Operation::ReadBookStrict | Operation::Rule => vec![("book", &self.book)],
+            Operation::RewriteBook => vec![("book", &self.book), ("out", &self.out)],
             Operation::Lex => vec![("book", &self.book), ("text", &self.text), ("records", &self.records)],
             Operation::LexBuiltin => vec![("text", &self.text), ("records", &self.records)],
             Operation::Print | Operation::PrintSeparated => {
@@ -162,21 +177,25 @@ impl std::fmt::Display for Answer {
     }
 }
 
-fn accepted(first: usize, second: usize) -> u64 {
+pub fn accepted(first: usize, second: usize) -> u64 {
     (first as u64) << 28 | second as u64
 }
 
-fn refused(r: Refusal) -> u64 {
+pub fn refused(r: Refusal) -> u64 {
     (r.number as u64) << 56 | (r.place as u64).min((1 << 56) - 1)
 }
 
-/// What document 01 asks of a call.
+/// What documents 01 and 02 ask of a call.
 pub fn expected(call: &Call) -> Outcome {
     let mut after = call.clone();
     let list = || reference::records_of(&call.records);
     let room = call.records.len() / reference::RECORD_BYTES;
     let answer = match call.operation {
-        Operation::ReadBook => reference::read_book(&call.book).map(|rules| accepted(rules, 0)),
+        Operation::ReadBook => reference::read_book(&call.book, Reading::Ordinary).map(|rules| accepted(rules, 0)),
+        Operation::ReadBookStrict => reference::read_book(&call.book, Reading::Strict).map(|rules| accepted(rules, 0)),
+        Operation::RewriteBook => {
+            reference::rewrite_book(&call.book, call.out.len()).map(|bytes| write(bytes, &mut after.out))
+        }
         Operation::Rule => {
             let named = reference::rule(&call.book, call.index as usize);
             named.map(|(tag, kind)| accepted(tag as usize, kind as usize))

@@ -5,6 +5,7 @@ use crate::dead;
 use crate::fewest;
 use crate::generate::{bytes_of, Book, Rule};
 use crate::reference::{self as paper, Record};
+use crate::rewriting;
 
 /// A rule that matches one or more of `letter`, or exactly one where `once`.
 pub fn letter(tag: u16, kind: u8, letter: u8, once: bool) -> Rule {
@@ -73,11 +74,12 @@ pub fn calls() -> Vec<(String, Call)> {
         if call.operation == Operation::ReadBook {
             let record = bytes_of(&[record(1, 0, 1)]);
             let between = Record { tag: 2, place: 1, length: 1 };
+            all.extend(rewriting::calls(&call.book).into_iter().map(|c| (format!("{name}, without STEP"), c)));
             all.push((format!("{name}, its first rule"), Call::rule(&call.book, 0)));
             all.push((format!("{name}, cutting"), Call::lex(&call.book, b"abca", room(4))));
             all.push((format!("{name}, writing"), Call::print(&call.book, record.clone(), b"a", vec![0xEE; 2])));
-            let call = Call::print_separated(&call.book, between, 2, record, b"a ", vec![0xEE; 2]);
-            all.push((format!("{name}, spacing"), call));
+            let spacing = Call::print_separated(&call.book, between, 2, record, b"a ", vec![0xEE; 2]);
+            all.push((format!("{name}, spacing"), spacing));
         }
         all.push((name.to_string(), call));
     };
@@ -89,6 +91,7 @@ pub fn calls() -> Vec<(String, Call)> {
     separated(&mut add);
     dead::branches(&mut add);
     fewest::lists(&mut add);
+    rewriting::books(&mut add);
     all
 }
 

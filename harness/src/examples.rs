@@ -129,7 +129,8 @@ fn said(call: &Call, outcome: &Outcome) -> String {
         return format!("refused {} at {}", answer.number(), answer.place());
     }
     match call.operation {
-        Operation::ReadBook => format!("{count} rule"),
+        Operation::ReadBook | Operation::ReadBookStrict => format!("{count} rule"),
+        Operation::RewriteBook => format!("{count} bytes"),
         Operation::Rule => format!("tag {count}, kind {}", answer.second()),
         Operation::Print | Operation::PrintSeparated => {
             format!("{:?}", String::from_utf8_lossy(&outcome.buffers[3][..count]))

@@ -3,6 +3,7 @@
 use crate::calls::{self, Answer, Call};
 use crate::random::Random;
 use crate::reference::{self as paper, Record};
+use crate::rewriting;
 
 /// A rule as its parts, from which its commands are written.
 #[derive(Clone)]
@@ -304,17 +305,59 @@ fn branched_book(r: &mut Random) -> (Book, Alphabet) {
     (Book { rules }, alphabet)
 }
 
+/// How many STEPs of a book are written as SPANs: none, all, or about half of them.
+fn spans(r: &mut Random) -> usize {
+    *r.pick(&[0, 0, 1, 2])
+}
+
+/// Writes a STEP as a SPAN once in `spans` times, or never where that is 0.
+fn spell(r: &mut Random, commands: &mut [Vec<u8>], spans: usize) {
+    for command in commands {
+        if let [paper::STEP, from, byte, to] = command[..] {
+            if spans > 0 && r.once_in(spans) {
+                *command = vec![paper::SPAN, from, byte, byte, to];
+            }
+        }
+    }
+}
+
 /// The commands of a rule may stand in any order between RULE and CLOSE.
 pub fn shuffled(r: &mut Random, book: &Book) -> Vec<u8> {
+    let spans = spans(r);
     let mut bytes = Vec::new();
     for rule in &book.rules {
         let mut commands = rule.commands();
+        spell(r, &mut commands, spans);
         let last = commands.len() - 1;
         r.shuffle(&mut commands[1..last]);
         bytes.extend(commands.concat());
     }
     bytes.push(paper::END);
     bytes
+}
+
+/// A book of rules with up to 512 moves, filled up by FINALs until its rewritten form is about as long as a book may be.
+fn long_book(r: &mut Random) -> Vec<u8> {
+    let length = paper::BOOK_BYTES - 2 + if r.once_in(4) { r.from(5, 6_000) } else { r.below(5) };
+    let mut rules = Vec::new();
+    for tag in 2..=r.from(2, 13) {
+        let moves = (0..r.from(1, paper::RULE_MOVES)).map(|i| ((i % 99) as u8, i as u8, i as u8, (i % 99) as u8 + 1));
+        rules.push(Rule { tag: tag as u16, error: 255, finals: vec![1], moves: moves.collect(), ..empty_rule() });
+    }
+    let mut bytes = shuffled(r, &Book { rules });
+    bytes.pop();
+    let grown = paper::spanned(paper::placed(&bytes).map(|(_, command)| command)).len();
+    // END and the commands of the rule that is filled up take ten bytes
+    let mut left = length - grown - 10;
+    let mut filled = vec![paper::RULE, 0, 1, 0, paper::START, 0, paper::ERROR, 255];
+    if left % 2 == 1 {
+        filled.extend([paper::SPAN, 0, 0, 255, 1]);
+        left -= 5;
+    }
+    filled.extend([paper::FINAL, 1].repeat(left / 2));
+    filled.push(paper::CLOSE);
+    let parts = if r.once_in(2) { [bytes, filled] } else { [filled, bytes] };
+    [parts.concat(), vec![paper::END]].concat()
 }
 
 // ---- Damaged books
@@ -327,7 +370,9 @@ pub fn faulty(r: &mut Random, book: &Book) -> Vec<u8> {
     let rule = &mut book.rules[k];
     let mut extra: Option<Vec<u8>> = None;
     let mut drop: Option<u8> = None;
-    match r.below(14) {
+    let mut spans = spans(r);
+    let (mut outside, mut ends) = (false, false);
+    match r.below(16) {
         0 => rule.tag = 0,
         1 => rule.tag = other,
         2 => rule.kind = r.from(2, 255) as u8,
@@ -346,12 +391,26 @@ pub fn faulty(r: &mut Random, book: &Book) -> Vec<u8> {
         10 => drop = Some(paper::ERROR),
         11 => extra = Some(vec![paper::SPAN, r.byte(), 9, 8, r.byte()]),
         12 => extra = Some(vec![*r.pick(&[paper::RULE, paper::END, 0, 9, 255]), 0, 1, 0]),
+        13 | 14 => {
+            // often the only STEP
+            extra = Some(vec![paper::STEP, r.byte(), r.byte(), r.byte()]);
+            spans = *r.pick(&[1, 1, spans]);
+            outside = r.once_in(3);
+            ends = r.once_in(2);
+        }
         _ => drop = Some(*r.pick(&[paper::CLOSE, paper::RULE, paper::END])),
     }
     let mut commands = book.commands();
+    spell(r, &mut commands, spans);
     if let Some(extra) = extra {
-        let at = r.from(1, commands.len() - 1);
+        let mut places: Vec<usize> = (1..commands.len()).collect();
+        places.retain(|&at| !outside || commands[at - 1][0] == paper::CLOSE);
+        let at = *r.pick(&places);
         commands.insert(at, extra);
+        if ends {
+            commands.truncate(at + 1);
+            commands[at].truncate(r.from(1, 4));
+        }
     }
     if let Some(code) = drop {
         let all: Vec<usize> = (0..commands.len()).filter(|&i| commands[i][0] == code).collect();
@@ -557,7 +616,18 @@ fn with_room(r: &mut Random, mut call: Call, records: bool) -> Call {
     call
 }
 
-/// The calls of one case: a book, each operation on it, and writing with separators by another book.
+/// The rewriting of a book with so many of the rooms, of which one is just enough, and its stricter reading.
+fn without_step(r: &mut Random, book: &[u8], count: usize) -> Vec<Call> {
+    let mut rooms = rewriting::rooms(book);
+    r.shuffle(&mut rooms[1..]);
+    let mut calls: Vec<Call> =
+        rooms.into_iter().take(count).map(|room| Call::rewrite_book(book, r.bytes(room))).collect();
+    calls.push(Call::read_book_strict(book));
+    calls
+}
+
+/// The calls of one case: a book, each operation on it, and writing with separators by another book, which is read strictly and
+/// rewritten too; now and then a book that rewriting may make too long.
 pub fn case(r: &mut Random) -> Vec<Call> {
     let (rules, alphabet) = book(r);
     let sound = shuffled(r, &rules);
@@ -567,7 +637,8 @@ pub fn case(r: &mut Random) -> Vec<Call> {
         _ => sound.clone(),
     };
     let longest = if r.once_in(60) { 300 } else { 24 };
-    let mut calls = vec![Call::read_book(&bytes)];
+    let mut calls = without_step(r, &bytes, 2);
+    calls.push(Call::read_book(&bytes));
 
     let text = text(r, &rules, &alphabet, longest);
     let call = Call::lex(&bytes, &text, vec![0; text.len() * paper::RECORD_BYTES]);
@@ -596,7 +667,13 @@ pub fn case(r: &mut Random) -> Vec<Call> {
     let bytes = shuffled(r, &rules);
     let spaced = list(r, &rules, &bytes, &alphabet, 12, true);
     let call = spacing(r, &bytes, spaced, leftover);
+    calls.extend(without_step(r, &bytes, 1));
     calls.push(with_room(r, call, false));
+
+    if r.once_in(200) {
+        let bytes = long_book(r);
+        calls.extend(without_step(r, &bytes, 4));
+    }
     calls
 }
 

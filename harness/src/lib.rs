@@ -13,6 +13,7 @@ mod plant;
 mod random;
 mod reference;
 mod report;
+mod rewriting;
 mod round_trip;
 
 use calls::{Answer, Call, Operation, Outcome, OPERATIONS};
@@ -20,8 +21,9 @@ use fewest::Tried;
 use library::{Against, Library};
 use plant::Fault;
 use random::Random;
+use rewriting::Laws;
 use std::collections::{BTreeMap, BTreeSet};
-use std::sync::Mutex;
+use std::sync::{Mutex, OnceLock};
 
 struct Options {
     cases: u64,
@@ -66,16 +68,20 @@ fn options() -> Options {
 /// How often each operation answered each number.
 type Met = BTreeMap<(Operation, u8), u64>;
 
+/// What a thread has met and tried.
+type Found = (Met, Tried, rewriting::Tried);
+
 struct Run {
     library: Library,
     plant: Option<Fault>,
     met: Met,
     tried: Tried,
+    laws: Laws,
 }
 
 impl Run {
     fn new(plant: Option<Fault>) -> Run {
-        Run { library: Library::new(), plant, met: Met::new(), tried: Tried::default() }
+        Run { library: Library::new(), plant, met: Met::new(), tried: Tried::default(), laws: Laws::default() }
     }
 
     fn case(&mut self, seed: u64, case: u64) -> Result<(), String> {
@@ -93,6 +99,13 @@ impl Run {
                 let reproduction = report::reproduction(&small, &ours, &calls::expected(&small));
                 return Err(format!("DIFFERENCE in {what}: {difference}\n{reproduction}"));
             }
+        }
+        if let Err(difference) = self.laws.check(&mut self.library, call, &second) {
+            let broken = |c: &Call| self.laws.check(&mut self.library, c, &calls::expected(c)).is_err();
+            let small = report::shrink(call, broken);
+            let second = calls::expected(&small);
+            let reproduction = report::reproduction(&small, &Ok(second.clone()), &second);
+            return Err(format!("REWRITING in {what}: {difference}\n{reproduction}"));
         }
         if let Some(text) = round_trip::written(&mut self.library, call) {
             let reproduction = || report::reproduction(call, &Ok(second.clone()), &second);
@@ -128,6 +141,8 @@ fn possible(operation: Operation) -> Vec<u8> {
     let book = 0..=13;
     match operation {
         Operation::ReadBook => book.collect(),
+        Operation::ReadBookStrict => book.chain([33]).collect(),
+        Operation::RewriteBook => book.chain([22]).collect(),
         Operation::Rule => book.chain([18]).collect(),
         Operation::Lex => book.chain(14..=15).collect(),
         Operation::LexBuiltin => vec![0, 14, 15],
@@ -156,7 +171,7 @@ fn never_met(met: &Met) -> Vec<String> {
 /// The random cases, then the edges, each by its number, for as many threads as take them.
 struct Work<'a> {
     options: &'a Options,
-    edges: &'a [(String, Call)],
+    edges: OnceLock<Vec<(String, Call)>>,
     state: Mutex<State>,
 }
 
@@ -169,20 +184,26 @@ struct State {
 }
 
 impl Work<'_> {
-    fn run(&self) -> (Met, Tried) {
+    /// The edges, which are made once the random cases are taken.
+    fn edges(&self) -> &[(String, Call)] {
+        self.edges.get_or_init(edges::calls)
+    }
+
+    fn run(&self) -> Found {
         let mut run = Run::new(self.options.plant);
         while let Some(number) = self.take() {
             let result = self.one(&mut run, number);
             self.done(number, result);
         }
-        (run.met, run.tried)
+        (run.met, run.tried, run.laws.tried)
     }
 
     /// The next number; none where there is no more or one before it has a difference.
     fn take(&self) -> Option<u64> {
         let mut state = self.state.lock().unwrap();
         let number = state.next;
-        if state.first.is_some() || number >= self.options.cases + self.edges.len() as u64 {
+        let cases = self.options.cases;
+        if state.first.is_some() || (number >= cases && number - cases >= self.edges().len() as u64) {
             return None;
         }
         state.next += 1;
@@ -215,7 +236,7 @@ impl Work<'_> {
             }
             return run.case(seed, number);
         }
-        let (name, call) = &self.edges[(number - cases) as usize];
+        let (name, call) = &self.edges()[(number - cases) as usize];
         if verbose {
             eprintln!("{name}");
         }
@@ -246,18 +267,19 @@ pub fn main() {
     }
     let wrong = if options.plant.is_none() { examples::run(&mut Library::new()) } else { 0 };
     // random cases first: a difference among them is smaller than one at an edge
-    let edges = edges::calls();
-    let work = Work { options: &options, edges: &edges, state: Mutex::default() };
-    let each: Vec<(Met, Tried)> = std::thread::scope(|scope| {
+    let work = Work { options: &options, edges: OnceLock::new(), state: Mutex::default() };
+    let each: Vec<Found> = std::thread::scope(|scope| {
         let spawn = |_| std::thread::Builder::new().stack_size(STACK).spawn_scoped(scope, || work.run()).unwrap();
         let started: Vec<_> = (0..options.threads).map(spawn).collect();
         started.into_iter().map(|thread| thread.join().unwrap()).collect()
     });
     let mut met = Met::new();
     let mut tried = Tried::default();
-    for (answers, lists) in each {
+    let mut books = rewriting::Tried::default();
+    for (answers, lists, rewritten) in each {
         answers.into_iter().for_each(|(answer, count)| *met.entry(answer).or_default() += count);
         tried.add(lists);
+        books.add(rewritten);
     }
     let mut missing = never_met(&met);
     let Tried { lists, ways, tighter } = tried;
@@ -267,12 +289,17 @@ pub fn main() {
     if ways == 0 || tighter == 0 {
         missing.push("a list that wants separators".to_string());
     }
+    let rewriting::Tried { repeated, same } = books;
+    println!("rewriting: {repeated} calls repeated by the rewritten book, {same} by a book that stays as it is");
+    if repeated == 0 || same == 0 {
+        missing.push("a book to be rewritten".to_string());
+    }
     let numbers: BTreeSet<u8> = met.keys().map(|(_, n)| *n).filter(|n| *n > 0).collect();
     println!(
         "seed {}: {} cases, {} edges, {} calls, {} refusal numbers met, {wrong} examples wrong, no difference",
         options.seed,
         options.cases,
-        edges.len(),
+        work.edges().len(),
         met.values().sum::<u64>(),
         numbers.len()
     );

@@ -5,6 +5,8 @@ use std::ffi::c_void;
 
 extern "C" {
     fn zgv_read_book(book: *const u8, book_len: usize) -> u64;
+    fn zgv_read_book_strict(book: *const u8, book_len: usize) -> u64;
+    fn zgv_rewrite_book(book: *const u8, book_len: usize, out: *mut u8, out_len: usize) -> u64;
     fn zgv_rule(book: *const u8, book_len: usize, index: u32) -> u64;
     fn zgv_lex(
         book: *const u8,
@@ -160,6 +162,8 @@ impl Library {
         unsafe {
             match call.operation {
                 Operation::ReadBook => zgv_read_book(p[0], n[0]),
+                Operation::ReadBookStrict => zgv_read_book_strict(p[0], n[0]),
+                Operation::RewriteBook => zgv_rewrite_book(p[0], n[0], p[1], n[1]),
                 Operation::Rule => zgv_rule(p[0], n[0], call.index),
                 Operation::Lex => zgv_lex(p[0], n[0], p[1], n[1], p[2], n[2]),
                 Operation::LexBuiltin => zgv_lex_builtin(p[0], n[0], p[1], n[1]),

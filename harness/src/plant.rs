@@ -3,7 +3,7 @@
 
 use crate::calls::{Answer, Call, Operation, Outcome};
 use crate::library::{Against, Library};
-use crate::reference;
+use crate::reference::{self, Command, Reading};
 use std::collections::BTreeSet;
 
 #[derive(Clone, Copy, Debug, PartialEq, Eq)]
@@ -32,9 +32,23 @@ pub enum Fault {
     FinalAlone,
     /// A state that is reached, or leads to a final one, in a rule counts so in the rules after it too.
     LeftOver,
+    /// The stricter reading says 33 of a STEP outside a rule.
+    StrictOutside,
+    /// The stricter reading says 2 of a STEP whose operands are cut off.
+    StrictCutOff,
+    /// The stricter reading refuses SPAN too.
+    StrictSpan,
+    /// Rewriting leaves the last STEP as it is.
+    StepKept,
+    /// In a rewritten STEP the target stands in the place of low and high, the byte in that of the target.
+    StepTurned,
+    /// A rewritten book that is too long is 22 where the output is too short for it.
+    RoomFirst,
+    /// 22 of rewriting names the bytes that would be needed if the book were STEPs alone.
+    RoomForAll,
 }
 
-pub const FAULTS: [Fault; 12] = [
+pub const FAULTS: [Fault; 19] = [
     Fault::Tie,
     Fault::Need,
     Fault::PastTheCount,
@@ -47,6 +61,13 @@ pub const FAULTS: [Fault; 12] = [
     Fault::ReachableAlone,
     Fault::FinalAlone,
     Fault::LeftOver,
+    Fault::StrictOutside,
+    Fault::StrictCutOff,
+    Fault::StrictSpan,
+    Fault::StepKept,
+    Fault::StepTurned,
+    Fault::RoomFirst,
+    Fault::RoomForAll,
 ];
 
 impl Fault {
@@ -64,6 +85,13 @@ impl Fault {
             Fault::ReachableAlone => "reachable-alone",
             Fault::FinalAlone => "final-alone",
             Fault::LeftOver => "left-over",
+            Fault::StrictOutside => "strict-outside",
+            Fault::StrictCutOff => "strict-cut-off",
+            Fault::StrictSpan => "strict-span",
+            Fault::StepKept => "step-kept",
+            Fault::StepTurned => "step-turned",
+            Fault::RoomFirst => "room-first",
+            Fault::RoomForAll => "room-for-all",
         }
     }
 
@@ -92,6 +120,13 @@ pub fn run(fault: Option<Fault>, library: &mut Library, call: &Call, against: Ag
         Fault::ReachableAlone => used_by_marks(call, sound, reachable_alone),
         Fault::FinalAlone => used_by_marks(call, sound, final_alone),
         Fault::LeftOver => used_by_marks(call, sound, left_over),
+        Fault::StrictOutside => strictly(call, sound, strict_outside),
+        Fault::StrictCutOff => strictly(call, sound, strict_cut_off),
+        Fault::StrictSpan => strictly(call, sound, strict_span),
+        Fault::StepKept => respelled(call, sound, step_kept),
+        Fault::StepTurned => respelled(call, sound, step_turned),
+        Fault::RoomFirst => room_first(call, sound),
+        Fault::RoomForAll => room_for_all(call, sound),
     })
 }
 
@@ -105,7 +140,7 @@ fn is_print(call: &Call) -> bool {
 
 /// The cut by the same rules in the opposite order.
 fn tie(library: &mut Library, call: &Call, against: Against, sound: Outcome) -> Result<Outcome, String> {
-    if call.operation != Operation::Lex || reference::read_book(&call.book).is_err() {
+    if call.operation != Operation::Lex || reference::read_book(&call.book, Reading::Ordinary).is_err() {
         return Ok(sound);
     }
     let mut turned = call.clone();
@@ -272,4 +307,73 @@ fn left_over(rules: &[&[u8]]) -> Vec<Marks> {
         left.clone()
     };
     rules.iter().map(|rule| next(rule)).collect()
+}
+
+/// The stricter reading with another refusal, where there is one.
+fn strictly(call: &Call, sound: Outcome, other: fn(&[u8], Answer) -> Option<(u64, usize)>) -> Outcome {
+    if call.operation != Operation::ReadBookStrict {
+        return sound;
+    }
+    match other(&call.book, Answer(sound.answer)) {
+        Some((number, place)) => Outcome { answer: number << 56 | place as u64, ..sound },
+        None => sound,
+    }
+}
+
+fn strict_outside(book: &[u8], answer: Answer) -> Option<(u64, usize)> {
+    let place = answer.place() as usize;
+    (answer.number() == 3 && book[place] == reference::STEP).then_some((33, place))
+}
+
+fn strict_cut_off(book: &[u8], answer: Answer) -> Option<(u64, usize)> {
+    let place = answer.place() as usize;
+    (answer.number() == 33 && book.len() - place < 4).then_some((2, place))
+}
+
+/// The first SPAN before what is answered.
+fn strict_span(book: &[u8], answer: Answer) -> Option<(u64, usize)> {
+    let read = if answer.number() == 0 { book.len() } else { answer.place() as usize };
+    let mut spans = reference::placed(book).filter(|(_, command)| matches!(command, Command::Span { .. }));
+    spans.next().filter(|(place, _)| *place < read).map(|(place, _)| (33, place))
+}
+
+/// The rewriting of a book of which other bytes are made.
+fn respelled(call: &Call, sound: Outcome, other: fn(Vec<Command>) -> Vec<u8>) -> Outcome {
+    if call.operation != Operation::RewriteBook || ![0, 22].contains(&Answer(sound.answer).number()) {
+        return sound;
+    }
+    written(call, &other(reference::placed(&call.book).map(|(_, command)| command).collect()))
+}
+
+fn step_kept(commands: Vec<Command>) -> Vec<u8> {
+    let last = commands.iter().rposition(|c| matches!(c, Command::Step { .. }));
+    let bytes = |(i, c): (usize, Command)| if Some(i) == last { c.bytes() } else { reference::spanned([c]) };
+    commands.into_iter().enumerate().flat_map(bytes).collect()
+}
+
+fn step_turned(commands: Vec<Command>) -> Vec<u8> {
+    let turned = |c: Command| match c {
+        Command::Step { from, byte, to } => Command::Span { from, low: to, high: to, to: byte },
+        other => other,
+    };
+    commands.into_iter().flat_map(|c| turned(c).bytes()).collect()
+}
+
+fn room_first(call: &Call, sound: Outcome) -> Outcome {
+    let accepted = reference::read_book(&call.book, Reading::Ordinary).is_ok();
+    if call.operation != Operation::RewriteBook || Answer(sound.answer).number() != 1 || !accepted {
+        return sound;
+    }
+    let need = reference::spanned(reference::placed(&call.book).map(|(_, command)| command)).len();
+    if call.out.len() < need {
+        return Outcome { answer: 22 << 56 | need as u64, ..sound };
+    }
+    sound
+}
+
+fn room_for_all(call: &Call, mut outcome: Outcome) -> Outcome {
+    if call.operation == Operation::RewriteBook && Answer(outcome.answer).number() == 22 {
+        outcome.answer = 22 << 56 | (call.book.len() / 4 * 5) as u64;
+    }
+    outcome
 }

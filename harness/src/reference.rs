@@ -1,4 +1,4 @@
-//! The operations a second time, from the text of document 01 alone.
+//! The operations a second time, from the text of documents 01 and 02 alone.
 //!
 //! Nothing here is fast. A match reads the rule's commands in the book's bytes again for every byte, and a cut tries every
 //! length from the longest down. There are no tables, so that a mistake in tables cannot be made twice.
@@ -72,13 +72,69 @@ pub fn records_of(buffer: &[u8]) -> Vec<Record> {
 
 // ---- The book
 
-fn operands_of(code: u8) -> usize {
-    match code {
-        RULE | STEP => 3,
-        START | ERROR | FINAL => 1,
-        SPAN => 4,
-        _ => 0,
+/// A move: from, low, high, to.
+pub type Move = (u8, u8, u8, u8);
+
+/// A command with its operands.
+#[derive(Clone, Copy, Debug, PartialEq, Eq)]
+pub enum Command {
+    Rule { tag: u16, kind: u8 },
+    Start(u8),
+    Error(u8),
+    Final(u8),
+    Step { from: u8, byte: u8, to: u8 },
+    Span { from: u8, low: u8, high: u8, to: u8 },
+    Close,
+    End,
+}
+
+impl Command {
+    /// The command that the bytes begin with, and the bytes behind it; none where they end before its operands do.
+    #[inline(always)]
+    fn first(bytes: &[u8]) -> Option<(Command, &[u8])> {
+        Some(match *bytes {
+            [RULE, high, low, kind, ref rest @ ..] => {
+                (Command::Rule { tag: u16::from_be_bytes([high, low]), kind }, rest)
+            }
+            [START, state, ref rest @ ..] => (Command::Start(state), rest),
+            [ERROR, state, ref rest @ ..] => (Command::Error(state), rest),
+            [FINAL, state, ref rest @ ..] => (Command::Final(state), rest),
+            [STEP, from, byte, to, ref rest @ ..] => (Command::Step { from, byte, to }, rest),
+            [SPAN, from, low, high, to, ref rest @ ..] => (Command::Span { from, low, high, to }, rest),
+            [CLOSE, ref rest @ ..] => (Command::Close, rest),
+            [END, ref rest @ ..] => (Command::End, rest),
+            _ => return None,
+        })
     }
+
+    pub fn bytes(self) -> Vec<u8> {
+        match self {
+            Command::Rule { tag, kind } => [&[RULE], &tag.to_be_bytes()[..], &[kind]].concat(),
+            Command::Start(state) => vec![START, state],
+            Command::Error(state) => vec![ERROR, state],
+            Command::Final(state) => vec![FINAL, state],
+            Command::Step { from, byte, to } => vec![STEP, from, byte, to],
+            Command::Span { from, low, high, to } => vec![SPAN, from, low, high, to],
+            Command::Close => vec![CLOSE],
+            Command::End => vec![END],
+        }
+    }
+
+    /// The move that the command adds to its rule.
+    fn added(self) -> Option<Move> {
+        match self {
+            Command::Step { from, byte, to } => Some((from, byte, byte, to)),
+            Command::Span { from, low, high, to } => Some((from, low, high, to)),
+            _ => None,
+        }
+    }
+}
+
+/// Whether a STEP is taken.
+#[derive(Clone, Copy, Debug, PartialEq, Eq)]
+pub enum Reading {
+    Ordinary,
+    Strict,
 }
 
 /// What a rule that is still open has had so far.
@@ -90,16 +146,17 @@ struct Open {
     moves: Vec<(u8, u8, u8)>,
 }
 
-/// Reads a book: the number of its rules.
-pub fn read_book(book: &[u8]) -> Result<usize, Refusal> {
+/// Reads a book: its commands.
+fn read(book: &[u8], reading: Reading) -> Result<Vec<Command>, Refusal> {
     if book.len() > BOOK_BYTES {
         return refuse(1, 0);
     }
+    let mut commands = Vec::new();
     let mut tags: BTreeSet<u16> = BTreeSet::new();
     let mut open: Option<Open> = None;
-    let mut at = 0;
-    while at < book.len() {
-        let code = book[at];
+    let mut rest = book;
+    while let Some(&code) = rest.first() {
+        let at = book.len() - rest.len();
         let allowed = match code {
             RULE | END => open.is_none(),
             START..=CLOSE => open.is_some(),
@@ -108,17 +165,20 @@ pub fn read_book(book: &[u8]) -> Result<usize, Refusal> {
         if !allowed {
             return refuse(3, at);
         }
-        let o = match book.get(at + 1..at + 1 + operands_of(code)) {
-            Some(o) => o,
+        if code == STEP && reading == Reading::Strict {
+            return refuse(33, at);
+        }
+        let (command, after) = match Command::first(rest) {
+            Some(found) => found,
             None => return refuse(2, at),
         };
-        match (code, open.as_mut()) {
-            (RULE, _) => {
-                let tag = u16::from_be_bytes([o[0], o[1]]);
+        commands.push(command);
+        match (command, open.as_mut()) {
+            (Command::Rule { tag, kind }, _) => {
                 if tags.len() == BOOK_RULES {
                     return refuse(5, at);
                 }
-                if tag == 0 || o[2] > 1 {
+                if tag == 0 || kind > 1 {
                     return refuse(6, at);
                 }
                 if !tags.insert(tag) {
@@ -126,41 +186,41 @@ pub fn read_book(book: &[u8]) -> Result<usize, Refusal> {
                 }
                 open = Some(Open::default());
             }
-            (END, _) => {
+            (Command::End, _) => {
                 if tags.is_empty() {
                     return refuse(13, at);
                 }
-                if at + 1 < book.len() {
+                if !after.is_empty() {
                     return refuse(4, at + 1);
                 }
-                return Ok(tags.len());
+                return Ok(commands);
             }
-            (START, Some(rule)) => {
+            (Command::Start(state), Some(rule)) => {
                 if !rule.starts.is_empty() {
                     return refuse(8, at);
                 }
-                rule.starts.push(o[0]);
+                rule.starts.push(state);
             }
-            (ERROR, Some(rule)) => {
+            (Command::Error(state), Some(rule)) => {
                 if !rule.errors.is_empty() {
                     return refuse(8, at);
                 }
-                rule.errors.push(o[0]);
+                rule.errors.push(state);
             }
-            (FINAL, Some(rule)) => {
-                rule.finals.insert(o[0]);
+            (Command::Final(state), Some(rule)) => {
+                rule.finals.insert(state);
             }
-            (STEP | SPAN, Some(rule)) => {
-                let (low, high) = if code == STEP { (o[1], o[1]) } else { (o[1], o[2]) };
+            (Command::Step { .. } | Command::Span { .. }, Some(rule)) => {
+                let (from, low, high, _) = command.added().expect("it adds a move");
                 if rule.moves.len() == RULE_MOVES {
                     return refuse(5, at);
                 }
                 if low > high {
                     return refuse(6, at);
                 }
-                rule.moves.push((o[0], low, high));
+                rule.moves.push((from, low, high));
             }
-            (CLOSE, Some(rule)) => {
+            (Command::Close, Some(rule)) => {
                 if let Some(number) = fault_at_close(rule) {
                     return refuse(number, at);
                 }
@@ -168,9 +228,14 @@ pub fn read_book(book: &[u8]) -> Result<usize, Refusal> {
             }
             _ => unreachable!("the command is allowed here"),
         }
-        at += 1 + o.len();
+        rest = after;
     }
     refuse(2, book.len())
+}
+
+/// Reads a book: the number of its rules.
+pub fn read_book(book: &[u8], reading: Reading) -> Result<usize, Refusal> {
+    Ok(read(book, reading)?.iter().filter(|c| matches!(c, Command::Rule { .. })).count())
 }
 
 fn fault_at_close(rule: &Open) -> Option<u8> {
@@ -178,13 +243,11 @@ fn fault_at_close(rule: &Open) -> Option<u8> {
         (Some(start), Some(error)) => (start, error),
         _ => return Some(8),
     };
-    let mut covered: BTreeSet<(u8, u8)> = BTreeSet::new();
-    for &(from, low, high) in &rule.moves {
-        for byte in low..=high {
-            if !covered.insert((from, byte)) {
-                return Some(9);
-            }
-        }
+    let bytes = |&(from, low, high): &(u8, u8, u8)| (low..=high).map(move |byte| (from, byte));
+    let mut covered: Vec<(u8, u8)> = rule.moves.iter().flat_map(bytes).collect();
+    covered.sort_unstable();
+    if covered.windows(2).any(|pair| pair[0] == pair[1]) {
+        return Some(9);
     }
     if rule.moves.iter().any(|m| m.0 == *error) {
         return Some(10);
@@ -198,44 +261,57 @@ fn fault_at_close(rule: &Open) -> Option<u8> {
     None
 }
 
-/// The commands of an accepted book from `at` on: code and operands.
-fn commands(bytes: &[u8]) -> impl Iterator<Item = (u8, &[u8])> {
-    let mut at = 0;
+/// The commands of a part of a book, each with its place there, up to the first that is none or is cut off.
+pub fn placed(bytes: &[u8]) -> impl Iterator<Item = (usize, Command)> + '_ {
+    let mut rest = bytes;
     std::iter::from_fn(move || {
-        let code = *bytes.get(at)?;
-        let operands = &bytes[at + 1..at + 1 + operands_of(code)];
-        at += 1 + operands.len();
-        Some((code, operands))
+        let at = bytes.len() - rest.len();
+        let (command, after) = Command::first(rest)?;
+        rest = after;
+        Some((at, command))
     })
+}
+
+fn commands(bytes: &[u8]) -> impl Iterator<Item = Command> + '_ {
+    placed(bytes).map(|(_, command)| command)
+}
+
+/// What the first command gives that gives something.
+fn find<T>(bytes: &[u8], of: impl Fn(Command) -> Option<T>) -> Option<T> {
+    let mut rest = bytes;
+    while let Some((command, after)) = Command::first(rest) {
+        if let Some(found) = of(command) {
+            return Some(found);
+        }
+        rest = after;
+    }
+    None
 }
 
 /// The commands of each rule of an accepted book, as parts of its bytes, from its RULE to its CLOSE.
 pub fn rules(book: &[u8]) -> Vec<&[u8]> {
     let mut found = Vec::new();
-    let mut at = 0;
     let mut begin = 0;
-    for (code, operands) in commands(book) {
-        if code == RULE {
-            begin = at;
-        }
-        at += 1 + operands.len();
-        if code == CLOSE {
-            found.push(&book[begin..at]);
+    for (at, command) in placed(book) {
+        match command {
+            Command::Rule { .. } => begin = at,
+            Command::Close => found.push(&book[begin..=at]),
+            _ => {}
         }
     }
     found
 }
 
-fn operand_of(rule: &[u8], wanted: u8) -> u8 {
-    commands(rule).find(|c| c.0 == wanted).expect("an accepted rule has it").1[0]
+fn start_of(rule: &[u8]) -> u8 {
+    find(rule, |c| if let Command::Start(state) = c { Some(state) } else { None }).expect("an accepted rule has it")
+}
+
+pub fn error_of(rule: &[u8]) -> u8 {
+    find(rule, |c| if let Command::Error(state) = c { Some(state) } else { None }).expect("an accepted rule has it")
 }
 
 pub fn tag_of(rule: &[u8]) -> u16 {
     u16::from_be_bytes([rule[1], rule[2]])
-}
-
-pub fn error_of(rule: &[u8]) -> u8 {
-    operand_of(rule, ERROR)
 }
 
 pub fn is_separator(rule: &[u8]) -> bool {
@@ -244,34 +320,29 @@ pub fn is_separator(rule: &[u8]) -> bool {
 
 /// The tag and the kind of a rule: the operands of the RULE command of that number.
 pub fn rule(book: &[u8], index: usize) -> Result<(u16, u8), Refusal> {
-    let count = read_book(book)?;
-    match commands(book).filter(|c| c.0 == RULE).nth(index) {
-        Some((_, o)) => Ok((u16::from_be_bytes([o[0], o[1]]), o[2])),
-        None => refuse(18, count),
-    }
+    let named = |c| if let Command::Rule { tag, kind } = c { Some((tag, kind)) } else { None };
+    let all: Vec<(u16, u8)> = read(book, Reading::Ordinary)?.into_iter().filter_map(named).collect();
+    all.get(index).copied().ok_or(Refusal { number: 18, place: all.len() })
 }
 
 fn step(rule: &[u8], state: u8, byte: u8) -> u8 {
-    for (code, o) in commands(rule) {
-        if code == STEP && o[0] == state && o[1] == byte {
-            return o[2];
-        }
-        if code == SPAN && o[0] == state && o[1] <= byte && byte <= o[2] {
-            return o[3];
-        }
-    }
-    error_of(rule)
+    let target = |c| match c {
+        Command::Step { from, byte: only, to } if from == state && only == byte => Some(to),
+        Command::Span { from, low, high, to } if from == state && low <= byte && byte <= high => Some(to),
+        _ => None,
+    };
+    find(rule, target).unwrap_or_else(|| error_of(rule))
 }
 
 /// Whether the walk from the rule's start over `word` ends in a final state.
 fn matches(rule: &[u8], word: &[u8]) -> bool {
-    let state = word.iter().fold(operand_of(rule, START), |s, &b| step(rule, s, b));
-    commands(rule).any(|(code, o)| code == FINAL && o[0] == state)
+    let state = word.iter().fold(start_of(rule), |s, &b| step(rule, s, b));
+    find(rule, |c| (c == Command::Final(state)).then_some(())).is_some()
 }
 
 /// How many bytes of `text` can take part in a match: after them every rule stands in its error state, which nothing leaves.
 fn bound<'t>(rules: &[&[u8]], text: impl Iterator<Item = &'t u8>) -> usize {
-    let mut states: Vec<u8> = rules.iter().map(|r| operand_of(r, START)).collect();
+    let mut states: Vec<u8> = rules.iter().map(|r| start_of(r)).collect();
     let errors: Vec<u8> = rules.iter().map(|r| error_of(r)).collect();
     let mut count = 0;
     for &byte in text {
@@ -300,6 +371,34 @@ fn choose(rules: &[&[u8]], text: &[u8]) -> Option<(usize, usize)> {
     None
 }
 
+// ---- Rewriting
+
+/// Whether a book that is accepted has a STEP.
+pub fn has_step(book: &[u8]) -> bool {
+    commands(book).any(|c| matches!(c, Command::Step { .. }))
+}
+
+/// The commands with a SPAN of one byte for each STEP, written again.
+pub fn spanned(commands: impl IntoIterator<Item = Command>) -> Vec<u8> {
+    let span = |c| match c {
+        Command::Step { from, byte, to } => Command::Span { from, low: byte, high: byte, to },
+        other => other,
+    };
+    commands.into_iter().map(span).flat_map(Command::bytes).collect()
+}
+
+/// The book without STEP, for `room` bytes.
+pub fn rewrite_book(book: &[u8], room: usize) -> Result<Vec<u8>, Refusal> {
+    let bytes = spanned(read(book, Reading::Ordinary)?);
+    if bytes.len() > BOOK_BYTES {
+        return refuse(1, 0);
+    }
+    if room < bytes.len() {
+        return refuse(22, bytes.len());
+    }
+    Ok(bytes)
+}
+
 // ---- Cutting
 
 /// The tokens of a cut, and the place of the rest.
@@ -321,7 +420,7 @@ pub fn cut(book: &[u8], text: &[u8]) -> Cut {
 
 /// Cutting with room for `room` records.
 pub fn lex(book: &[u8], text: &[u8], room: usize) -> Result<Cut, Refusal> {
-    read_book(book)?;
+    read(book, Reading::Ordinary)?;
     if text.len() > TEXT_BYTES {
         return refuse(14, 0);
     }
@@ -377,7 +476,7 @@ impl<'a> Tags<'a> {
 
 /// Plain writing of the list `records` into `room` bytes.
 pub fn print(book: &[u8], records: &[Record], pool: &[u8], room: usize) -> Result<Vec<u8>, Refusal> {
-    read_book(book)?;
+    read(book, Reading::Ordinary)?;
     if records.len() > LIST_TOKENS {
         return refuse(16, 0);
     }
@@ -404,16 +503,8 @@ pub fn print(book: &[u8], records: &[Record], pool: &[u8], room: usize) -> Resul
     Ok(joined)
 }
 
-/// A move: from, low, high, to.
-pub type Move = (u8, u8, u8, u8);
-
 pub fn moves(rule: &[u8]) -> Vec<Move> {
-    let of = |(code, o): (u8, &[u8])| match code {
-        STEP => Some((o[0], o[1], o[1], o[2])),
-        SPAN => Some((o[0], o[1], o[2], o[3])),
-        _ => None,
-    };
-    commands(rule).filter_map(of).collect()
+    commands(rule).filter_map(Command::added).collect()
 }
 
 /// A byte string for each state that has one.
@@ -421,13 +512,14 @@ pub type Strings = Vec<Option<Vec<u8>>>;
 
 /// The string of a walk from the start to a state.
 pub fn fronts(rule: &[u8]) -> Strings {
-    let start = [operand_of(rule, START)];
+    let start = [start_of(rule)];
     grown(rule, &start, |m| (m.0, m.3), |s, m| [s, &[m.1]].concat())
 }
 
 /// The string of a walk from a state to a final one.
 pub fn backs(rule: &[u8]) -> Strings {
-    let finals: Vec<u8> = commands(rule).filter(|c| c.0 == FINAL).map(|c| c.1[0]).collect();
+    let state = |c| if let Command::Final(state) = c { Some(state) } else { None };
+    let finals: Vec<u8> = commands(rule).filter_map(state).collect();
     grown(rule, &finals, |m| (m.3, m.0), |s, m| [&[m.2], s].concat())
 }
 
@@ -479,7 +571,7 @@ pub fn print_separated(
     pool: &[u8],
     room: usize,
 ) -> Result<Vec<u8>, Refusal> {
-    read_book(book)?;
+    read(book, Reading::Ordinary)?;
     let tags = Tags::of(book);
     let plain = used_by_kind(&tags.rules, false);
     if let Some(&byte) = plain.intersection(&used_by_kind(&tags.rules, true)).next() {

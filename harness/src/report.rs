@@ -5,7 +5,7 @@ use crate::reference;
 use std::time::{Duration, Instant};
 
 /// How long shrinking may take; what is smallest by then is shown.
-const PATIENCE: Duration = Duration::from_secs(20);
+const PATIENCE: Duration = Duration::from_secs(5);
 
 /// Leaves out parts of the lent buffers as long as the difference stays: whole commands and records first, then bytes.
 pub fn shrink(call: &Call, mut differs: impl FnMut(&Call) -> bool) -> Call {

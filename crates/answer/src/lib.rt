@@ -35,6 +35,8 @@ impl Refusal {
     pub const START_FINAL: u8 = 12;
 
     pub const NO_RULE: u8 = 13;
+    // Reading a book strictly.
+    pub const RETIRED: u8 = 33;
     // Lexing.
     pub const TEXT_TOO_LONG: u8 = 14;
 

@@ -3,15 +3,15 @@ use mathlib.Core.Path.{_≡_, refl}
 use mathlib.Core.List.{List}
 use Prim.Native.Nat.{ℕ}
 use Rattle.automaton.specs.Rule.{overlaps}
-use Rattle.command.specs.Commands.{commandAt, decode, operandsOf, placed}
+use Rattle.command.specs.Commands.{commandAt, retired, decode, operandsOf, placed}
 use Rattle.book.specs.Draft.{apply, move, check}
-use Rattle.reader.specs.Reading.{readBook, readFrom, accepted}
+use Rattle.reader.specs.Reading.{readBy, readBook, readFrom, accepted}
 use Rattle.lexer.specs.Outcome.{lexRules, lexOutcome}
 use Rattle.builtin.specs.Book.{builtinBytes, builtinRules, timestamp, word, blanks, newline, bracket}
 
 pub read-builtin : readBook builtinBytes ≡ accepted builtinRules
-unfolding readBook readFrom commandAt decode operandsOf placed apply move check overlaps builtinBytes builtinRules timestamp word blanks
-    newline bracket
+unfolding readBy readFrom commandAt retired decode operandsOf placed apply move check overlaps
+    builtinBytes builtinRules timestamp word blanks newline bracket
 read-builtin = refl
 
 -- so lexing by its bytes is lexing by its rules

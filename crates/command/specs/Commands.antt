@@ -34,11 +34,17 @@ decode bytes at code =
     (if (eqb code 6) (command.Span (byteAt bytes (at + 1)) (byteAt bytes (at + 2)) (byteAt bytes (at + 3)) (byteAt bytes (at + 4)))
     (if (eqb code 7) command.Close command.End))))))
 
--- Refusal 3 comes before 2: whether the command may stand here, then whether its operands are there.
-unfoldable pub commandAt : List ℕ → ℕ → Bool → Decoded
-commandAt bytes at inside =
+-- STEP (5) is retired: the stricter reading does not take it (document 02, wish 10)
+unfoldable pub retired : Bool → ℕ → Bool
+retired strict code = strict && eqb code 5
+
+-- Refusal 3 comes before 33, and 33 before 2: whether the command may stand here, whether this reading takes it, then whether its
+-- operands are there.
+unfoldable pub commandAt : Bool → List ℕ → ℕ → Bool → Decoded
+commandAt strict bytes at inside =
     if (placed (byteAt bytes at) inside)
+    (if (retired strict (byteAt bytes at)) decoded.Retired
     (if (leb (at + 1 + operandsOf (byteAt bytes at)) (length bytes))
     (decoded.Command (decode bytes at (byteAt bytes at)) (record { at = at + 1 + operandsOf (byteAt bytes at) }))
-    decoded.CutOff)
+    decoded.CutOff))
     decoded.Misplaced

@@ -2,7 +2,7 @@
 ghost use mathlib.Core.Path.{_≡_};
 ghost use Prim.Native.Nat.{_+_, _≤_, _<_};
 ghost use lib.ListN.{length};
-ghost use Rattle.command.specs.Commands.{placed, operandsOf, decode, commandAt};
+ghost use Rattle.command.specs.Commands.{placed, operandsOf, decode, retired, commandAt};
 
 // A command with its operands, under the names of document 01.
 pub enum Command {
@@ -16,11 +16,19 @@ pub enum Command {
     End,
 }
 
-// What stands at a cursor: a command and the cursor past it, a byte that is no command or not one for this place, or a
-// command whose operands run past the end.
+impl Command {
+    // The codes of the two moves: what a STEP says, a SPAN says too.
+    pub const STEP: u8 = 5;
+
+    pub const SPAN: u8 = 6;
+}
+
+// What stands at a cursor: a command and the cursor past it, a byte that is no command or not one for this place, a command that
+// the stricter reading does not take, or a command whose operands run past the end.
 pub enum Decoded {
     Command(Command, Cursor),
     Misplaced,
+    Retired,
     CutOff,
 }
 
@@ -36,15 +44,18 @@ impl Cursor {
         Cursor { at: 0 }
     }
 
-    // The command at the cursor; `inside`: it stands inside a rule.
-    pub fn command(self, book: &[u8], inside: bool) -> Decoded
+    // The command at the cursor; `strict`: in the stricter reading; `inside`: it stands inside a rule.
+    pub fn command(self, strict: bool, book: &[u8], inside: bool) -> Decoded
         requires { ⌜ self .at < length (now book) ⌝ }
-        ensures { λ r. ⌜ r ≡ commandAt (now (book .entry)) (self .at) inside ⌝ }
+        ensures { λ r. ⌜ r ≡ commandAt strict (now (book .entry)) (self .at) inside ⌝ }
     {
         let at = self.at;
         let code = book[at];
         if !is_placed(code, inside) {
             return Decoded::Misplaced;
+        }
+        if is_retired(strict, code) {
+            return Decoded::Retired;
         }
         let next = at + 1 + operands(code);
         if book.len() < next {
@@ -73,8 +84,18 @@ fn is_placed(code: u8, inside: bool) -> bool
     inside
 }
 
+// Whether `code` is a command that the stricter reading does not take.
+fn is_retired(strict: bool, code: u8) -> bool
+    ensures { λ r. ⌜ r ≡ retired strict code ⌝ }
+{
+    if strict {
+        return code == Command::STEP;
+    }
+    false
+}
+
 // The number of operand bytes of a command.
-fn operands(code: u8) -> usize
+pub fn operands(code: u8) -> usize
     ensures { λ r. ⌜ r ≡ operandsOf code ⌝ }
 {
     match code {

@@ -25,7 +25,8 @@ use Rattle.record.specs.Tokens.{bytesIn, tokenIn, tokensOf}
 use Rattle.lexer.specs.Outcome.{LexOutcome, lexOutcome}
 use Rattle.token_list.specs.Faults.{aloneIn}
 use Rattle.token_list.proofs.Extended.{matched-long}
-use Rattle.printer.specs.Outcome.{PrintOutcome, printOutcome}
+use Rattle.output.specs.Outcome.{PrintOutcome}
+use Rattle.printer.specs.Outcome.{printOutcome}
 use Rattle.printer.proofs.Accepting.{written-joins, alone-tagged}
 use Rattle.printer.proofs.RoundTrip.{byte-below, valid-empty, same-rules, lexed-cut, cut-accepts, stored-say}
 use Rattle.printer.proofs.RoundTrip.{equal-lists, accepts-printable, output-cut, cut-printed}

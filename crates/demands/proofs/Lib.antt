@@ -1,6 +1,6 @@
 -- A proof of each demand (Demands), and what these rest on: `lex` goes by longest match (LongestMatch), what the printers accept, in
--- the words of the demands (Separable, Spacing), a list in every form (Forms), what stands in the lent buffers (Untouched), and how many
--- separators a list wants (Gaps, Fewest).
+-- the words of the demands (Separable, Spacing), a list in every form (Forms), what stands in the lent buffers (Untouched), how many
+-- separators a list wants (Gaps, Fewest), and what becomes of STEP (Rewriting).
 pub mod LongestMatch
 pub mod Separable
 pub mod Forms
@@ -9,3 +9,4 @@ pub mod Spacing
 pub mod Gaps
 pub mod Fewest
 pub mod Demands
+pub mod Rewriting

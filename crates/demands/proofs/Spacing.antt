@@ -22,7 +22,7 @@ use Rattle.used_bytes.specs.Bytes.{usedByKind, shared}
 use Rattle.spacing.specs.Separators.{spelled}
 use Rattle.spacing.proofs.Modes.{most-in-one}
 use Rattle.separated.proofs.Unrefused.{Taken, CallPasses, passes-accepted, accepted-passes}
-use Rattle.printer.specs.Outcome.{PrintOutcome, printAccepted}
+use Rattle.output.specs.Outcome.{PrintOutcome, printAccepted}
 use Rattle.separated.specs.Outcome.{separatedReading, separatedOutcome}
 use Rattle.demands.specs.Words.{Fit, Unused, Unrefused}
 use Rattle.demands.proofs.Untouched.{past-accepted}

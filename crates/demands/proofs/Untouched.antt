@@ -10,7 +10,7 @@ use lib.ListN.{length, drop}
 use lib.Seq.{drop-at}
 use Rattle.answer.specs.declared.Refusal.{Refusal}
 use Rattle.automaton.specs.Choice.{if}
-use Rattle.book.specs.Limits.{maxText}
+use Rattle.book.specs.Limits.{maxBytes, maxText}
 use Rattle.reader.specs.Reading.{Reading, accepted, refused, readBook}
 use Rattle.longest_match.specs.Lexer.{lex, join}
 use Rattle.record.specs.Records.{recordsAt, recordCount}
@@ -18,11 +18,15 @@ use Rattle.record.specs.Tokens.{tokensOf}
 use Rattle.record.specs.declared.TokenRecord.{TokenRecord}
 use Rattle.record.proofs.Records.{length-records}
 use Rattle.lexer.specs.Outcome.{LexOutcome, lexRefused, lexAccepted, lexRules, lexReading, lexOutcome}
-use Rattle.printer.specs.Outcome.{PrintOutcome, printAccepted, refusedIf, unless, printChecked, printRules, printReading, printOutcome}
+use Rattle.output.specs.Outcome.{PrintOutcome, printAccepted, refusedIf, unless, written, writtenUpTo}
+use Rattle.rewriting.specs.Rewritten.{rewritten}
+use Rattle.rewriting.specs.Outcome.{rewriteReading, rewriteOutcome}
+use Rattle.rewriting.proofs.Accepting.{rewrite-accepts}
+use Rattle.printer.specs.Outcome.{printChecked, printRules, printReading, printOutcome}
 use Rattle.printer.proofs.Accepting.{printed-accepts}
 use Rattle.printer.proofs.RoundTrip.{Cut}
 use Rattle.spacing.specs.Separators.{spelled}
-use Rattle.separated.specs.Outcome.{writing, separatedRules, separatedReading, separatedOutcome}
+use Rattle.separated.specs.Outcome.{separatedRules, separatedReading, separatedOutcome}
 use Rattle.answer.specs.declared.LexAnswer.the-variants as lexed
 use Rattle.answer.specs.declared.PrintAnswer.the-variants as print
 
@@ -58,7 +62,7 @@ module _ (text records : List ℕ) where
       rw (c .outcome) (drop-at (recordsAt 0 ts) (drop (10 * length ts) records) (10 * n) l
       ∙ ap (λ (m : ℕ). drop (10 * m) records) (sym (c .count)))
 
--- ---- the printers
+-- ---- the printers, and rewriting
 
 abbrev Keeps : List ℕ → PrintOutcome → Type 0
 Keeps out o = (r : Refusal) → o.answer ≡ print.Refused r → o.out ≡ out
@@ -77,16 +81,34 @@ module _ (out : List ℕ) where
   keeps-accepted : (w : List ℕ) → Keeps out (printAccepted w out)
   keeps-accepted w r e = let y : _≡_ {A = ℕ} 0 1 = cc in absurd (omega arith)
 
+  keeps-written : (w : List ℕ) → Keeps out (written w out)
+  keeps-written w = keeps-if _ _ _ _ (keeps-accepted w)
+
+  keeps-up-to : (most number : ℕ) (w : List ℕ) → Keeps out (writtenUpTo most number w out)
+  unfolding writtenUpTo
+  keeps-up-to most number w = keeps-if _ _ _ _ (keeps-written w)
+
   pub past-accepted : (o : PrintOutcome) (w : List ℕ) (n : ℕ) → n ≡ length w → o ≡ printAccepted w out → drop n (o .out) ≡ drop n out
   past-accepted o w n l e = rw (e, l) (drop-at w (drop (length w) out) (length w) refl)
+
+  module _ (book : List ℕ) where
+    keeps-rewrite : (o : Reading) → Keeps out (rewriteReading o book out)
+    keeps-rewrite (refused number place) = λ r e. refl
+    keeps-rewrite (accepted rules) = keeps-up-to maxBytes 1 (rewritten book)
+
+    pub rewrite-leaves : Keeps out (rewriteOutcome book out)
+    unfolding rewriteOutcome
+    rewrite-leaves = keeps-rewrite (readBook book)
+
+    pub rewrite-past : (n : ℕ) → (rewriteOutcome book out) .answer ≡ print.Printed n → drop n ((rewriteOutcome book out) .out) ≡ drop n out
+    rewrite-past n e = let a = rewrite-accepts book out n e in past-accepted _ (rewritten book) n (a .count) (a .outcome)
 
   module _ (records pool : List ℕ) where
     keeps-print : (o : Reading) → Keeps out (printReading o records pool out)
     unfolding printRules printChecked
     keeps-print (refused number place) = λ r e. refl
     keeps-print (accepted rules) =
-        keeps-if _ _ _ _ (keeps-unless _ _ (keeps-if _ _ _ _ (keeps-unless _ _ (keeps-if _ _ _ _
-        (keeps-accepted (join (tokensOf records pool)))))))
+        keeps-if _ _ _ _ (keeps-unless _ _ (keeps-if _ _ _ _ (keeps-unless _ _ (keeps-written (join (tokensOf records pool))))))
 
     pub print-leaves : (book : List ℕ) → Keeps out (printOutcome book records pool out)
     unfolding printOutcome
@@ -100,10 +122,10 @@ module _ (out : List ℕ) where
 
     module _ (sep : TokenRecord) (mode : ℕ) where
       keeps-space : (o : Reading) → Keeps out (separatedReading o sep mode records pool out)
-      unfolding separatedRules writing
+      unfolding separatedRules
       keeps-space (refused number place) = λ r e. refl
       keeps-space (accepted rules) =
-          keeps-unless _ _ (keeps-if _ _ _ _ (keeps-if _ _ _ _ (keeps-accepted (spelled rules sep mode records pool))))
+          keeps-unless _ _ (keeps-up-to maxText 20 (spelled rules sep mode records pool))
 
       pub space-leaves : (book : List ℕ) → Keeps out (separatedOutcome book sep mode records pool out)
       unfolding separatedOutcome

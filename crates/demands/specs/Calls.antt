@@ -1,16 +1,22 @@
 -- How a token list is lent, and what a call answers and leaves: what the contracts of the operations say of it, and no more.
 use mathlib.Core.Path.{_≡_}
+use mathlib.Core.Bool.{Bool}
 use mathlib.Core.List.{List}
 use Prim.Native.Nat.{ℕ, _*_}
 use lib.ListN.{length, take, drop}
+use Rattle.answer.specs.declared.BookAnswer.{BookAnswer}
+use Rattle.answer.specs.declared.RuleAnswer.{RuleAnswer}
 use Rattle.answer.specs.declared.LexAnswer.{LexAnswer}
 use Rattle.answer.specs.declared.PrintAnswer.{PrintAnswer}
 use Rattle.automaton.specs.Choice.{All}
+use Rattle.reader.specs.Reading.{readBy, answer}
+use Rattle.reader.specs.Rules.{ruleOutcome}
 use Rattle.longest_match.specs.Lexer.{Token}
 use Rattle.record.specs.Records.{recordCount}
 use Rattle.record.specs.Tokens.{recordsOf, tokensIn}
 use Rattle.record.specs.Encoding.{encoded, Fits}
 use Rattle.record.specs.declared.TokenRecord.{TokenRecord}
+use Rattle.rewriting.specs.Outcome.{rewriteOutcome}
 use Rattle.lexer.specs.Outcome.{lexOutcome}
 use Rattle.printer.specs.Outcome.{printOutcome}
 use Rattle.separated.specs.Outcome.{separatedOutcome}
@@ -62,6 +68,19 @@ abbrev pub listIn : (f : Form) → Lent f → List ℕ → List Token
 listIn f l pool = tokensIn pool (structsIn f l)
 
 -- ---- calls
+
+-- A call of a reading, the ordinary or the stricter one, and of asking for a rule by its number, as `reader::read` and
+-- `reader::read_strict`, and `reader::rule`, ensure them.
+pub record Read (strict : Bool) (book : List ℕ) (r : BookAnswer) : Type 0 where
+  pub answers : r ≡ answer (readBy strict book)
+
+pub record Ask (book : List ℕ) (index : ℕ) (r : RuleAnswer) : Type 0 where
+  pub answers : r ≡ ruleOutcome book index
+
+-- A call of rewriting: the output before and after it, and the answer, as `rewriting::rewrite` ensures it.
+pub record Rewrite (book entry exit : List ℕ) (r : PrintAnswer) : Type 0 where
+  pub answers : r ≡ (rewriteOutcome book entry) .answer
+  pub leaves : exit ≡ (rewriteOutcome book entry) .out
 
 -- A call of the cut: the records lent before and after it, and its answer. This is what `lexer::lex` (bytes), `slices::lex_tokens` (slice)
 -- and, with the bytes of the built-in book, `builtin::lex_builtin` (bytes) ensure.

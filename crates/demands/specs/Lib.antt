@@ -1,5 +1,7 @@
--- The customer's demands as types (Demands), the calls that they speak of (Calls), and the words that they use (Words, Gaps).
+-- The customer's demands as types (Demands), the calls that they speak of (Calls), the words that they use (Words, Gaps), and what
+-- document 02 asks of the stricter reading and of rewriting (Rewriting).
 pub mod Calls
 pub mod Words
 pub mod Gaps
 pub mod Demands
+pub mod Rewriting

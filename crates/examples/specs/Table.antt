@@ -8,7 +8,8 @@ use Rattle.automaton.specs.Choice.{All}
 use Rattle.reader.specs.Reading.{Reading, accepted, refused, readBook}
 use Rattle.longest_match.specs.Lexer.{Token, Lexed, lex, join}
 use Rattle.record.specs.Records.{recordsAt}
-use Rattle.printer.specs.Outcome.{PrintOutcome, printOutcome}
+use Rattle.output.specs.Outcome.{PrintOutcome}
+use Rattle.printer.specs.Outcome.{printOutcome}
 use Rattle.separated.specs.Outcome.{separatedOutcome}
 use Rattle.listing.specs.Lines.{listing, recordBytes}
 use Rattle.examples.specs.Books.{bookA, bookB, bookC}

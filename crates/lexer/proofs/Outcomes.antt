@@ -54,7 +54,7 @@ module _ {bytes tb : List ℕ} {b : BookAnswer} {f : Refusal} (l : Loaded bytes 
 pub answered-too-long : (bytes text records : List ℕ) → maxBytes < length bytes
     → LexAnswered (lexOutcome bytes text records) (lexed.Refused (record { number = 1; place = 0 })) records
 unfolding lexOutcome
-answered-too-long bytes text records l = rw (read-too-long bytes l) (record { answer = refl; records = refl })
+answered-too-long bytes text records l = rw (read-too-long false bytes l) (record { answer = refl; records = refl })
 
 -- ---- the rest
 

@@ -5,6 +5,7 @@ use Prim.Native.Nat.{ℕ, _≤_, _<_}
 use lib.ListN.{length, drop}
 use lib.Seq.{paste}
 use Rattle.answer.specs.declared.PrintAnswer.{PrintAnswer}
+use Rattle.output.specs.Outcome.{PrintOutcome}
 use Rattle.output.specs.declared.Placed.{Placed}
 use Rattle.output.specs.declared.Placed.the-variants as placed
 use Rattle.answer.specs.declared.PrintAnswer.the-variants as answer
@@ -22,6 +23,11 @@ pub record Stands (p : Placed) (bytes scratch : List ℕ) : Type 0 where
   pub full : p ≡ placed.Full → length scratch < length bytes
 
 -- ---- to the output
+
+-- an answer, and what the output holds afterwards, are those of the outcome
+pub record PrintAnswered (o : PrintOutcome) (r : PrintAnswer) (exit : List ℕ) : Type 0 where
+  pub answer : r ≡ o.answer
+  pub out : exit ≡ o.out
 
 -- 22 where the output is too short, and nothing written; else the bytes, and every byte past them as it was
 pub record WritesOut (scratch : List ℕ) (at total : ℕ) (out : List ℕ) (r : PrintAnswer) (exit : List ℕ) : Type 0 where

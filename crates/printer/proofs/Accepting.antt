@@ -1,7 +1,7 @@
 -- When the plain printer accepts, and what it then writes. Assumes nothing.
 use mathlib.Core.Path.{_≡_, refl, sym, ap, _∙_}
 use mathlib.Core.Bool.{Bool, true, false, _||_}
-use mathlib.Core.Option.{Option, none, some}
+use mathlib.Core.Option.{none}
 use mathlib.Core.List.{List, [], _∷_}
 use Prim.Native.Nat.{ℕ, suc, _≤_}
 use native.Mathlib.Omega.{arith}
@@ -9,7 +9,6 @@ use lib.Dec.{eqb}
 use lib.ListN.{length, take}
 use lib.Seq.{take-append-seam}
 use borrow.Author.Tests.{le-ltb, ltb-false}
-use Rattle.answer.specs.declared.Refusal.{Refusal}
 use Rattle.automaton.specs.Choice.{if, All}
 use Rattle.automaton.specs.Rule.{Rule, matches}
 use Rattle.automaton.proofs.Tests.{clash}
@@ -27,24 +26,12 @@ use Rattle.token_list.specs.Checks.{refuse, refuseBy, firstFault, firstExtended
 use Rattle.token_list.proofs.Alone.{alone-first, first-alone}
 use Rattle.token_list.proofs.Faulting.{fault-none, fine}
 use Rattle.token_list.proofs.Passes.{faultless-front}
-use Rattle.printer.specs.Outcome.{PrintOutcome, printAccepted, refusedIf, unless, printChecked, printRules, printReading}
-use Rattle.printer.specs.Outcome.{printOutcome}
+use Rattle.output.specs.Outcome.{PrintOutcome, printAccepted, refusedIf, unless}
+use Rattle.output.proofs.Written.{check-printed, unless-printed}
+use Rattle.printer.specs.Outcome.{printChecked, printRules, printReading, printOutcome}
 use Rattle.answer.specs.declared.PrintAnswer.the-variants as print
 
 -- ---- an accepted outcome passes each check
-
-check-printed : (t : Bool) (number place : ℕ) (out : List ℕ) (next : PrintOutcome) (n : ℕ) → (refusedIf t number place out next) .answer
-    ≡ print.Printed n
-    → (t ≡ false) × (refusedIf t number place out next ≡ next)
-unfolding refusedIf
-check-printed true number place out next n e = let z : _≡_ {A = ℕ} 0 1 = cc in absurd (omega arith)
-check-printed false number place out next n e = (refl, refl)
-
-unless-printed : (o : Option Refusal) (out : List ℕ) (next : PrintOutcome) (n : ℕ) → (unless o out next) .answer ≡ print.Printed n
-    → (o ≡ none) × (unless o out next ≡ next)
-unfolding unless
-unless-printed (some f) out next n e = let z : _≡_ {A = ℕ} 0 1 = cc in absurd (omega arith)
-unless-printed none out next n e = (refl, refl)
 
 -- the tests of an accepted call
 pub record Passes (rules : List Rule) (records pool out : List ℕ) : Type 0 where
@@ -65,14 +52,10 @@ module _ {rules : List Rule} {records pool out : List ℕ} where
   unfolding printRules printChecked
   printed-passes {n} e =
       let a = check-printed _ _ _ _ _ n e in
-      let e₁ = sym (ap (λ (o : PrintOutcome). o.answer) (a .1)) ∙ e in
-      let b = unless-printed _ _ _ n e₁ in
-      let e₂ = sym (ap (λ (o : PrintOutcome). o.answer) (b .1)) ∙ e₁ in
-      let c = check-printed _ _ _ _ _ n e₂ in
-      let e₃ = sym (ap (λ (o : PrintOutcome). o.answer) (c .1)) ∙ e₂ in
-      let d = unless-printed _ _ _ n e₃ in
-      let e₄ = sym (ap (λ (o : PrintOutcome). o.answer) (d .1)) ∙ e₃ in
-      let f = check-printed _ _ _ _ _ n e₄ in
+      let b = unless-printed _ _ _ n (a .1) in
+      let c = check-printed _ _ _ _ _ n (b .1) in
+      let d = unless-printed _ _ _ n (c .1) in
+      let f = check-printed _ _ _ _ _ n (d .1) in
       record {
         few = ltb-false _ _ (a .0);
         faultless = b .0;

@@ -1,15 +1,13 @@
 -- How the answers of the code come to the outcome of document 01. Assumes nothing.
-use mathlib.Core.Path.{_≡_, refl, ap, _∙_}
+use mathlib.Core.Path.{_≡_, refl, ap}
 use mathlib.Core.Bool.{Bool, true, false}
 use mathlib.Core.Option.{Option, none, some}
 use mathlib.Core.List.{List}
 use Prim.Native.Nat.{ℕ, _<_, _≤_}
 use native.Mathlib.Omega.{arith}
-use native.Mathlib.Nat.{zero-add}
 use lib.Dec.{ltb}
-use lib.ListN.{length, take, drop}
-use lib.Seq.{paste}
-use borrow.Author.Tests.{lt-ltb, le-ltb, ltb-true, ltb-false}
+use lib.ListN.{length}
+use borrow.Author.Tests.{lt-ltb, le-ltb}
 use Rattle.answer.specs.declared.Refusal.{Refusal}
 use Rattle.answer.specs.declared.PrintAnswer.{PrintAnswer}
 use Rattle.automaton.specs.Rule.{Rule}
@@ -18,10 +16,13 @@ use Rattle.longest_match.specs.Lexer.{or, Token, join}
 use Rattle.record.specs.Records.{recordCount}
 use Rattle.record.specs.Tokens.{recordsOf, tokensOf}
 use Rattle.output.specs.Contracts.{WritesOut}
+use Rattle.output.proofs.Written.{written-out}
 use Rattle.token_list.specs.Faults.{faultOf}
 use Rattle.token_list.specs.Checks.{refuse, firstFault, firstExtended}
-use Rattle.printer.specs.Contracts.{trouble, Clean, PrintAnswered}
-use Rattle.printer.specs.Outcome.{PrintOutcome, printAccepted, refusedIf, unless, printChecked, printRules}
+use Rattle.output.specs.Contracts.{PrintAnswered}
+use Rattle.printer.specs.Contracts.{trouble, Clean}
+use Rattle.output.specs.Outcome.{PrintOutcome, refusedIf, unless, written}
+use Rattle.printer.specs.Outcome.{printChecked, printRules}
 use Rattle.answer.specs.declared.PrintAnswer.the-variants as print
 
 -- ---- of tokens without fault
@@ -38,17 +39,10 @@ module _ (rules : List Rule) (tokens : List Token) (out : List ℕ) {total : ℕ
     unfolding printChecked refusedIf unless
     answered-extended f a = rw (← e, le-ltb _ _ short, f) (record { answer = a; out = refl })
 
-    module _ (apart : firstExtended rules tokens 0 ≡ none) where
-      pub answered-short : length out < total → {r : PrintAnswer} → r ≡ print.Refused (record { number = 22; place = total })
-          → PrintAnswered (printChecked rules tokens out) r out
-      unfolding printChecked refusedIf unless
-      answered-short l a = rw (← e, le-ltb _ _ short, apart, lt-ltb _ _ l) (record { answer = a; out = refl })
-
-      pub answered-printed : total ≤ length out → (scratch : List ℕ) {exit : List ℕ} → take total scratch ≡ join tokens
-          → exit ≡ paste out 0 (drop 0 scratch) total → PrintAnswered (printChecked rules tokens out) (print.Printed total) exit
-      unfolding printChecked refusedIf unless
-      answered-printed l scratch s p =
-          rw (← e, le-ltb _ _ short, apart, le-ltb _ _ l) (record { answer = refl; out = p ∙ rw (s, zero-add) })
+    pub answered-apart : firstExtended rules tokens 0 ≡ none → {r : PrintAnswer} {exit : List ℕ}
+        → PrintAnswered (written (join tokens) out) r exit → PrintAnswered (printChecked rules tokens out) r exit
+    unfolding printChecked refusedIf unless
+    answered-apart apart a = let l : length (join tokens) ≤ maxText = omega arith in rw (le-ltb _ _ l, apart) a
 
 -- ---- of records
 
@@ -78,9 +72,7 @@ module _ (rules : List Rule) (records pool out : List ℕ) where
             (firstExtended rules (tokensOf records pool) 0) e)
       where
         rest : PrintOutcome
-        rest =
-            refusedIf (ltb (length out) (length (join (tokensOf records pool)))) 22 (length (join (tokensOf records pool))) out
-            (printAccepted (join (tokensOf records pool)) out)
+        rest = written (join (tokensOf records pool)) out
 
         go : (a : Option Refusal) (b : Bool) (d : Option Refusal) → or a (refuse b 20 0 d) ≡ some f
             → PrintAnswered (unless a out (refusedIf b 20 0 out (unless d out rest))) (print.Refused f) out
@@ -90,24 +82,9 @@ module _ (rules : List Rule) (records pool out : List ℕ) where
         go none false none z = let y : _≡_ {A = ℕ} 0 1 = cc in absurd (omega arith)
 
     -- a list with which nothing is wrong
-    module _ {scratch : List ℕ} {total : ℕ} (w : Clean rules records pool scratch total) where
-      clean-short : length out < total → {r : PrintAnswer} → r ≡ print.Refused (record { number = 22; place = total })
-          → PrintAnswered (printRules rules records pool out) r out
-      clean-short l a =
-          answered-checked (w .settled .faultless)
-          (answered-short rules (tokensOf records pool) out (w .spanned .bytes) (w .spanned .short) (w .settled .apart) l a)
-
-      clean-printed : total ≤ length out → {exit : List ℕ} → exit ≡ paste out 0 (drop 0 scratch) total
-          → PrintAnswered (printRules rules records pool out) (print.Printed total) exit
-      clean-printed l e =
-          answered-checked (w .settled .faultless)
-          (answered-printed rules (tokensOf records pool) out (w .spanned .bytes) (w .spanned .short) (w .settled .apart) l scratch
-              (w .laid) e)
-
-      pub clean-written : {r : PrintAnswer} {exit : List ℕ} → WritesOut scratch 0 total out r exit
-          → PrintAnswered (printRules rules records pool out) r exit
-      clean-written {r} {exit} h = go (ltb (length out) total) refl
-        where
-          go : (t : Bool) → ltb (length out) total ≡ t → PrintAnswered (printRules rules records pool out) r exit
-          go true l = let g = h .lacks (ltb-true _ _ l) in rw (g .1) (clean-short (ltb-true _ _ l) (g .0))
-          go false l = let g = h .prints (ltb-false _ _ l) in rw (g .0) (clean-printed (ltb-false _ _ l) (g .1))
+    pub clean-written : {scratch : List ℕ} {total : ℕ} → Clean rules records pool scratch total → {r : PrintAnswer} {exit : List ℕ}
+        → WritesOut scratch 0 total out r exit → PrintAnswered (printRules rules records pool out) r exit
+    clean-written {scratch} w h =
+        answered-checked (w .settled .faultless)
+        (answered-apart rules (tokensOf records pool) out (w .spanned .bytes) (w .spanned .short) (w .settled .apart)
+            (written-out (join (tokensOf records pool)) out (w .spanned .bytes) scratch 0 (w .laid) h))

@@ -10,7 +10,7 @@ use Rattle.automaton.specs.Contracts.{Holds}
 use Rattle.reader.specs.Contracts.{Loaded}
 use Rattle.reader.proofs.Loaded.{loaded-rules, loaded-refusal}
 use Rattle.printer.specs.Outcome.{printRules, printOutcome}
-use Rattle.printer.specs.Contracts.{PrintAnswered}
+use Rattle.output.specs.Contracts.{PrintAnswered}
 use Rattle.answer.specs.declared.BookAnswer.the-variants as book
 use Rattle.answer.specs.declared.PrintAnswer.the-variants as print
 

@@ -25,7 +25,8 @@ use Rattle.record.specs.Records.{recordsAt, recordCount}
 use Rattle.record.proofs.Records.{length-records}
 use Rattle.record.specs.Tokens.{recordsOf, tokensOf, InPool}
 use Rattle.lexer.specs.Outcome.{LexOutcome, lexAccepted, lexRules, lexReading, lexOutcome}
-use Rattle.printer.specs.Outcome.{PrintOutcome, printAccepted, printOutcome}
+use Rattle.output.specs.Outcome.{PrintOutcome, printAccepted}
+use Rattle.printer.specs.Outcome.{printOutcome}
 use Rattle.printer.proofs.Accepting.{Passes, Accepts, book-accepts, printed-accepts, written-joins, passes-printable}
 use Rattle.printer.proofs.Accepting.{printable-faultless, printable-apart}
 use Rattle.printer.proofs.ReadBack.{Storable, records-say, records-inside, records-count}

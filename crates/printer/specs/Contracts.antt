@@ -6,7 +6,6 @@ use Prim.Native.Nat.{ℕ, _≤_}
 use lib.Dec.{ltb}
 use lib.ListN.{length, take}
 use Rattle.answer.specs.declared.Refusal.{Refusal}
-use Rattle.answer.specs.declared.PrintAnswer.{PrintAnswer}
 use Rattle.automaton.specs.Rule.{Rule}
 use Rattle.automaton.specs.Contracts.{Holds, Held}
 use Rattle.book.specs.Limits.{maxText}
@@ -15,14 +14,8 @@ use Rattle.record.specs.Tokens.{recordsOf, tokensOf}
 use Rattle.token_list.specs.Faults.{faultOf}
 use Rattle.token_list.specs.Checks.{refuse, firstFault, firstExtended}
 use Rattle.token_list.specs.Contracts.{Faultless, Settled, Spanned}
-use Rattle.printer.specs.Outcome.{PrintOutcome}
 use Rattle.printer.specs.declared.rehearsal.Rehearsed.{Rehearsed}
 use Rattle.printer.specs.declared.rehearsal.Rehearsed.the-variants as rehearsed
-
--- an answer, and what the output holds afterwards, are those of the outcome
-pub record PrintAnswered (o : PrintOutcome) (r : PrintAnswer) (exit : List ℕ) : Type 0 where
-  pub answer : r ≡ o.answer
-  pub out : exit ≡ o.out
 
 -- what is wrong with a list, in the order of document 01: the first token at fault, 20, the first token that is read on
 unfoldable pub trouble : List Rule → List ℕ → List ℕ → Option Refusal

@@ -7,7 +7,8 @@ ghost use mathlib.Core.List.{List};
 ghost use Rattle.automaton.specs.Rule.{Rule};
 ghost use Rattle.automaton.specs.Contracts.{Holds, Held};
 ghost use Rattle.printer.specs.Outcome.{printRules};
-ghost use Rattle.printer.specs.Contracts.{PrintAnswered, Roomy};
+ghost use Rattle.output.specs.Contracts.{PrintAnswered};
+ghost use Rattle.printer.specs.Contracts.{Roomy};
 
 // The bytes are joined in the scratch. The list is rehearsed, and only one with which something is wrong is asked what that is.
 pub fn print_rules(

@@ -14,7 +14,8 @@ ghost use Prim.Native.Nat.{_≤_};
 ghost use lib.ListN.{length};
 ghost use Rattle.reader.specs.Contracts.{smallBook, Lent};
 ghost use Rattle.printer.specs.Outcome.{printOutcome};
-ghost use Rattle.printer.specs.Contracts.{PrintAnswered, Roomy, Short};
+ghost use Rattle.output.specs.Contracts.{PrintAnswered};
+ghost use Rattle.printer.specs.Contracts.{Roomy, Short};
 
 // Prints the tokens that `records` say with `pool`, by the rules of a book: the number of bytes, which stand at the start of `out`,
 // or the refusal of document 01. Every other byte of `out` stays as it was.

@@ -1,9 +1,8 @@
 -- What the answer of loading says of the book, and of the table. Assumes nothing.
-use mathlib.Core.Path.{_≡_, refl, sym, _∙_, ap}
+use mathlib.Core.Path.{_≡_, refl, sym, _∙_}
 use mathlib.Core.List.{List}
 use Prim.Native.Nat.{ℕ}
 use native.Mathlib.Omega.{arith}
-use lib.ListN.{length}
 use Rattle.answer.specs.declared.Refusal.{Refusal}
 use Rattle.answer.specs.declared.BookAnswer.{BookAnswer}
 use Rattle.automaton.specs.Rule.{Rule}
@@ -12,16 +11,24 @@ use Rattle.reader.specs.Reading.{Reading, accepted, refused, readBook, a
 use Rattle.reader.specs.Contracts.{Loaded}
 use Rattle.answer.specs.declared.BookAnswer.the-variants as book
 
+-- ---- what an answer says of the reading
+
+pub answer-accepted : (o : Reading) {n : ℕ} → book.Accepted n ≡ answer o → (rules : List Rule) × (o ≡ accepted rules)
+answer-accepted (accepted rules) e = (rules, refl)
+answer-accepted (refused number place) e = let z : _≡_ {A = ℕ} 0 1 = cc in absurd (omega arith)
+
+pub answer-refused : (o : Reading) {f : Refusal} → book.Refused f ≡ answer o → o ≡ refused (f .number) (f .place)
+answer-refused (accepted rules) e = let z : _≡_ {A = ℕ} 0 1 = cc in absurd (omega arith)
+answer-refused (refused number place) {f} e = let y : f ≡ record { number = number; place = place } = cc in rw y
+
+-- ---- and of the table
+
 module _ {bytes tb : List ℕ} {b : BookAnswer} {n : ℕ} (l : Loaded bytes b tb) (a : b ≡ book.Accepted n) where
   -- the rules of an accepted book are in the table
   pub loaded-rules : (rules : List Rule) × ((readBook bytes ≡ accepted rules) × Holds tb rules)
-  loaded-rules = go (readBook bytes) refl
-    where
-      go : (o : Reading) → readBook bytes ≡ o → (rules : List Rule) × ((readBook bytes ≡ accepted rules) × Holds tb rules)
-      go (accepted rules) e = (rules, (e, l .holds rules e))
-      go (refused number place) e =
-          let q : book.Accepted n ≡ book.Refused (record { number = number; place = place }) = sym a ∙ l .answered ∙ ap answer e in
-          let z : _≡_ {A = ℕ} 0 1 = cc in absurd (omega arith)
+  loaded-rules =
+      let k = answer-accepted (readBook bytes) (sym a ∙ l .answered) in
+      (k .0, (k .1, l .holds (k .0) (k .1)))
 
   pub loaded-held : Held tb
   loaded-held = record { rules = loaded-rules .0; holds = loaded-rules .1 .1 }
@@ -29,13 +36,4 @@ module _ {bytes tb : List ℕ} {b : BookAnswer} {n : ℕ} (l : Loaded bytes b tb
 -- a book whose reading answers a refusal is refused so
 pub loaded-refusal : {bytes tb : List ℕ} {b : BookAnswer} {f : Refusal} → Loaded bytes b tb → b ≡ book.Refused f
     → readBook bytes ≡ refused (f .number) (f .place)
-loaded-refusal {bytes} {f = f} l a = go (readBook bytes) refl
-  where
-    go : (o : Reading) → readBook bytes ≡ o → readBook bytes ≡ refused (f .number) (f .place)
-    go (accepted rules) e =
-        let q : book.Refused f ≡ book.Accepted (length rules) = sym a ∙ l .answered ∙ ap answer e in
-        let z : _≡_ {A = ℕ} 0 1 = cc in absurd (omega arith)
-    go (refused number place) e =
-        let q : book.Refused f ≡ book.Refused (record { number = number; place = place }) = sym a ∙ l .answered ∙ ap answer e in
-        let y : f ≡ record { number = number; place = place } = cc in
-        rw y e
+loaded-refusal {bytes} l a = answer-refused (readBook bytes) (sym a ∙ l .answered)

@@ -1,5 +1,6 @@
 -- The loop of `load`: the rest of the book decides as the whole does. Assumes nothing.
 use mathlib.Core.Path.{_≡_, refl, sym, _∙_, ap, subst}
+use mathlib.Core.Bool.{Bool}
 use mathlib.Core.List.{List, []}
 use Prim.Native.Nat.{ℕ, zero, suc, _+_, _*_, _/_, _<_, _≤_}
 use native.Mathlib.Omega.{arith}
@@ -21,50 +22,51 @@ use Rattle.book.specs.Contracts.{idle, edgeLimit, Represents, Follows, Takes, a
 use Rattle.book.proofs.Fine.{fine-start}
 use Rattle.book.proofs.Filling.{stored-fresh}
 use Rattle.book.proofs.Steps.{inside-is}
-use Rattle.reader.specs.Reading.{accepted, refused, goOn, takeIn, readFrom, readBook, answer}
-use Rattle.reader.specs.Contracts.{smallBook, smallTable, largeTable, Lent, Loaded}
+use Rattle.reader.specs.Reading.{accepted, refused, goOn, takeIn, readFrom, readBy, answer}
+use Rattle.reader.specs.Contracts.{smallBook, smallTable, largeTable, Lent, LoadedBy}
 use Rattle.reader.proofs.Accepted.{Commanded, Found, command-found}
+use Rattle.reader.proofs.Walking.{not-accepted}
 use Rattle.command.specs.declared.Decoded.the-variants as decoded
 use Rattle.answer.specs.declared.BookAnswer.the-variants as answers
 
 -- ---- answers
 
-pub loaded-refused : {bytes tb : List ℕ} {r : BookAnswer} {number place : ℕ} → readBook bytes ≡ refused number place
-    → r ≡ answers.Refused (record { number = number; place = place }) → Loaded bytes r tb
+pub loaded-refused : {strict : Bool} {bytes tb : List ℕ} {r : BookAnswer} {number place : ℕ} → readBy strict bytes ≡ refused number place
+    → r ≡ answers.Refused (record { number = number; place = place }) → LoadedBy strict bytes r tb
 loaded-refused e q =
     record {
       answered = q ∙ ap answer (sym e);
-      holds = λ rules z. let y : _≡_ {A = ℕ} 0 1 = cc in absurd (omega arith);
+      holds = λ rules z. not-accepted (sym e ∙ z);
     }
 
-loaded-accepted : {bytes tb : List ℕ} {k : ℕ} {rules : List Rule} → readBook bytes ≡ accepted rules
-    → k ≡ length rules → Holds tb rules → Loaded bytes (answers.Accepted k) tb
+loaded-accepted : {strict : Bool} {bytes tb : List ℕ} {k : ℕ} {rules : List Rule} → readBy strict bytes ≡ accepted rules
+    → k ≡ length rules → Holds tb rules → LoadedBy strict bytes (answers.Accepted k) tb
 loaded-accepted {tb = tb} {rules = rules} e q t =
     record {
       answered = ap answers.Accepted q ∙ ap answer (sym e);
       holds = λ others z. let y : rules ≡ others = cc in subst (Holds tb) y t;
     }
 
-pub read-too-long : (bytes : List ℕ) → maxBytes < length bytes → readBook bytes ≡ refused 1 0
-unfolding readBook
-read-too-long bytes l = rw (lt-ltb _ _ l)
+pub read-too-long : (strict : Bool) (bytes : List ℕ) → maxBytes < length bytes → readBy strict bytes ≡ refused 1 0
+unfolding readBy
+read-too-long strict bytes l = rw (lt-ltb _ _ l)
 
 -- ---- the loop
 
 -- the book's bytes up to `at` have made the draft that the state, the table and the cells hold, and reading from there on decides
-pub record Going (bytes tb rows : List ℕ) (at : ℕ) (b : Book) : Type 0 where
+pub record Going (strict : Bool) (bytes tb rows : List ℕ) (at : ℕ) (b : Book) : Type 0 where
   pub draft : Draft
   pub steps : ℕ
   pub holds : Represents b tb rows draft
   pub enough : length bytes ≤ at + steps
-  pub same : readBook bytes ≡ readFrom steps bytes at draft
+  pub same : readBy strict bytes ≡ readFrom strict steps bytes at draft
   pub few : 4 * b .edges ≤ 4 * edgeStart + at
   pub short : length bytes ≤ maxBytes
   pub room : edgeStart + length bytes / 4 < length tb
 
-pub going-start : {bytes tb rows : List ℕ} {b : Book} {at : ℕ} → Lent (length bytes) tb → Fresh tb rows → length bytes ≤ maxBytes
-    → b ≡ idle 0 edgeStart → at ≡ 0 → Going bytes tb rows at b
-unfolding readBook overlaps
+pub going-start : {strict : Bool} {bytes tb rows : List ℕ} {b : Book} {at : ℕ} → Lent (length bytes) tb → Fresh tb rows
+    → length bytes ≤ maxBytes → b ≡ idle 0 edgeStart → at ≡ 0 → Going strict bytes tb rows at b
+unfolding readBy overlaps
 going-start {bytes} lent f l e z =
     rw (e, z)
     (record {
@@ -79,50 +81,53 @@ going-start {bytes} lent f l e z =
     })
 
 -- the book stops before END
-read-stops : (n : ℕ) (bytes : List ℕ) (at : ℕ) (d : Draft) → length bytes ≤ at → readFrom n bytes at d ≡ refused 2 (length bytes)
+read-stops : (strict : Bool) (n : ℕ) (bytes : List ℕ) (at : ℕ) (d : Draft) → length bytes ≤ at
+    → readFrom strict n bytes at d ≡ refused 2 (length bytes)
 unfolding readFrom
-read-stops zero bytes at d l = refl
-read-stops (suc n) bytes at d l = rw (le-ltb _ _ l)
+read-stops strict zero bytes at d l = refl
+read-stops strict (suc n) bytes at d l = rw (le-ltb _ _ l)
 
-pub going-stops : {bytes tb rows : List ℕ} {at : ℕ} {b : Book} → Going bytes tb rows at b → length bytes ≤ at
-    → readBook bytes ≡ refused 2 (length bytes)
-going-stops {bytes} g l = g .same ∙ read-stops (g .steps) bytes _ (g .draft) l
+pub going-stops : {strict : Bool} {bytes tb rows : List ℕ} {at : ℕ} {b : Book} → Going strict bytes tb rows at b → length bytes ≤ at
+    → readBy strict bytes ≡ refused 2 (length bytes)
+going-stops {strict} {bytes} g l = g .same ∙ read-stops strict (g .steps) bytes _ (g .draft) l
 
 -- one step more is taken, as `takeIn` says of what stands there
-pub record Taking (bytes : List ℕ) (at : ℕ) (d : Draft) (c : Decoded) : Type 0 where
+pub record Taking (strict : Bool) (bytes : List ℕ) (at : ℕ) (d : Draft) (c : Decoded) : Type 0 where
   pub steps : ℕ
   pub enough : length bytes ≤ at + 1 + steps
-  pub same : readBook bytes ≡ takeIn c d at (length bytes) (readFrom steps bytes)
+  pub same : readBy strict bytes ≡ takeIn c d at (length bytes) (readFrom strict steps bytes)
 
-read-takes : (n : ℕ) (bytes : List ℕ) (at : ℕ) (d : Draft) (c : Decoded) → length bytes ≤ at + n → at < length bytes
-    → commandAt bytes at d.inside ≡ c → readBook bytes ≡ readFrom n bytes at d → Taking bytes at d c
+read-takes : (strict : Bool) (n : ℕ) (bytes : List ℕ) (at : ℕ) (d : Draft) (c : Decoded) → length bytes ≤ at + n → at < length bytes
+    → commandAt strict bytes at d.inside ≡ c → readBy strict bytes ≡ readFrom strict n bytes at d → Taking strict bytes at d c
 unfolding readFrom
-read-takes zero bytes at d c e l q s = absurd (omega arith)
-read-takes (suc n) bytes at d c e l q s = record { steps = n; enough = omega arith; same = s ∙ rw (lt-ltb _ _ l, q) }
+read-takes strict zero bytes at d c e l q s = absurd (omega arith)
+read-takes strict (suc n) bytes at d c e l q s = record { steps = n; enough = omega arith; same = s ∙ rw (lt-ltb _ _ l, q) }
 
-pub going-takes : {bytes tb rows : List ℕ} {at : ℕ} {b : Book} (g : Going bytes tb rows at b) → at < length bytes
-    → (c : Decoded) → c ≡ commandAt bytes at (b .inside) → Taking bytes at (g .draft) c
-going-takes {bytes} {at = at} g more c e =
-    read-takes (g .steps) bytes at (g .draft) c (g .enough) more (ap (commandAt bytes at) (sym (inside-is (g .holds))) ∙ sym e) (g .same)
+pub going-takes : {strict : Bool} {bytes tb rows : List ℕ} {at : ℕ} {b : Book} (g : Going strict bytes tb rows at b) → at < length bytes
+    → (c : Decoded) → c ≡ commandAt strict bytes at (b .inside) → Taking strict bytes at (g .draft) c
+going-takes {strict} {bytes} {at = at} g more c e =
+    read-takes strict (g .steps) bytes at (g .draft) c (g .enough) more
+    (ap (commandAt strict bytes at) (sym (inside-is (g .holds))) ∙ sym e) (g .same)
 
 -- ---- a command
 
 -- the command c stands at `at`, and the cursor is then past it
-pub record Here (bytes tb rows : List ℕ) (at : ℕ) (b : Book) (c : Command) (cursor : Cursor) : Type 0 where
-  pub going : Going bytes tb rows at b
+pub record Here (strict : Bool) (bytes tb rows : List ℕ) (at : ℕ) (b : Book) (c : Command) (cursor : Cursor) : Type 0 where
+  pub going : Going strict bytes tb rows at b
   pub more : at < length bytes
   pub byte : (i : ℕ) → byteAt bytes i < 256
-  pub found : decoded.Command c cursor ≡ commandAt bytes at (b .inside)
+  pub found : decoded.Command c cursor ≡ commandAt strict bytes at (b .inside)
 
 -- what its outcome says of the book: reading goes on, or the book is answered
-abbrev pub Leaves : List ℕ → List ℕ → List ℕ → ℕ → Progress → Type 0
-Leaves bytes tb rows at (On b) = Going bytes tb rows at b
-Leaves bytes tb rows at (Done k) = Loaded bytes (answers.Accepted k) tb
-Leaves bytes tb rows at (Refused f) = Loaded bytes (answers.Refused f) tb
+abbrev pub Leaves : Bool → List ℕ → List ℕ → List ℕ → ℕ → Progress → Type 0
+Leaves strict bytes tb rows at (On b) = Going strict bytes tb rows at b
+Leaves strict bytes tb rows at (Done k) = LoadedBy strict bytes (answers.Accepted k) tb
+Leaves strict bytes tb rows at (Refused f) = LoadedBy strict bytes (answers.Refused f) tb
 
-module _ {bytes tb rows : List ℕ} {at : ℕ} {b : Book} {c : Command} {cursor : Cursor} (k : Here bytes tb rows at b c cursor) where
+module _ {strict : Bool} {bytes tb rows : List ℕ} {at : ℕ} {b : Book} {c : Command} {cursor : Cursor}
+    (k : Here strict bytes tb rows at b c cursor) where
   pub commanded : Commanded bytes at (b .inside) c (cursor .at)
-  commanded = subst (Found bytes at (b .inside)) (sym (k .found)) (command-found bytes at (b .inside) (k .byte))
+  commanded = subst (Found bytes at (b .inside)) (sym (k .found)) (command-found bytes at (b .inside) (k .byte) strict)
 
   pub edges-left : b .edges < edgeLimit
   edges-left = let h = k .going .few in let l = k .going .short in let m = k .more in omega arith
@@ -130,17 +135,17 @@ module _ {bytes tb rows : List ℕ} {at : ℕ} {b : Book} {c : Command} {cursor 
   pub room-left : b .edges < length tb
   room-left = let h = k .going .few in let l = k .going .room in let m = k .more in omega arith
 
-  taking : Taking bytes at (k .going .draft) (decoded.Command c cursor)
+  taking : Taking strict bytes at (k .going .draft) (decoded.Command c cursor)
   taking = going-takes (k .going) (k .more) (decoded.Command c cursor) (k .found)
 
   pub taken-in : {r s : Progress} (tb₁ rows₁ : List ℕ) → length tb₁ ≡ length tb → Takes b c at (length bytes) r tb rows tb₁ rows₁ → r ≡ s
-      → Leaves bytes tb₁ rows₁ (cursor .at) s
+      → Leaves strict bytes tb₁ rows₁ (cursor .at) s
   taken-in {s = s} tb₁ rows₁ kept taken e =
       go (apply (k .going .draft) c at (length bytes)) s (taking .same)
       (rw e at (taken (k .going .draft) (k .going .holds) (sym (inside-is (k .going .holds)) ∙ sym (commanded .stands))))
     where
-      go : (v : Verdict) (p : Progress) → readBook bytes ≡ goOn v (readFrom (taking .steps) bytes (cursor .at))
-          → Follows v p tb₁ rows₁ (b .edges + adds c) → Leaves bytes tb₁ rows₁ (cursor .at) p
+      go : (v : Verdict) (p : Progress) → readBy strict bytes ≡ goOn v (readFrom strict (taking .steps) bytes (cursor .at))
+          → Follows v p tb₁ rows₁ (b .edges + adds c) → Leaves strict bytes tb₁ rows₁ (cursor .at) p
       go (goes d) (On b₁) q (h, n) =
           let f = commanded .further in
           let w = commanded .wide in

@@ -1,5 +1,5 @@
-// The reader of rule books: `read` answers the number of rules or the refusal, `rule` the tag and kind of one rule; `load` fills a lent
-// table, for the crates that use the rules.
+// The reader of rule books: `read` answers the number of rules or the refusal, `read_strict` the same but that it refuses STEP, `rule` the
+// tag and kind of one rule; `load` fills a lent table, for the crates that use the rules. All go by one loop, to which `strict` is a value.
 use answer::BookAnswer;
 use answer::Refusal;
 use answer::RuleAnswer;
@@ -15,24 +15,32 @@ ghost use lib.ListN.{length};
 ghost use Rattle.automaton.specs.Rule.{Rule};
 ghost use Rattle.automaton.specs.Contracts.{Holds, Held};
 ghost use Rattle.book.specs.Contracts.{Fresh};
-ghost use Rattle.reader.specs.Reading.{readBook, answer};
+ghost use Rattle.reader.specs.Reading.{readBy, readBook, readStrict, answer};
 ghost use Rattle.reader.specs.Rules.{numbered, ruleAnswer, ruleOutcome};
-ghost use Rattle.reader.specs.Contracts.{smallBook, Lent, Loaded};
+ghost use Rattle.reader.specs.Contracts.{smallBook, Lent, LoadedBy, Loaded};
 
 // Checks a book and fills the table with its rules; where the book is refused, what it holds is of no account.
 pub fn load(book: &[u8], table: &mut [u64]) -> BookAnswer
     requires { ⌜ Lent (length (now book)) (now table) ⌝ }
     ensures { λ r. ⌜ Loaded (now (book .entry)) r (now (table .exit)) ⌝ }
 {
+    load_by(false, book, table)
+}
+
+// The same by the reading that `strict` names.
+fn load_by(strict: bool, book: &[u8], table: &mut [u64]) -> BookAnswer
+    requires { ⌜ Lent (length (now book)) (now table) ⌝ }
+    ensures { λ r. ⌜ LoadedBy strict (now (book .entry)) r (now (table .exit)) ⌝ }
+{
     let mut rows = [0u32; STATES];
-    load_rows(book, table, &mut rows)
+    load_rows(strict, book, table, &mut rows)
 }
 
 // The same with the cells of the open rule's states, all zero.
-fn load_rows(book: &[u8], table: &mut [u64], rows: &mut [u32]) -> BookAnswer
+fn load_rows(strict: bool, book: &[u8], table: &mut [u64], rows: &mut [u32]) -> BookAnswer
     requires { ⌜ Lent (length (now book)) (now table) ⌝ }
     requires { ⌜ Fresh (now table) (now rows) ⌝ }
-    ensures { λ r. ⌜ Loaded (now (book .entry)) r (now (table .exit)) ⌝ }
+    ensures { λ r. ⌜ LoadedBy strict (now (book .entry)) r (now (table .exit)) ⌝ }
 {
     let len = book.len();
     if Book::BYTES < len {
@@ -42,8 +50,9 @@ fn load_rows(book: &[u8], table: &mut [u64], rows: &mut [u32]) -> BookAnswer
     let mut state = Book::new();
     while cursor.at < len {
         let at = cursor.at;
-        match cursor.command(book, state.inside) {
+        match cursor.command(strict, book, state.inside) {
             Decoded::Misplaced => return BookAnswer::refused(Refusal::MISPLACED, at),
+            Decoded::Retired => return BookAnswer::refused(Refusal::RETIRED, at),
             Decoded::CutOff => return BookAnswer::refused(Refusal::CUT_OFF, at),
             Decoded::Command(command, next) => match book::applying::apply(
                 state,
@@ -69,26 +78,39 @@ fn load_rows(book: &[u8], table: &mut [u64], rows: &mut [u32]) -> BookAnswer
 pub fn read(book: &[u8]) -> BookAnswer
     ensures { λ r. ⌜ r ≡ answer (readBook (now (book .entry))) ⌝ }
 {
+    read_by(false, book)
+}
+
+// The stricter reading of document 02, wish 10: as `read`, with 33 for a STEP.
+pub fn read_strict(book: &[u8]) -> BookAnswer
+    ensures { λ r. ⌜ r ≡ answer (readStrict (now (book .entry))) ⌝ }
+{
+    read_by(true, book)
+}
+
+fn read_by(strict: bool, book: &[u8]) -> BookAnswer
+    ensures { λ r. ⌜ r ≡ answer (readBy strict (now (book .entry))) ⌝ }
+{
     if book.len() <= Book::SMALL {
-        read_small(book)
+        read_small(strict, book)
     } else {
-        read_large(book)
+        read_large(strict, book)
     }
 }
 
-fn read_small(book: &[u8]) -> BookAnswer
+fn read_small(strict: bool, book: &[u8]) -> BookAnswer
     requires { ⌜ length (now book) ≤ smallBook ⌝ }
-    ensures { λ r. ⌜ r ≡ answer (readBook (now (book .entry))) ⌝ }
+    ensures { λ r. ⌜ r ≡ answer (readBy strict (now (book .entry))) ⌝ }
 {
     let mut table = [0u64; Book::SMALL_TABLE];
-    load(book, &mut table)
+    load_by(strict, book, &mut table)
 }
 
-fn read_large(book: &[u8]) -> BookAnswer
-    ensures { λ r. ⌜ r ≡ answer (readBook (now (book .entry))) ⌝ }
+fn read_large(strict: bool, book: &[u8]) -> BookAnswer
+    ensures { λ r. ⌜ r ≡ answer (readBy strict (now (book .entry))) ⌝ }
 {
     let mut table = [0u64; Book::TABLE];
-    load(book, &mut table)
+    load_by(strict, book, &mut table)
 }
 
 // The tag and the kind of rule number `index`, from 0, or the refusal: the book's, or 18 past the last rule, its place the number of rules.

@@ -1,15 +1,14 @@
 -- What the code answers is the outcome. Assumes nothing.
-use mathlib.Core.Path.{_≡_, refl, ap, _∙_, subst}
+use mathlib.Core.Path.{_≡_, refl, ap, subst}
 use mathlib.Core.Bool.{Bool, true, false}
 use mathlib.Core.Option.{Option, none, some}
 use mathlib.Core.List.{List}
 use Prim.Native.Nat.{ℕ, _<_, _≤_}
 use native.Mathlib.Omega.{arith}
-use native.Mathlib.Nat.{zero-add}
-use lib.ListN.{length, take, drop}
-use lib.Seq.{paste, take-length}
+use lib.ListN.{length, drop}
+use lib.Seq.{take-length}
 use lib.Dec.{ltb}
-use borrow.Author.Tests.{lt-ltb, le-ltb, ltb-true, ltb-false}
+use borrow.Author.Tests.{ltb-true, ltb-false}
 use Rattle.answer.specs.declared.Refusal.{Refusal}
 use Rattle.answer.specs.declared.BookAnswer.{BookAnswer}
 use Rattle.answer.specs.declared.PrintAnswer.{PrintAnswer}
@@ -24,8 +23,9 @@ use Rattle.reader.proofs.Loaded.{loaded-rules, loaded-refusal}
 use Rattle.output.specs.Contracts.{WritesOut, Stands}
 use Rattle.output.specs.declared.Placed.{Placed}
 use Rattle.token_list.proofs.Alone.{alone-first}
-use Rattle.printer.specs.Outcome.{refusedIf, unless}
-use Rattle.printer.specs.Contracts.{PrintAnswered}
+use Rattle.output.specs.Outcome.{unless}
+use Rattle.output.proofs.Written.{written-out, up-to-long, up-to-fitting}
+use Rattle.output.specs.Contracts.{PrintAnswered}
 use Rattle.spacing.specs.Separators.{spelled}
 use Rattle.spacing.specs.Contracts.{Spaceable}
 use Rattle.token_list.specs.Contracts.{checkedOf}
@@ -40,34 +40,13 @@ use Rattle.output.specs.declared.Placed.the-variants as placed
 
 -- ---- what is written
 
-module _ (bytes out : List ℕ) where
-  pub answered-long : maxText < length bytes → {r : PrintAnswer} → r ≡ print.Refused (record { number = 20; place = 0 })
-      → PrintAnswered (writing bytes out) r out
-  unfolding writing refusedIf
-  answered-long l a = rw (lt-ltb _ _ l) (record { answer = a; out = refl })
-
-  module _ {total : ℕ} (e : total ≡ length bytes) (short : total ≤ maxText) where
-    answered-short : length out < total → {r : PrintAnswer} → r ≡ print.Refused (record { number = 22; place = total })
-        → PrintAnswered (writing bytes out) r out
-    unfolding writing refusedIf
-    answered-short l a = rw (← e, le-ltb _ _ short, lt-ltb _ _ l) (record { answer = a; out = refl })
-
-    answered-printed : total ≤ length out → {exit : List ℕ} → exit ≡ paste out 0 bytes total
-        → PrintAnswered (writing bytes out) (print.Printed total) exit
-    unfolding writing refusedIf
-    answered-printed l p =
-        let t : take total bytes ≡ bytes = rw e (take-length bytes) in
-        rw (← e, le-ltb _ _ short, le-ltb _ _ l) (record { answer = refl; out = p ∙ rw (t, zero-add) })
-
 -- what `write` makes of the bytes of a scratch from `at` on
 pub answered-written : (scratch : List ℕ) (at : ℕ) (out : List ℕ) {total : ℕ} {r : PrintAnswer} {exit : List ℕ}
     → total ≡ length (drop at scratch) → total ≤ maxText
     → WritesOut scratch at total out r exit → PrintAnswered (writing (drop at scratch) out) r exit
-answered-written scratch at out {total} {r} {exit} e short h = go (ltb (length out) total) refl
-  where
-    go : (t : Bool) → ltb (length out) total ≡ t → PrintAnswered (writing (drop at scratch) out) r exit
-    go true l = let g = h .lacks (ltb-true _ _ l) in rw (g .1) (answered-short (drop at scratch) out e short (ltb-true _ _ l) (g .0))
-    go false l = let g = h .prints (ltb-false _ _ l) in rw (g .0) (answered-printed (drop at scratch) out e short (ltb-false _ _ l) (g .1))
+answered-written scratch at out e short h =
+    up-to-fitting maxText 20 (drop at scratch) out (omega arith)
+    (written-out (drop at scratch) out e scratch at (rw e (take-length (drop at scratch))) h)
 
 -- ---- what stands at the end of a scratch
 
@@ -81,7 +60,7 @@ module _ {sep : TokenRecord} {mode : ℕ} {records pool entry : List ℕ} (k : R
   pub answered-full : (rules : List Rule) (out : List ℕ) {p : Placed} {scratch : List ℕ} → length scratch ≡ length entry
       → Stands p (spelled rules sep mode records pool) scratch → p ≡ placed.Full → {r : PrintAnswer}
       → r ≡ print.Refused (record { number = 20; place = 0 }) → PrintAnswered (writing (spelled rules sep mode records pool) out) r out
-  answered-full rules out q s e a = answered-long (spelled rules sep mode records pool) out (go _ refl) a
+  answered-full rules out q s e a = up-to-long maxText 20 (spelled rules sep mode records pool) out (go _ refl) a
     where
       go : (t : Bool) → ltb maxText (length (spelled rules sep mode records pool)) ≡ t
           → maxText < length (spelled rules sep mode records pool)

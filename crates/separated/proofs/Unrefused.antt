@@ -23,12 +23,13 @@ use Rattle.token_list.specs.Faults.{faultOf}
 use Rattle.token_list.specs.Checks.{refuse, refuseBy, firstFault}
 use Rattle.token_list.proofs.Passes.{faultless-front}
 use Rattle.token_list.proofs.Faulting.{Fine, fine, fault-none}
-use Rattle.printer.specs.Outcome.{PrintOutcome, printAccepted, refusedIf, unless}
+use Rattle.output.specs.Outcome.{printAccepted, unless}
+use Rattle.output.proofs.Written.{unless-printed, up-to-accepts, up-to-printed}
 use Rattle.used_bytes.specs.Kinds.{separates}
 use Rattle.used_bytes.specs.Bytes.{lowestFrom, shared, sharedByte}
 use Rattle.spacing.specs.Separators.{spelled}
 use Rattle.separated.specs.Refusals.{orElse, separatorFault, plainFault, sharing, listRefusal, separatedRefusal}
-use Rattle.separated.specs.Outcome.{writing, separatedRules, separatedOutcome}
+use Rattle.separated.specs.Outcome.{separatedRules, separatedOutcome}
 use Rattle.answer.specs.declared.PrintAnswer.the-variants as answer
 
 -- ---- the lowest byte
@@ -175,19 +176,6 @@ module _ (rules : List Rule) (sep : TokenRecord) (mode : ℕ) (records pool : Li
       )
       (none-faults _ (recordsOf records) 0 (all-map _ _ (taken-plain rules pool) (recordsOf records) (p .tokens)))
 
-check-printed : (t : Bool) (number place : ℕ) (out : List ℕ) (next : PrintOutcome) (n : ℕ)
-    → (refusedIf t number place out next) .answer ≡ answer.Printed n
-    → (t ≡ false) × (next .answer ≡ answer.Printed n)
-unfolding refusedIf
-check-printed true number place out next n e = let z : _≡_ {A = ℕ} 0 1 = cc in absurd (omega arith)
-check-printed false number place out next n e = (refl, e)
-
-unless-printed : (o : Option Refusal) (out : List ℕ) (next : PrintOutcome) (n : ℕ) → (unless o out next) .answer ≡ answer.Printed n
-    → (o ≡ none) × (next .answer ≡ answer.Printed n)
-unfolding unless
-unless-printed (some f) out next n e = let z : _≡_ {A = ℕ} 0 1 = cc in absurd (omega arith)
-unless-printed none out next n e = (refl, e)
-
 module _ (rules : List Rule) (sep : TokenRecord) (mode : ℕ) (records pool : List ℕ) where
   abbrev bytes : List ℕ
   bytes = spelled rules sep mode records pool
@@ -195,14 +183,13 @@ module _ (rules : List Rule) (sep : TokenRecord) (mode : ℕ) (records pool : Li
   module _ (book out : List ℕ) (reads : readBook book ≡ accepted rules) where
     pub passes-accepted : CallPasses rules sep mode records pool → length bytes ≤ maxText → length bytes ≤ length out
         → separatedOutcome book sep mode records pool out ≡ printAccepted bytes out
-    unfolding separatedOutcome separatedRules writing refusedIf unless
-    passes-accepted p short room = rw (reads, passes-none rules sep mode records pool p, le-ltb maxText _ short, le-ltb _ _ room)
+    unfolding separatedOutcome separatedRules unless
+    passes-accepted p short room = rw (reads, passes-none rules sep mode records pool p) (up-to-accepts maxText 20 bytes out short room)
 
     pub accepted-passes : {n : ℕ} → (separatedOutcome book sep mode records pool out) .answer ≡ answer.Printed n
         → CallPasses rules sep mode records pool × (length bytes ≤ maxText) × (length bytes ≤ length out)
-    unfolding separatedOutcome separatedRules writing
+    unfolding separatedOutcome separatedRules
     accepted-passes {n} e =
         let a = unless-printed (separatedRefusal rules sep mode records pool) out _ n (rw reads at e) in
-        let g = check-printed (ltb maxText (length bytes)) 20 0 out _ n (a .1) in
-        let h = check-printed (ltb (length out) (length bytes)) 22 (length bytes) out _ n (g .1) in
-        (passes rules sep mode records pool (a .0), ltb-false _ _ (g .0), ltb-false _ _ (h .0))
+        let b = up-to-printed maxText 20 bytes out (a .1) in
+        (passes rules sep mode records pool (a .0), b .0, b .1)

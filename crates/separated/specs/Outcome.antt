@@ -2,22 +2,17 @@
 -- output to the answer and what the output holds afterwards.
 use mathlib.Core.List.{List}
 use Prim.Native.Nat.{ℕ}
-use lib.Dec.{ltb}
-use lib.ListN.{length}
 use Rattle.automaton.specs.Rule.{Rule}
 use Rattle.book.specs.Limits.{maxText}
 use Rattle.reader.specs.Reading.{Reading, accepted, refused, readBook}
 use Rattle.record.specs.declared.TokenRecord.{TokenRecord}
-use Rattle.printer.specs.Outcome.{PrintOutcome, printRefused, printAccepted, refusedIf, unless}
+use Rattle.output.specs.Outcome.{PrintOutcome, printRefused, unless, writtenUpTo}
 use Rattle.spacing.specs.Separators.{spelled}
 use Rattle.separated.specs.Refusals.{separatedRefusal}
 
 -- 20, separators counted, and 22, then the bytes
-unfoldable pub writing : List ℕ → List ℕ → PrintOutcome
-writing bytes out =
-    refusedIf (ltb maxText (length bytes)) 20 0 out
-    (refusedIf (ltb (length out) (length bytes)) 22 (length bytes) out
-    (printAccepted bytes out))
+abbrev pub writing : List ℕ → List ℕ → PrintOutcome
+writing bytes out = writtenUpTo maxText 20 bytes out
 
 unfoldable pub separatedRules : List Rule → TokenRecord → ℕ → List ℕ → List ℕ → List ℕ → PrintOutcome
 separatedRules rules sep mode records pool out =

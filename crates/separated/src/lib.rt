@@ -19,7 +19,7 @@ ghost use Rattle.automaton.specs.Rule.{Rule};
 ghost use Rattle.automaton.specs.Contracts.{Holds, Held};
 ghost use Rattle.book.specs.Limits.{maxText};
 ghost use Rattle.reader.specs.Contracts.{smallBook, Lent};
-ghost use Rattle.printer.specs.Contracts.{PrintAnswered};
+ghost use Rattle.output.specs.Contracts.{PrintAnswered};
 ghost use Rattle.spacing.specs.Separators.{spelled};
 ghost use Rattle.separated.specs.Outcome.{writing, separatedRules, separatedOutcome};
 ghost use Rattle.separated.specs.Contracts.{Passed, Roomy, Short};

@@ -32,7 +32,8 @@ use Rattle.token_list.specs.Faults.{faultOf}
 use Rattle.token_list.specs.Contracts.{Spanned, Faultless}
 use Rattle.token_list.proofs.Passes.{faultless-pool, Joining, joining-start, joining-pool, joining-room, joining-next, joining-end}
 use Rattle.printer.specs.Outcome.{printChecked, printRules, printOutcome}
-use Rattle.printer.specs.Contracts.{PrintAnswered, Clean}
+use Rattle.output.specs.Contracts.{PrintAnswered}
+use Rattle.printer.specs.Contracts.{Clean}
 use Rattle.printer.proofs.Rehearsing.{spanned-fitting, spanned-laid}
 use Rattle.printer.proofs.ByRules.{answered-long, answered-extended, answered-many, answered-fault, answered-checked, clean-written}
 use Rattle.printer.proofs.Outcomes.{answered-book, answered-refused}
@@ -171,7 +172,7 @@ module _ (book tb records pool : List ℕ) (rules : List Rule) (accepts : readBo
           stands rules accepts holds few (reading 0 0 total q (omega arith) (omega (arith, bound)) c x (extending-start (c .faultless) x))
 
       join-sized : length after ≡ maxText
-      join-sized = joining-next w more e p .same ∙ long
+      join-sized = joining-next w more e p .filling .same ∙ long
 
     -- the third
     module _ (k at total : ℕ) (more : k < recordCount records) (bound : recordCount records ≤ left + k)

@@ -24,7 +24,7 @@ use Rattle.lexer.specs.Outcome.{lexRules, lexOutcome}
 use Rattle.lexer.specs.Contracts.{LexAnswered}
 use Rattle.output.specs.Contracts.{WritesOut}
 use Rattle.token_list.specs.Faults.{faultOf}
-use Rattle.printer.specs.Contracts.{PrintAnswered}
+use Rattle.output.specs.Contracts.{PrintAnswered}
 use Rattle.printer.specs.Outcome.{printOutcome}
 use Rattle.slices.specs.declared.lexing.Pending.{Pending}
 use Rattle.slices.specs.declared.printing.Stage.{Stage}

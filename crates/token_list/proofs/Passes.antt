@@ -1,12 +1,12 @@
 -- The passes over a list of tokens: what holds at the head of each loop, and how a turn keeps it. Assumes nothing.
 use mathlib.Core.Path.{_≡_, refl, sym, ap, _∙_, subst}
 use mathlib.Core.Option.{Option, none, some}
-use mathlib.Core.List.{List, [], _∷_, _++_, append-assoc, append-nil}
+use mathlib.Core.List.{List, [], _∷_, _++_}
 use Prim.Native.Nat.{ℕ, zero, suc, _+_, _-_, _<_, _≤_}
 use native.Mathlib.Omega.{arith}
 use native.Mathlib.Numerals.{add-one}
-use lib.ListN.{length, take, drop, length-append, length-drop, take-append-drop}
-use lib.Seq.{paste, length-paste, take-paste, drop-paste, drop-drop, length-take-le}
+use lib.ListN.{length, drop}
+use lib.Seq.{paste}
 use Rattle.automaton.specs.Choice.{All}
 use Rattle.automaton.specs.Rule.{Rule}
 use Rattle.longest_match.specs.Lexer.{join}
@@ -14,6 +14,7 @@ use Rattle.longest_match.proofs.First.{nothing}
 use Rattle.record.specs.Records.{recordCount}
 use Rattle.record.specs.declared.TokenRecord.{TokenRecord}
 use Rattle.record.specs.Tokens.{recordAt, recordsFrom, recordsOf, bytesIn, tokensIn, tokensOf, InPool}
+use Rattle.output.proofs.Filling.{Filling, filling-start, filling-room, filling-next, filling-end}
 use Rattle.token_list.specs.Faults.{faultOf}
 use Rattle.token_list.specs.Checks.{refuseBy, firstFault}
 use Rattle.token_list.specs.Contracts.{checkedOf, faultFor, Fitting, Joined}
@@ -113,18 +114,16 @@ faultless-pool rules pool (r ∷ rs) k e =
 -- the first k tokens are written, `at` bytes
 pub record Joining (records pool entry out : List ℕ) (at k : ℕ) : Type 0 where
   pub within : k ≤ recordCount records
-  pub same : length out ≡ length entry
   pub each : All (InPool pool) (left records k)
-  pub room : at + length (join (tokensIn pool (left records k))) ≤ length entry
-  pub written : join (tokensOf records pool) ≡ take at out ++ join (tokensIn pool (left records k))
-  pub kept : drop at out ≡ drop at entry
+  pub filling : Filling (join (tokensOf records pool)) (join (tokensIn pool (left records k))) entry out at
 
 pub joining-start : (records pool out : List ℕ) → Fitting records pool out → Joining records pool out out 0 0
 joining-start records pool out f =
-    let q = left-start records in
-    let r : length (join (tokensIn pool (left records 0))) ≤ length out = rw left-start at (f .room) in
-    record { within = omega arith; same = refl; each = rw left-start at (f .each); room = omega arith; written = rw left-start; kept =
-        refl }
+    record {
+      within = omega arith;
+      each = rw left-start at (f .each);
+      filling = rw (← (left-start records)) (filling-start _ out (f .room));
+    }
 
 module _ {records pool entry out : List ℕ} {at k : ℕ} (w : Joining records pool entry out at k) where
   module _ (more : k < recordCount records) {r : TokenRecord} (e : r ≡ recordAt records k) where
@@ -137,38 +136,26 @@ module _ {records pool entry out : List ℕ} {at k : ℕ} (w : Joining records p
     pub joining-pool : r .place + r .len ≤ length pool
     joining-pool = each-here .0 .in-pool
 
-    parts : length (join (tokensIn pool (left records k))) ≡ r .len + length (join (tokensIn pool (left records (k + 1))))
+    abbrev after : List ℕ
+    after = join (tokensIn pool (left records (k + 1)))
+
+    parts : join (tokensIn pool (left records k)) ≡ bytesIn pool r ++ after
     unfolding tokensIn
-    parts = rw here (length-append (bytesIn pool r) (join (tokensIn pool (left records (k + 1)))) ∙ rw (bytes-length pool r joining-pool))
+    parts = rw here
 
     pub joining-room : at + r .len ≤ length out
-    joining-room = omega (arith, parts, w .room, w .same)
+    joining-room = omega (arith, filling-room (w .filling) (bytesIn pool r) after parts, bytes-length pool r joining-pool)
 
-    module _ {next : List ℕ} (p : next ≡ paste out at (drop (r .place) pool) (r .len)) where
-      source : r .len ≤ length (drop (r .place) pool)
-      source = simp length-drop (omega (arith, joining-pool))
-
-      pub joining-next : Joining records pool entry next (at + r .len) (k + 1)
-      unfolding tokensIn
-      joining-next =
-          let room : at + r .len ≤ length out = joining-room in
-          let below : at ≤ length out = omega arith in
-          record {
-            within = omega arith;
-            same = ap length p ∙ length-paste out at (drop (r .place) pool) (r .len) room source ∙ w .same;
-            each = each-here .1;
-            room = omega (arith, parts, w .room);
-            written =
-                w .written ∙ rw (here, p, take-paste out at (drop (r .place) pool) (r .len) below source, append-assoc);
-            kept =
-                ap (drop (at + r .len)) p ∙ drop-paste out at (drop (r .place) pool) (r .len) below source
-                ∙ sym (drop-drop (r .len) at out) ∙ ap (drop (r .len)) (w .kept) ∙ drop-drop (r .len) at entry;
-          }
+    pub joining-next : {next : List ℕ} → next ≡ paste out at (drop (r .place) pool) (r .len)
+        → Joining records pool entry next (at + r .len) (k + 1)
+    joining-next p =
+        record {
+          within = omega arith;
+          each = each-here .1;
+          filling =
+              filling-next (w .filling) (bytesIn pool r) after parts (drop (r .place) pool) (sym (bytes-length pool r joining-pool)) refl p;
+        }
 
   pub joining-end : recordCount records ≤ k → Joined (join (tokensOf records pool)) entry out
   unfolding tokensIn
-  joining-end l =
-      let b : join (tokensOf records pool) ≡ take at out = rw (left-end records k l, append-nil) at (w .written) in
-      let r = w .room in
-      let n : length (join (tokensOf records pool)) ≡ at = ap length b ∙ length-take-le at out (omega (arith, w .room, w .same)) in
-      record { written = rw (n, b, ← (w .kept)) (sym (take-append-drop at out)) }
+  joining-end l = record { written = filling-end (w .filling) (rw (left-end records k l)) }

@@ -1,6 +1,6 @@
 -- An answer is had back from its word. Assumes nothing.
 use mathlib.Core.Path.{_≡_, refl}
-use mathlib.Core.Bool.{false}
+use mathlib.Core.Bool.{true, false}
 use mathlib.Core.List.{List}
 use Prim.Native.Nat.{ℕ, _≤_}
 use native.Mathlib.Nat.{max-le}
@@ -14,19 +14,22 @@ use Rattle.answer.specs.declared.LexAnswer.{LexAnswer}
 use Rattle.answer.specs.declared.PrintAnswer.{PrintAnswer}
 use Rattle.automaton.specs.Choice.{among}
 use Rattle.automaton.proofs.Tests.{clash}
-use Rattle.book.specs.Limits.{maxText}
-use Rattle.reader.specs.Reading.{readBook, answer}
+use Rattle.book.specs.Limits.{maxBytes, maxText}
+use Rattle.reader.specs.Reading.{readBook, readStrict, answer}
 use Rattle.reader.specs.Rules.{ruleOutcome}
+use Rattle.rewriting.specs.Outcome.{rewriteOutcome}
 use Rattle.lexer.specs.Outcome.{lexOutcome}
 use Rattle.printer.specs.Outcome.{printOutcome}
 use Rattle.separated.specs.Outcome.{separatedOutcome}
 use Rattle.zagvulem.specs.Words.{largestPlace, largestValue, refusalWord, acceptedWord, bookWord, ruleWord, lexWord, printWord}
 use Rattle.zagvulem.specs.Words.{numberIn, placeIn, firstIn, secondIn, refusalIn}
 use Rattle.zagvulem.specs.Words.{bookAnswerIn, ruleAnswerIn, lexAnswerIn, printAnswerIn}
-use Rattle.zagvulem.specs.Numbers.{printNumbers, separatedNumbers, Refused}
-use Rattle.zagvulem.specs.Kept.{BookWordKept, RuleWordKept, LexWordKept, PrintWordKept, SeparatedWordKept}
+use Rattle.zagvulem.specs.Numbers.{bookNumbers, strictNumbers, rewriteNumbers, printNumbers, separatedNumbers, Refused}
+use Rattle.zagvulem.specs.Kept.{BookWordKept, RewriteWordKept, RuleWordKept, LexWordKept}
+use Rattle.zagvulem.specs.Kept.{PrintWordKept, SeparatedWordKept}
 use Rattle.zagvulem.proofs.Refused.{BookWithin, RuleWithin, TagAndKind, LexWithin, PrintWithin, farthest}
-use Rattle.zagvulem.proofs.Refused.{book-within, rule-within, lex-within, print-within, separated-within}
+use Rattle.zagvulem.proofs.Refused.{book-within, strict-within, rewrite-within, rule-within, lex-within}
+use Rattle.zagvulem.proofs.Refused.{print-within, separated-within}
 use Rattle.answer.specs.declared.BookAnswer.the-variants as books
 use Rattle.answer.specs.declared.RuleAnswer.the-variants as ruled
 use Rattle.answer.specs.declared.LexAnswer.the-variants as lexes
@@ -61,9 +64,10 @@ module _ {numbers : List ℕ} {most : ℕ} {f : Refusal} (r : Refused numbers mo
 
 -- ---- answers
 
-book-kept : (a : BookAnswer) → BookWithin a → bookAnswerIn (bookWord a) ≡ a
-book-kept (books.Accepted n) w = rw (accepted-number n 0 (omega arith) (omega arith), accepted-first n 0 (omega arith) (omega arith))
-book-kept (books.Refused f) w = rw (refused-some w (omega arith) refl, refusal-kept w (omega arith))
+book-kept : (numbers : List ℕ) → among 0 numbers ≡ false → (a : BookAnswer) → BookWithin numbers a → bookAnswerIn (bookWord a) ≡ a
+book-kept numbers e (books.Accepted n) w =
+    rw (accepted-number n 0 (omega arith) (omega arith), accepted-first n 0 (omega arith) (omega arith))
+book-kept numbers e (books.Refused f) w = rw (refused-some w (omega arith) e, refusal-kept w (omega arith))
 
 rule-kept : (a : RuleAnswer) → RuleWithin TagAndKind a → ruleAnswerIn (ruleWord a) ≡ a
 rule-kept (ruled.Rule tag kind) (l, m) = rw (
@@ -90,7 +94,12 @@ print-kept numbers most e l (prints.Refused f) w = rw (refused-some w l e, refus
 -- ---- calls
 
 pub book-word-kept : BookWordKept
-book-word-kept book = book-kept (answer (readBook book)) (book-within book)
+book-word-kept false book = book-kept bookNumbers refl (answer (readBook book)) (book-within book)
+book-word-kept true book = book-kept strictNumbers refl (answer (readStrict book)) (strict-within book)
+
+pub rewrite-word-kept : RewriteWordKept
+rewrite-word-kept book out =
+    print-kept rewriteNumbers maxBytes refl (omega arith) ((rewriteOutcome book out) .answer) (rewrite-within book out)
 
 pub rule-word-kept : RuleWordKept
 rule-word-kept book bytes index = rule-kept (ruleOutcome book index) (rule-within book bytes index)

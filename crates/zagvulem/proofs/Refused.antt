@@ -20,13 +20,17 @@ use Rattle.automaton.proofs.Tests.{clash, all-map}
 use Rattle.command.specs.declared.Command.{Command}
 use Rattle.command.specs.declared.Command.the-variants.{Rule as RULE, Start, Error, Final, Step, Span, Close, End}
 use Rattle.command.specs.declared.Decoded.{Decoded}
-use Rattle.command.specs.Commands.{byteAt, placed, operandsOf, decode, commandAt}
+use Rattle.command.specs.Commands.{byteAt, placed, operandsOf, decode, retired, commandAt}
 use Rattle.book.specs.Limits.{maxBytes, maxRules, maxTransitions, maxText, maxTokens}
 use Rattle.book.specs.Draft.{Draft, between, isSet, isUnset, stateOf, ruleOf, tagged, isEmpty}
 use Rattle.book.specs.Draft.{Verdict, goes, accepts, refuses, check, move, apply}
-use Rattle.reader.specs.Reading.{Reading, accepted, refused, goOn, takeIn, readFrom, readBook, answer}
+use Rattle.reader.specs.Reading.{Reading, accepted, refused, goOn, takeIn, readFrom, readBy, readBook, readStrict, answer}
 use Rattle.reader.specs.Rules.{numbered, ruleAnswer, ruleReading, ruleOutcome}
 use Rattle.reader.proofs.Accepted.{accepted-valid}
+use Rattle.reader.proofs.Loading.{read-too-long}
+use Rattle.reader.proofs.Walking.{Stricter, alike, retires, stricter}
+use Rattle.rewriting.specs.Rewritten.{rewritten}
+use Rattle.rewriting.specs.Outcome.{rewriteReading, rewriteOutcome}
 use Rattle.longest_match.specs.Lexer.{Token, lex, join, extends, or}
 use Rattle.longest_match.proofs.Lexing.{lex-few}
 use Rattle.record.specs.Records.{recordCount}
@@ -35,14 +39,16 @@ use Rattle.record.specs.Tokens.{recordsFrom, recordsOf, bytesIn, tokensIn, toke
 use Rattle.lexer.specs.Outcome.{lexRefused, lexAccepted, lexRules, lexReading, lexOutcome}
 use Rattle.token_list.specs.Faults.{aloneIn, faultOf}
 use Rattle.token_list.specs.Checks.{refuse, refuseBy, firstFault, firstExtended}
-use Rattle.printer.specs.Outcome.{PrintOutcome, refusedIf, unless, printChecked, printRules, printReading, printOutcome}
+use Rattle.output.specs.Outcome.{PrintOutcome, refusedIf, unless, written, writtenUpTo}
+use Rattle.printer.specs.Outcome.{printChecked, printRules, printReading, printOutcome}
 use Rattle.printer.proofs.RoundTrip.{byte-below}
 use Rattle.used_bytes.specs.Kinds.{separates}
 use Rattle.used_bytes.specs.Bytes.{lowestFrom, shared, sharedByte}
 use Rattle.spacing.specs.Separators.{spelled}
 use Rattle.separated.specs.Refusals.{orElse, separatorFault, plainFault, sharing, listRefusal, separatedRefusal}
-use Rattle.separated.specs.Outcome.{writing, separatedRules, separatedReading, separatedOutcome}
-use Rattle.zagvulem.specs.Numbers.{bookNumbers, ruleNumbers, lexNumbers, printNumbers, separatedNumbers, Refused}
+use Rattle.separated.specs.Outcome.{separatedRules, separatedReading, separatedOutcome}
+use Rattle.zagvulem.specs.Numbers.{bookNumbers, strictNumbers, rewriteNumbers, ruleNumbers, lexNumbers}
+use Rattle.zagvulem.specs.Numbers.{printNumbers, separatedNumbers, Refused}
 use Rattle.answer.specs.declared.BookAnswer.the-variants as books
 use Rattle.answer.specs.declared.RuleAnswer.the-variants as ruled
 use Rattle.answer.specs.declared.LexAnswer.the-variants as lexes
@@ -51,9 +57,9 @@ use Rattle.command.specs.declared.Decoded.the-variants as decoded
 
 -- ---- what is said of an answer: its refusal is by one of these numbers at a place of at most `most`; its values are held down
 
-abbrev pub BookWithin : BookAnswer → Type 0
-BookWithin (books.Accepted rules) = rules ≤ maxRules
-BookWithin (books.Refused f) = Refused bookNumbers maxBytes f
+abbrev pub BookWithin : List ℕ → BookAnswer → Type 0
+BookWithin numbers (books.Accepted rules) = rules ≤ maxRules
+BookWithin numbers (books.Refused f) = Refused numbers maxBytes f
 
 abbrev pub RuleWithin : (ℕ → ℕ → Type 0) → RuleAnswer → Type 0
 RuleWithin P (ruled.Rule tag kind) = P tag kind
@@ -131,9 +137,10 @@ module _ (d : Draft) (at len : ℕ) (room : Room d) (before : at < len) where
   apply-fair End i =
       check-fair (isEmpty d.rules) 13 _ refl here (λ e. check-fair (ltb (at + 1) len) 4 _ refl (omega arith) (λ e. omega arith))
 
--- CLOSE is found only inside a rule
+-- CLOSE is found only inside a rule, and no command is retired
 abbrev Closing : Bool → Decoded → Type 0
 Closing inside decoded.Misplaced = Unit {0}
+Closing inside decoded.Retired = ⊥
 Closing inside decoded.CutOff = Unit {0}
 Closing inside (decoded.Command c cursor) = c ≡ Close → inside ≡ true
 
@@ -150,8 +157,8 @@ module _ (bytes : List ℕ) (at : ℕ) where
       go false q false r true z = z
       go false q false r false z = z
 
-  command-closing : (inside : Bool) → Closing inside (commandAt bytes at inside)
-  unfolding commandAt
+  command-closing : (inside : Bool) → Closing inside (commandAt false bytes at inside)
+  unfolding commandAt retired
   command-closing inside =
       go (byteAt bytes at) (placed (byteAt bytes at) inside) refl (leb (at + 1 + operandsOf (byteAt bytes at)) (length bytes))
     where
@@ -166,38 +173,39 @@ abbrev ReadWithin : ℕ → Reading → Type 0
 ReadWithin len (accepted rules) = length rules ≤ maxRules
 ReadWithin len (refused number place) = Refused bookNumbers len (record { number = number; place = place })
 
-read-within : (n : ℕ) (bytes : List ℕ) (at : ℕ) (d : Draft) → Room d → ReadWithin (length bytes) (readFrom n bytes at d)
+read-within : (n : ℕ) (bytes : List ℕ) (at : ℕ) (d : Draft) → Room d → ReadWithin (length bytes) (readFrom false n bytes at d)
 unfolding readFrom
 read-within zero bytes at d r = by 2 _ refl (omega arith)
 read-within (suc n) bytes at d r =
-    go (ltb at (length bytes)) refl (commandAt bytes at d.inside) (command-closing bytes at d.inside) (read-within n bytes)
+    go (ltb at (length bytes)) refl (commandAt false bytes at d.inside) (command-closing bytes at d.inside) (read-within n bytes)
   where
     Rest : Type 0
-    Rest = (m : ℕ) (e : Draft) → Room e → ReadWithin (length bytes) (readFrom n bytes m e)
+    Rest = (m : ℕ) (e : Draft) → Room e → ReadWithin (length bytes) (readFrom false n bytes m e)
 
-    decided : (v : Verdict) (m : ℕ) → Rest → Fair (length bytes) v → ReadWithin (length bytes) (goOn v (readFrom n bytes m))
+    decided : (v : Verdict) (m : ℕ) → Rest → Fair (length bytes) v → ReadWithin (length bytes) (goOn v (readFrom false n bytes m))
     decided (goes e) m ih f = ih m e f
     decided (accepts rules) m ih f = f
     decided (refuses number place) m ih f = f
 
     taken : (c : Decoded) → Closing d.inside c → Rest → at < length bytes
-        → ReadWithin (length bytes) (takeIn c d at (length bytes) (readFrom n bytes))
+        → ReadWithin (length bytes) (takeIn c d at (length bytes) (readFrom false n bytes))
     taken decoded.Misplaced h ih l = by 3 _ refl (omega arith)
+    taken decoded.Retired h ih l = absurd h
     taken decoded.CutOff h ih l = by 2 _ refl (omega arith)
     taken (decoded.Command c cursor) h ih l =
         decided (apply d c at (length bytes)) (cursor .at) ih (apply-fair d at (length bytes) r l c h)
 
     go : (t : Bool) → ltb at (length bytes) ≡ t → (c : Decoded) → Closing d.inside c → Rest
-        → ReadWithin (length bytes) (if t (takeIn c d at (length bytes) (readFrom n bytes)) (refused 2 (length bytes)))
+        → ReadWithin (length bytes) (if t (takeIn c d at (length bytes) (readFrom false n bytes)) (refused 2 (length bytes)))
     go true e c h ih = taken c h ih (ltb-true at (length bytes) e)
     go false e c h ih = by 2 _ refl (omega arith)
 
-answer-within : (r : Reading) → ReadWithin maxBytes r → BookWithin (answer r)
+answer-within : (r : Reading) → ReadWithin maxBytes r → BookWithin bookNumbers (answer r)
 answer-within (accepted rules) w = w
 answer-within (refused number place) w = w
 
 book-read : (book : List ℕ) → ReadWithin maxBytes (readBook book)
-unfolding readBook
+unfolding readBy
 book-read book = go (ltb maxBytes (length book)) refl
   where
     shorter : (r : Reading) → length book ≤ maxBytes → ReadWithin (length book) r → ReadWithin maxBytes r
@@ -205,20 +213,33 @@ book-read book = go (ltb maxBytes (length book)) refl
     shorter (refused number place) l w = by number place (w .number-among) (omega (arith, w .place-within))
 
     go : (t : Bool) → ltb maxBytes (length book) ≡ t
-        → ReadWithin maxBytes (if t (refused 1 0) (readFrom (length book) book 0 (between [])))
+        → ReadWithin maxBytes (if t (refused 1 0) (readFrom false (length book) book 0 (between [])))
     go true e = by 1 0 refl (omega arith)
     go false e =
-        shorter (readFrom (length book) book 0 (between [])) (ltb-false maxBytes (length book) e)
+        shorter (readFrom false (length book) book 0 (between [])) (ltb-false maxBytes (length book) e)
         (read-within (length book) book 0 (between []) (omega arith))
 
-pub book-within : (book : List ℕ) → BookWithin (answer (readBook book))
+pub book-within : (book : List ℕ) → BookWithin bookNumbers (answer (readBook book))
 book-within book = answer-within (readBook book) (book-read book)
 
+pub strict-within : (book : List ℕ) → BookWithin strictNumbers (answer (readStrict book))
+strict-within book = go (ltb maxBytes (length book)) refl (stricter book)
+  where
+    ordinary : (a : BookAnswer) → BookWithin bookNumbers a → BookWithin strictNumbers a
+    ordinary (books.Accepted rules) w = w
+    ordinary (books.Refused f) w = of-book (33 ∷ []) (omega arith) w
+
+    go : (t : Bool) → ltb maxBytes (length book) ≡ t → Stricter book (readStrict book) (readBook book)
+        → BookWithin strictNumbers (answer (readStrict book))
+    go t e (alike s) = rw s (ordinary (answer (readBook book)) (book-within book))
+    go true e (retires place l b s) = rw (read-too-long true book (ltb-true maxBytes (length book) e)) (by 1 0 refl (omega arith))
+    go false e (retires place l b s) = rw s (by 33 place refl (omega (arith, ltb-false maxBytes (length book) e)))
+
 pub book-refused : (book : List ℕ) (f : Refusal) → answer (readBook book) ≡ books.Refused f → Refused bookNumbers maxBytes f
-book-refused book f e = subst BookWithin e (book-within book)
+book-refused book f e = subst (BookWithin bookNumbers) e (book-within book)
 
 pub book-accepted : (book : List ℕ) (rules : ℕ) → answer (readBook book) ≡ books.Accepted rules → rules ≤ maxRules
-book-accepted book rules e = subst BookWithin e (book-within book)
+book-accepted book rules e = subst (BookWithin bookNumbers) e (book-within book)
 
 -- ---- a rule by its number
 
@@ -347,6 +368,18 @@ module _ (numbers : List ℕ) (most : ℕ) where
   unless-within (some f) out next r w = r
   unless-within none out next r w = w
 
+  written-within : among 22 numbers ≡ true → (bytes out : List ℕ) → length bytes ≤ most → length bytes ≤ maxText
+      → PrintWithin numbers most ((written bytes out) .answer)
+  written-within e bytes out l m = refused-if-within (ltb (length out) (length bytes)) 22 out _ e l (λ z. m)
+
+  up-to-within : (limit number : ℕ) → among number numbers ≡ true → among 22 numbers ≡ true → limit ≤ most → limit ≤ maxText
+      → (bytes out : List ℕ) → PrintWithin numbers most ((writtenUpTo limit number bytes out) .answer)
+  unfolding writtenUpTo
+  up-to-within limit number e f l m bytes out =
+      refused-if-within (ltb limit (length bytes)) number out _ e (omega arith) (λ z.
+      let short : length bytes ≤ limit = ltb-false limit (length bytes) z in
+      written-within f bytes out (omega arith) (omega arith))
+
 fault-number : (numbers : List ℕ) → among 17 numbers ≡ true → among 18 numbers ≡ true → among 19 numbers ≡ true
     → (rules : List Rule) (pool : List ℕ) (r : TokenRecord) → Numbered numbers (faultOf rules pool r)
 unfolding faultOf
@@ -358,6 +391,16 @@ fault-number numbers e f g rules pool r =
     go false true c = f
     go false false true = g
     go false false false = tt
+
+-- ---- rewriting a book
+
+pub rewrite-within : (book out : List ℕ) → PrintWithin rewriteNumbers maxBytes ((rewriteOutcome book out) .answer)
+unfolding rewriteOutcome
+rewrite-within book out = go (readBook book) (book-read book)
+  where
+    go : (r : Reading) → ReadWithin maxBytes r → PrintWithin rewriteNumbers maxBytes ((rewriteReading r book out) .answer)
+    go (accepted rules) w = up-to-within rewriteNumbers maxBytes maxBytes 1 refl refl (omega arith) (omega arith) (rewritten book) out
+    go (refused number place) w = of-book (22 ∷ []) (omega arith) w
 
 -- ---- printing
 
@@ -372,7 +415,7 @@ print-within book records pool out = go (readBook book) (book-read book)
         let short : length (join ts) ≤ maxText = ltb-false maxText (length (join ts)) e in
         unless-within printNumbers maxText (firstExtended rules ts 0) out _
         (extended-within printNumbers maxText refl rules ts 0 (omega arith))
-        (refused-if-within printNumbers maxText (ltb (length out) (length (join ts))) 22 out _ refl short (λ z. short)))
+        (written-within printNumbers maxText refl (join ts) out short short))
 
     by-rules : (rules : List Rule) → PrintWithin printNumbers maxText ((printRules rules records pool out) .answer)
     by-rules rules =
@@ -424,7 +467,7 @@ farthest records = max maxTokens (recordCount records)
 
 pub separated-within : (book : List ℕ) (sep : TokenRecord) (mode : ℕ) (records pool out : List ℕ)
     → PrintWithin separatedNumbers (farthest records) ((separatedOutcome book sep mode records pool out) .answer)
-unfolding separatedOutcome separatedRules separatedRefusal listRefusal separatorFault plainFault writing
+unfolding separatedOutcome separatedRules separatedRefusal listRefusal separatorFault plainFault
 separated-within book sep mode records pool out = go (readBook book) (book-read book)
   where
     most : ℕ
@@ -459,18 +502,13 @@ separated-within book sep mode records pool out = go (readBook book) (book-read 
     before (some f) next r w = r
     before none next r w = w
 
-    written : (bytes : List ℕ) → PrintWithin separatedNumbers most ((writing bytes out) .answer)
-    written bytes =
-        refused-if-within separatedNumbers most (ltb maxText (length bytes)) 20 out _ refl (omega arith) (λ e.
-        let short : length bytes ≤ maxText = ltb-false maxText (length bytes) e in
-        refused-if-within separatedNumbers most (ltb (length out) (length bytes)) 22 out _ refl (omega (arith, limit)) (λ z. short))
-
     go : (r : Reading) → ReadWithin maxBytes r
         → PrintWithin separatedNumbers most ((separatedReading r sep mode records pool out) .answer)
     go (accepted rules) w =
         unless-within separatedNumbers most (separatedRefusal rules sep mode records pool) out _
         (before (sharing (sharedByte rules)) _ (shared-within most (omega (arith, limit)) rules) (list rules))
-        (written (spelled rules sep mode records pool))
+        (up-to-within separatedNumbers most maxText 20 refl refl (omega (arith, limit)) (omega arith)
+            (spelled rules sep mode records pool) out)
     go (refused number place) w = of-book (23 ∷ 24 ∷ 17 ∷ 18 ∷ 19 ∷ 25 ∷ 16 ∷ 26 ∷ 20 ∷ 22 ∷ []) (omega (arith, limit)) w
 
 pub separated-refused : (book : List ℕ) (sep : TokenRecord) (mode : ℕ) (records pool out : List ℕ) (f : Refusal)

@@ -1,21 +1,28 @@
 -- An answer's word loses nothing: read as C reads it, it says the answer of the call, in every case.
 use mathlib.Core.Path.{_≡_}
+use mathlib.Core.Bool.{Bool}
 use mathlib.Core.List.{List}
 use Prim.Native.Nat.{ℕ, _<_, _≤_}
 use Rattle.automaton.specs.Choice.{All}
-use Rattle.reader.specs.Reading.{readBook, answer}
+use Rattle.reader.specs.Reading.{readBy, answer}
 use Rattle.reader.specs.Rules.{ruleOutcome}
 use Rattle.record.specs.Records.{recordCount}
 use Rattle.record.specs.declared.TokenRecord.{TokenRecord}
+use Rattle.rewriting.specs.Outcome.{rewriteOutcome}
 use Rattle.lexer.specs.Outcome.{lexOutcome}
 use Rattle.printer.specs.Outcome.{printOutcome}
 use Rattle.separated.specs.Outcome.{separatedOutcome}
 use Rattle.zagvulem.specs.Words.{largestPlace, bookWord, ruleWord, lexWord, printWord}
 use Rattle.zagvulem.specs.Words.{bookAnswerIn, ruleAnswerIn, lexAnswerIn, printAnswerIn}
 
--- zgv_read_book
+-- zgv_read_book, and zgv_read_book_strict, which is strict
 abbrev pub BookWordKept : Type 0
-BookWordKept = (book : List ℕ) → bookAnswerIn (bookWord (answer (readBook book))) ≡ answer (readBook book)
+BookWordKept = (strict : Bool) (book : List ℕ) → bookAnswerIn (bookWord (answer (readBy strict book))) ≡ answer (readBy strict book)
+
+-- zgv_rewrite_book
+abbrev pub RewriteWordKept : Type 0
+RewriteWordKept =
+    (book out : List ℕ) → printAnswerIn (printWord ((rewriteOutcome book out) .answer)) ≡ (rewriteOutcome book out) .answer
 
 -- zgv_rule, of a book that is a run of bytes: two of them make a tag
 abbrev pub RuleWordKept : Type 0

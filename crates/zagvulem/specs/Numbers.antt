@@ -1,4 +1,4 @@
--- The numbers by which each operation refuses (document 01, 'What each operation refuses').
+-- The numbers by which each operation refuses (document 01, 'What each operation refuses'; document 02).
 use mathlib.Core.Path.{_≡_}
 use mathlib.Core.Bool.{true}
 use mathlib.Core.List.{List, [], _∷_, _++_}
@@ -9,6 +9,14 @@ use Rattle.automaton.specs.Choice.{among}
 -- reading a book
 abbrev pub bookNumbers : List ℕ
 bookNumbers = 1 ∷ 2 ∷ 3 ∷ 4 ∷ 5 ∷ 6 ∷ 7 ∷ 8 ∷ 9 ∷ 10 ∷ 11 ∷ 12 ∷ 13 ∷ []
+
+-- reading it strictly (document 02, wish 10)
+abbrev pub strictNumbers : List ℕ
+strictNumbers = bookNumbers ++ (33 ∷ [])
+
+-- rewriting it (the same): 1 also for the longer book
+abbrev pub rewriteNumbers : List ℕ
+rewriteNumbers = bookNumbers ++ (22 ∷ [])
 
 -- asking for one rule, which that page does not have: 18 past the last
 abbrev pub ruleNumbers : List ℕ

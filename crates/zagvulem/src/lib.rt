@@ -2,12 +2,12 @@
 // include/zagvulem.h declares these functions.
 pub mod words;
 
-use answer::BookAnswer;
 use answer::RuleAnswer;
 use record::TokenRecord;
 ghost use mathlib.Core.Path.{_≡_};
-ghost use Rattle.reader.specs.Reading.{readBook, answer};
+ghost use Rattle.reader.specs.Reading.{readBook, readStrict, answer};
 ghost use Rattle.reader.specs.Rules.{ruleOutcome};
+ghost use Rattle.rewriting.specs.Outcome.{rewriteOutcome};
 ghost use Rattle.lexer.specs.Outcome.{lexOutcome};
 ghost use Rattle.builtin.specs.Book.{builtinBytes};
 ghost use Rattle.printer.specs.Outcome.{printOutcome};
@@ -20,10 +20,24 @@ ghost use Rattle.zagvulem.specs.Separator.{separator};
 pub extern "C" fn zgv_read_book(book: &[u8]) -> u64
     ensures { λ r. ⌜ r ≡ bookWord (answer (readBook (now (book .entry)))) ⌝ }
 {
-    match reader::read(book) {
-        BookAnswer::Accepted(rules) => crate::words::accepted(rules, 0),
-        BookAnswer::Refused(refusal) => crate::words::refused(refusal),
-    }
+    crate::words::read(reader::read(book))
+}
+
+// The stricter reading, which refuses STEP: as `zgv_read_book`, with 33 directly after 3.
+#[no_mangle]
+pub extern "C" fn zgv_read_book_strict(book: &[u8]) -> u64
+    ensures { λ r. ⌜ r ≡ bookWord (answer (readStrict (now (book .entry)))) ⌝ }
+{
+    crate::words::read(reader::read_strict(book))
+}
+
+// Rewrites an old book, a SPAN in each STEP's place: the number of bytes and 0, or the refusal.
+#[no_mangle]
+pub extern "C" fn zgv_rewrite_book(book: &[u8], out: &mut [u8]) -> u64
+    ensures { λ r. ⌜ r ≡ printWord ((rewriteOutcome (now (book .entry)) (now (out .entry))) .answer) ⌝ }
+    ensures { λ r. ⌜ now (out .exit) ≡ (rewriteOutcome (now (book .entry)) (now (out .entry))) .out ⌝ }
+{
+    crate::words::printed(rewriting::rewrite(book, out))
 }
 
 // The tag and the kind of a rule of a book by its number, from 0, or the refusal.

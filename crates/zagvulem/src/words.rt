@@ -1,10 +1,20 @@
 // Answers in 64 bits, for C; specs/Words.antt says which bits hold what.
+use answer::BookAnswer;
 use answer::LexAnswer;
 use answer::PrintAnswer;
 use answer::Refusal;
 ghost use mathlib.Core.Path.{_≡_};
 ghost use Prim.Native.Nat.{min};
-ghost use Rattle.zagvulem.specs.Words.{refusalWord, acceptedWord, lexWord, printWord};
+ghost use Rattle.zagvulem.specs.Words.{refusalWord, acceptedWord, bookWord, lexWord, printWord};
+
+pub fn read(answer: BookAnswer) -> u64
+    ensures { λ r. ⌜ r ≡ bookWord answer ⌝ }
+{
+    match answer {
+        BookAnswer::Accepted(rules) => accepted(rules, 0),
+        BookAnswer::Refused(refusal) => refused(refusal),
+    }
+}
 
 pub fn printed(answer: PrintAnswer) -> u64
     ensures { λ r. ⌜ r ≡ printWord answer ⌝ }

@@ -10,11 +10,11 @@ use Rattle.reader.proofs.load_rows.Statement.{statement}
 use Rattle.reader.proofs.load_rows.Tie as tie
 
 abbrev Inv-loop : tie.InvT-loop
-Inv-loop book table₀ rows₀ len cursor₀ state₀ table rows cursor state =
-    Going book table rows (cursor .at) state × (length table ≡ length table₀)
+Inv-loop strict book table₀ rows₀ len cursor₀ state₀ table rows cursor state =
+    Going strict book table rows (cursor .at) state × (length table ≡ length table₀)
 
 abbrev μ-loop : tie.MeasureT-loop
-μ-loop book table₀ rows₀ len cursor₀ state₀ table rows cursor state = length book - cursor .at
+μ-loop strict book table₀ rows₀ len cursor₀ state₀ table rows cursor state = length book - cursor .at
 
 -- the loop's place, and the entry
 abbrev Loop : Type 0
@@ -31,8 +31,8 @@ abbrev turn : Told → Loop
 turn c = c .before .before .before .before .before .before
 
 here : (c : Told)
-    → Here (now (entry (turn c) .args .book)) (turn c .loop .table) (turn c .loop .rows) (turn c .loop .cursor .at) (turn c .loop .state)
-    (c .before .command2 .given .0 .0) (c .before .command2 .given .0 .1 .0)
+    → Here (entry (turn c) .args .strict) (now (entry (turn c) .args .book)) (turn c .loop .table) (turn c .loop .rows)
+    (turn c .loop .cursor .at) (turn c .loop .state) (c .before .command2 .given .0 .0) (c .before .command2 .given .0 .1 .0)
 here c =
     record {
       going = turn c .loop .inv .0;
@@ -62,7 +62,7 @@ falls : (n a b : ℕ) → a < n → a < b → n - b < n - a
 falls n a b l m = omega arith
 
 returns : tie.Need-returns Inv-loop μ-loop
-returns c = loaded-refused (read-too-long _ (c .before .if1 .taken)) (c .refused .ensures)
+returns c = loaded-refused (read-too-long _ _ (c .before .if1 .taken)) (c .refused .ensures)
 
 loop-holds : tie.Need-loop-holds Inv-loop μ-loop
 loop-holds c =
@@ -85,8 +85,8 @@ loop-again c =
     let k = c .before .before .before in
     (taken-in (here (told k)) _ _ (kept k) (applied k .apply .ensures) (c .before .on .given .1), kept k ∙ turn (told k) .loop .inv .1)
 
-ends : tie.Need-returns-6 Inv-loop μ-loop
-ends c = loaded-refused (going-stops (c .before .before .before .loop .inv .0) (c .before .if2 .left)) (c .refused4 .ensures)
+ends : tie.Need-returns-7 Inv-loop μ-loop
+ends c = loaded-refused (going-stops (c .before .before .before .loop .inv .0) (c .before .if2 .left)) (c .refused5 .ensures)
 
 -- since the call too
 same-table : (c : Taken) → length (applied c .apply .last .1 .1 .1 .1 .0) ≡ length (now (entry (turn (told c)) .args .table))
@@ -108,6 +108,11 @@ load-rows-spec =
     (λ c. let k = c .before .before .before in
         loaded-refused (going-takes (k .before .before .before .loop .inv .0) (k .before .if2 .taken) _
         (sym (c .before .enum-told2 .given .1) ∙ k .command .ensures) .same) (c .refused3 .ensures))
+    (λ c. search needs) (λ c κs. search needs)
+    (λ c. c .before .before .before .before .before .before .loop .inv .1) (λ c. cells (c .before .before .before .before .before .before))
+    (λ c. let k = c .before .before .before in
+        loaded-refused (going-takes (k .before .before .before .loop .inv .0) (k .before .if2 .taken) _
+        (sym (c .before .enum-told3 .given .1) ∙ k .command .ensures) .same) (c .refused4 .ensures))
     (λ c. search needs) apply-requires (λ c. search needs) loop-less loop-again (λ c. search needs)
     (λ c. same-table (c .before .before .before)) (λ c. same-cells (c .before .before .before))
     (λ c. let k = c .before .before .before in

@@ -5,24 +5,17 @@ use Rattle.separated.proofs.Answering.{answered-book, answered-refused}
 use Rattle.separated.proofs.print_with.Statement.{statement}
 use Rattle.separated.proofs.print_with.Tie as tie
 
-print-rules-requires : tie.Need-print-rules-requires
-print-rules-requires c κs =
-    let k = c .before .before .before in
-    let k₁ = k .before .before .before .before in
-    let k₂ = k₁ .before .before .before .before .before .before .before .before in
-    (loaded-held (k₁ .load .ensures) (k .enum-told .given .1), k₂ .pre .1)
-
 returns : tie.Need-returns
 returns c =
-    let k = c .before .before .before .before in
-    let k₁ = k .before .before .before .before in
-    let k₂ = k₁ .before .before .before .before in
-    answered-book (k₂ .load .ensures) (k₁ .enum-told .given .1) _ _ _ _ _ _ _ (k .print-rules .ensures)
+    let k = c .before .before .before .before .before .before .before .before in
+    answered-book (k .before .before .before .before .load .ensures) (k .enum-told .given .1) _ _ _ _ _ _ _
+    (c .before .before .before .before .print-rules .ensures)
 
 returns-2 : tie.Need-returns-2
 returns-2 c = answered-refused (c .before .before .before .before .before .load .ensures) (c .before .refusal .given .1) _ _ _ _ _
 
 pub print-with-spec : {M : Type 1} → statement M
-print-with-spec =
-    tie.close (tie.spec (λ c κs. search needs) (λ c. search needs) print-rules-requires (λ c. search needs) (λ c. search needs)
-    (λ c. search needs) (λ c. search needs) returns (λ c. search needs) returns-2)
+print-with-spec = tie.close (tie.spec (λ c κs. search needs) (λ c. search needs)
+    (λ c κs. let k = c .before .before .before in
+        (loaded-held (k .before .before .before .before .load .ensures) (k .enum-told .given .1), search needs))
+    (λ c. search needs) (λ c. search needs) (λ c. search needs) (λ c. search needs) returns (λ c. search needs) returns-2)

@@ -60,7 +60,7 @@ use Rattle.record.specs.Contracts.{noRecord}
 use Rattle.record.specs.Encoding.{encoded, Fits}
 use Rattle.record.specs.declared.TokenRecord.{TokenRecord}
 use Rattle.record.proofs.Encoding.{length-encoded, count-encoded, record-encoded}
-use Rattle.printer.specs.Contracts.{PrintAnswered}
+use Rattle.output.specs.Contracts.{PrintAnswered}
 use Rattle.printer.specs.Outcome.{printOutcome}
 use Rattle.slices.specs.Contracts.{Steps, Stepped, Begins, Finishes}
 use Rattle.slices.specs.declared.printing.Stage.{Stage}

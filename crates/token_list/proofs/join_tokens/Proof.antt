@@ -31,7 +31,7 @@ add-at : tie.Need-add-at Inv-loop μ-loop
 add-at c =
     let head = c .before .before .before .before .before .before .before .before in
     omega (arith, joining-room (head .loop .inv) (c .before .before .before .before .before .before .before .loop-test .taken)
-        (c .before .before .before .before .before .before .read-record .ensures), head .loop .inv .same,
+        (c .before .before .before .before .before .before .read-record .ensures), head .loop .inv .filling .same,
         c .before .before .before .before .before .before .before .before .before .before .before .before .good)
 
 add-k : tie.Need-add-k Inv-loop μ-loop
@@ -47,7 +47,7 @@ loop-again c = joining-next (c .before .before .before .before .before .before .
     (c .before .before .before .before .before .before .read-record .ensures) (c .before .before .copy .ensures)
 
 same-length : tie.Need-same-length Inv-loop μ-loop
-same-length c = c .before .loop .inv .same
+same-length c = c .before .loop .inv .filling .same
 
 returns : tie.Need-returns Inv-loop μ-loop
 returns c = joining-end (c .before .loop .inv) (c .loop-test .left)
