@@ -6,6 +6,7 @@
  */
 #define _POSIX_C_SOURCE 199309L
 
+#include "books.h"
 #include "chains.h"
 #include "dense.h"
 #include "zagvulem.h"
@@ -16,7 +17,7 @@
 #include <string.h>
 #include <time.h>
 
-enum { ROUNDS = 80, SHEET = 65536, LINE = 30, LINES = 512, MAX_CONTENDERS = 40 };
+enum { ROUNDS = 80, SHEET = 65536, LINE = 30, LINES = 512, MAX_CONTENDERS = 128 };
 
 static uint8_t *sheet;      /* a timed lyric sheet, with two zero bytes behind it */
 static size_t sheet_len;
@@ -48,28 +49,44 @@ typedef struct contender {
     double bytes, best;
 } contender;
 
-/* Times of the contenders, in turns. A turn runs long enough for the clock. */
-static void measure(contender *all, size_t count)
+/* The best times of `count` runs, in turns. A turn runs long enough for the clock. */
+static void measure_each(void (*run)(size_t), size_t count, double *best)
 {
     size_t repeat[MAX_CONTENDERS], i;
     int round;
+    if (count > MAX_CONTENDERS)
+        fail("too many contenders");
     for (i = 0; i < count; i++) {
         double begin = now(), spent;
-        all[i].run();
+        run(i);
         spent = now() - begin;
         repeat[i] = spent > 0.002 ? 1 : (size_t)(0.002 / (spent + 1e-8)) + 1;
-        all[i].best = 1e9;
+        best[i] = 1e9;
     }
     for (round = 0; round < ROUNDS; round++)
         for (i = 0; i < count; i++) {
             size_t n;
             double begin = now(), spent;
             for (n = 0; n < repeat[i]; n++)
-                all[i].run();
+                run(i);
             spent = (now() - begin) / (double)repeat[i];
-            if (spent < all[i].best)
-                all[i].best = spent;
+            if (spent < best[i])
+                best[i] = spent;
         }
+}
+
+static const contender *measured;
+static void run_measured(size_t i) { measured[i].run(); }
+
+/* Times of the contenders. */
+static void measure(contender *all, size_t count)
+{
+    double best[MAX_CONTENDERS];
+    size_t i;
+    measured = all;
+    measure_each(run_measured, count, best);
+    for (i = 0; i < count; i++)
+        all[i].best = best[i];
 }
 
 static void print_table(const char *title, contender *all, size_t count, double calls)
@@ -359,163 +376,212 @@ static void bench_line_printers(void)
     print_table("### Printing the tokens of a line of 30 bytes, a call for each line", all, 3, LINES);
 }
 
-/* ---- The largest books: each rule a chain of states to a final one, and a dead branch at its middle */
+/* ---- The largest books */
 
-enum { SHAPES = 6, ORDERS = 3, LARGEST = SHAPES * ORDERS, OF_STEPS = LARGEST, CHAIN_LINKS = 254, CHAIN_ERROR = 255 };
+enum { SHAPES = 16, LARGEST = SHAPES * ORDERS };
 
-static const struct {
-    const char *name;
-    unsigned rules, moves; /* moves from a state of the chain to the next */
-    int spans, met;        /* whether the dead branches of separators have bytes of plain tokens */
-} shapes[SHAPES] = {{"32 chains", 32, 1, 0, 0},
-                    {"32 chains of spans", 32, 1, 1, 0},
-                    {"16 chains of two moves each", 16, 2, 0, 0},
-                    {"32 chains, plain bytes on dead branches", 32, 1, 0, 1},
-                    {"32 chains of spans, plain bytes on dead branches", 32, 1, 1, 1},
-                    {"16 chains of two moves each, plain bytes on dead branches", 16, 2, 0, 1}};
-static const char *const orders[ORDERS] = {", upward", ", downward", ", without order"};
+/* The shapes that an earlier library takes too. */
+enum { CHAINS, CHAINS_OF_SPANS, CHAINS_OF_TWO, MET, MET_SPANS, MET_TWO, MET_RINGS };
 
-static struct {
-    uint8_t book[ZGV_BOOK_BYTES];
-    size_t len, moves;
-} largest[LARGEST + 1]; /* the last one is OF_STEPS */
+static const shape shapes[SHAPES] = {
+    {"32 chains", OLD_BOOK_BYTES, 32, 1, 0, 0, 0, 0},
+    {"32 chains of spans", OLD_BOOK_BYTES, 32, 1, 0, 1, 0, 0},
+    {"16 chains of two moves each", OLD_BOOK_BYTES, 16, 2, 0, 0, 0, 0},
+    {"32 chains, plain bytes on dead branches", OLD_BOOK_BYTES, 32, 1, 0, 0, 1, 0},
+    {"32 chains of spans, plain bytes on dead branches", OLD_BOOK_BYTES, 32, 1, 0, 1, 1, 0},
+    {"16 chains of two moves each, plain bytes on dead branches", OLD_BOOK_BYTES, 16, 2, 0, 0, 1, 0},
+    {"32 rings of spans, plain bytes on dead branches", OLD_BOOK_BYTES, 32, 1, 0, 1, 1, 1},
+    {"32 chains of two moves each", ZGV_BOOK_BYTES, 32, 2, 0, 0, 0, 0},
+    {"3 chains of wide states", ZGV_BOOK_BYTES, 3, 1, 1, 0, 0, 0},
+    {"3 chains of wide states and spans", ZGV_BOOK_BYTES, 3, 1, 1, 1, 0, 0},
+    {"32 chains of wide states and spans", ZGV_BOOK_BYTES, 32, 1, 1, 1, 0, 0},
+    {"32 chains of two moves each, plain bytes on dead branches", ZGV_BOOK_BYTES, 32, 2, 0, 0, 1, 0},
+    {"3 chains of wide states, plain bytes on dead branches", ZGV_BOOK_BYTES, 3, 1, 1, 0, 1, 0},
+    {"3 chains of wide states and spans, plain bytes on dead branches", ZGV_BOOK_BYTES, 3, 1, 1, 1, 1, 0},
+    {"32 chains of wide states and spans, plain bytes on dead branches", ZGV_BOOK_BYTES, 32, 1, 1, 1, 1, 0},
+    {"3 rings of wide states and spans, plain bytes on dead branches", ZGV_BOOK_BYTES, 3, 1, 1, 1, 1, 1},
+};
 
-/* The number of the chain's state `i`. */
-static uint8_t chain_state(size_t order, unsigned i)
+static made largest[LARGEST + 1]; /* those of a shape in its orders, and last `many` */
+static made of_steps, medium;
+static made *const many = &largest[LARGEST];
+
+/* As many rules as a book may have, each of one move. */
+static void make_many(void)
 {
-    return (uint8_t)(order == 0 ? i : order == 1 ? CHAIN_ERROR - 1 - i : (101 * i + 7) % CHAIN_ERROR);
-}
-
-/* A rule of so many links; the last two are the dead branch. The kinds have no byte in common but on dead branches that are met. */
-static void put_chain(size_t book, size_t shape, size_t order, unsigned rule, unsigned links)
-{
-    static const uint8_t steps[2][2] = {{'a', 'c'}, {' ', '"'}}, lows[2][2] = {{64, 254}, {0, 62}}, highs[2][2] = {{253, 255}, {61, 63}};
-    const unsigned kind = rule % 2, end = links - 2, met = kind == 1 && shapes[shape].met;
-    uint8_t *at = largest[book].book + largest[book].len;
-    unsigned k, n;
-    const uint8_t head[] = {1, 0, (uint8_t)(rule + 1), (uint8_t)kind, 2, chain_state(order, 0), 3, CHAIN_ERROR,
-                            4, chain_state(order, 1), 4, chain_state(order, end)};
-    memcpy(at, head, sizeof head);
-    at += sizeof head;
-    for (k = 0; k < links; k++) {
-        /* 89 is a prime that divides no number of links: each comes once */
-        const unsigned i = order == 2 ? 89 * k % links : k, dead = i >= end, of = dead && met ? 0 : kind, on = dead && !met;
-        const uint8_t from = chain_state(order, i == end ? end / 2 : i), to = chain_state(order, i + 1);
-        for (n = 0; n < shapes[shape].moves; n++) {
-            if (shapes[shape].spans) {
-                const uint8_t span[] = {6, from, lows[of][on], highs[of][on], to};
-                memcpy(at, span, sizeof span);
-                at += sizeof span;
-            } else {
-                const uint8_t step[] = {5, from, (uint8_t)(steps[of][on] + n), to};
-                memcpy(at, step, sizeof step);
-                at += sizeof step;
-            }
-            largest[book].moves++;
-        }
+    unsigned i;
+    make_book(many, 0);
+    for (i = 0; i < ZGV_BOOK_RULES; i++) {
+        const unsigned byte = i % 2 ? ' ' : 'a';
+        make_rule(many, i + 1, i % 2, 0, 2);
+        make_final(many, 1);
+        make_move(many, 0, byte, byte, 1);
+        make_close(many);
     }
-    *at++ = 7;
-    largest[book].len = (size_t)(at - largest[book].book);
+    make_end(many);
 }
 
 static void make_largest(void)
 {
-    size_t shape, order;
-    for (shape = 0; shape < SHAPES; shape++)
-        for (order = 0; order < ORDERS; order++) {
-            const unsigned rules = shapes[shape].rules, size = (shapes[shape].spans ? 5 : 4) * shapes[shape].moves;
-            const size_t book = shape * ORDERS + order;
-            unsigned rule, left = (ZGV_BOOK_BYTES - 1 - 13 * rules) / size;
-            for (rule = 0; rule < rules; rule++) {
-                const unsigned links = left / (rules - rule);
-                put_chain(book, shape, order, rule, links < CHAIN_LINKS ? links : CHAIN_LINKS);
-                left -= links;
-            }
-            largest[book].book[largest[book].len++] = 8;
-        }
-}
-
-/* 32 chains of as many STEPs as a book has room for when they are SPANs. */
-static void make_of_steps(void)
-{
-    unsigned rule, left = (ZGV_BOOK_BYTES - 1 - 13 * 32) / 5;
-    for (rule = 0; rule < 32; rule++) {
-        const unsigned links = left / (32 - rule);
-        put_chain(OF_STEPS, 0, 0, rule, links);
-        left -= links;
-    }
-    largest[OF_STEPS].book[largest[OF_STEPS].len++] = 8;
-}
-
-/* As many rules as a book may have, each of one move. */
-static uint8_t many[32 * 15 + 1];
-
-static void make_many(void)
-{
-    unsigned rule;
-    for (rule = 0; rule < 32; rule++) {
-        const uint8_t bytes[] = {1, 0, (uint8_t)(rule + 1), rule % 2, 2, 0, 3, 2, 4, 1, 5, 0, rule % 2 ? ' ' : 'a', 1, 7};
-        memcpy(many + sizeof bytes * rule, bytes, sizeof bytes);
-    }
-    many[sizeof many - 1] = 8;
+    static const shape steps = {"", ZGV_BOOK_BYTES, 32, 2, 0, 0, 0, 0}, some = {"", 2200, 4, 1, 0, 0, 0, 0};
+    size_t i;
+    for (i = 0; i < LARGEST; i++)
+        make_chains(&largest[i], &shapes[i / ORDERS], i % ORDERS, 0);
+    make_many();
+    make_chains(&of_steps, &steps, 0, 5); /* as many STEPs as have room when they are SPANs */
+    make_chains(&medium, &some, 0, 0);
 }
 
 /* Two tokens of a byte each, and a separator. */
 static const uint8_t chain_pool[] = {'a', ' '}, chain_list[] = {0, 1, 0, 0, 0, 0, 0, 0, 0, 1, 0, 1, 0, 0, 0, 0, 0, 0, 0, 1};
 
-static void read_largest(size_t book) { sink = zgv_read_book(largest[book].book, largest[book].len); }
-static void print_largest(size_t book)
+static void read_made(const made *b) { sink = zgv_read_book(b->bytes, b->len); }
+static void print_made(const made *b)
 {
-    sink = zgv_print_separated(largest[book].book, largest[book].len, 2, 1, 1, ZGV_MODE_SPARE, chain_list, sizeof chain_list,
-                               chain_pool, sizeof chain_pool, out, SHEET);
-}
-
-static void read_many(void) { sink = zgv_read_book(many, sizeof many); }
-static void print_many(void)
-{
-    sink = zgv_print_separated(many, sizeof many, 2, 1, 1, ZGV_MODE_SPARE, chain_list, sizeof chain_list, chain_pool,
+    sink = zgv_print_separated(b->bytes, b->len, 2, 1, 1, ZGV_MODE_SPARE, chain_list, sizeof chain_list, chain_pool,
                                sizeof chain_pool, out, SHEET);
 }
 
-#define EACH_LARGEST(f) \
-    f(0) f(1) f(2) f(3) f(4) f(5) f(6) f(7) f(8) f(9) f(10) f(11) f(12) f(13) f(14) f(15) f(16) f(17)
-#define LARGEST_RUNS(k)                                     \
-    static void read_largest_##k(void) { read_largest(k); } \
-    static void print_largest_##k(void) { print_largest(k); }
-#define LARGEST_CONTENDERS(k) {"", read_largest_##k, 0, 0}, {"", print_largest_##k, 0, 0},
-EACH_LARGEST(LARGEST_RUNS)
-
-static void largest_line(const char *name, const char *order, size_t len, size_t moves, const contender *both)
+/* Reads a book at an even number, prints by it at the odd one behind. */
+static void run_largest(size_t i)
 {
-    const double reading = both[0].best, printing = both[1].best;
-    printf("| %s%s | %lu | %lu | %.2f | %.2f | %.2f | %.2f | %.2f |\n", name, order, (unsigned long)len, (unsigned long)moves,
-           reading * 1e6, reading * 1e9 / (double)moves, printing * 1e6, printing * 1e9 / (double)moves, printing / reading);
+    if (i % 2 == 0)
+        read_made(&largest[i / 2]);
+    else
+        print_made(&largest[i / 2]);
+}
+
+static void check_largest(void)
+{
+    size_t i;
+    for (i = 0; i < 2 * (LARGEST + 1); i++) {
+        const unsigned rules = i / 2 < LARGEST ? shapes[i / 2 / ORDERS].rules : ZGV_BOOK_RULES;
+        run_largest(i);
+        if (zgv_number(sink) != ZGV_ACCEPTED || zgv_first(sink) != (i % 2 == 0 ? rules : 2))
+            fail("a largest book is answered otherwise");
+    }
+}
+
+/* The beginning of a line, from the times of reading and printing by a book. */
+static void largest_line(const char *name, const made *b, const double *times)
+{
+    const double moves = (double)b->moves;
+    printf("| %s | %lu | %lu | %.2f | %.2f | %.2f | %.2f | %.2f |", name, (unsigned long)b->len, (unsigned long)b->moves,
+           times[0] * 1e6, times[0] * 1e9 / moves, times[1] * 1e6, times[1] * 1e9 / moves, times[1] / times[0]);
 }
 
 static void bench_largest(void)
 {
-    contender all[] = {EACH_LARGEST(LARGEST_CONTENDERS) {"", read_many, 0, 0}, {"", print_many, 0, 0}};
-    const size_t count = sizeof all / sizeof all[0];
+    double best[2 * (LARGEST + 1)];
     size_t i;
-    for (i = 0; i < count; i++) {
-        const unsigned rules = i < 2 * LARGEST ? shapes[i / 2 / ORDERS].rules : 32;
-        all[i].run();
-        if (zgv_number(sink) != ZGV_ACCEPTED || zgv_first(sink) != (i % 2 == 0 ? rules : 2))
-            fail("a largest book is answered otherwise");
+    check_largest();
+    measure_each(run_largest, 2 * (LARGEST + 1), best);
+    printf("\n### The largest books\n\n| book, its states numbered upward | bytes | moves | `zgv_read_book`, µs | ns a move |"
+           " `zgv_print_separated`, µs | ns a move | print : read | downward | without order |\n"
+           "|---|---:|---:|---:|---:|---:|---:|---:|---:|---:|\n");
+    for (i = 0; i < SHAPES; i++) {
+        const double *up = best + 2 * ORDERS * i;
+        largest_line(shapes[i].name, &largest[ORDERS * i], up);
+        printf(" %.2f | %.2f |\n", up[3] / up[2], up[5] / up[4]);
     }
-    measure(all, count);
-    printf("\n### The largest books\n\n| book, its states numbered | bytes | moves | `zgv_read_book`, µs | ns a move |"
-           " `zgv_print_separated`, µs | ns a move | print : read |\n|---|---:|---:|---:|---:|---:|---:|---:|\n");
-    for (i = 0; i < LARGEST; i++)
-        largest_line(shapes[i / ORDERS].name, orders[i % ORDERS], largest[i].len, largest[i].moves, all + 2 * i);
-    largest_line("32 rules of one move", "", sizeof many, 32, all + 2 * LARGEST);
-    printf("\n| time, upward = 1 | reading, downward | without order | printing, downward | without order |\n"
+    largest_line("32 rules of one move", many, best + 2 * LARGEST);
+    printf(" | |\n\n| time, upward = 1 | reading, downward | without order | printing, downward | without order |\n"
            "|---|---:|---:|---:|---:|\n");
     for (i = 0; i < SHAPES; i++) {
-        const contender *up = all + 2 * ORDERS * i;
-        printf("| %s | %.2f | %.2f | %.2f | %.2f |\n", shapes[i].name, up[2].best / up[0].best, up[4].best / up[0].best,
-               up[3].best / up[1].best, up[5].best / up[1].best);
+        const double *up = best + 2 * ORDERS * i;
+        printf("| %s | %.2f | %.2f | %.2f | %.2f |\n", shapes[i].name, up[2] / up[0], up[4] / up[0], up[3] / up[1], up[5] / up[1]);
     }
+}
+
+/* ---- Small books with a state above 255, or with a dead branch */
+
+/* The built-in book with one rule more, at bytes that no other rule takes: with a state below 256 and with one of 256; and a separator's
+   with a plain byte on a dead branch, which ends in such a state. */
+static made low_state, high_state, branched, branched_high;
+
+static void make_state_book(made *b, unsigned state)
+{
+    make_longer(b, book, book_len, 1);
+    make_rule(b, 6, ZGV_KIND_PLAIN, 0, 2);
+    make_final(b, 1);
+    make_move(b, 0, 1, 1, state);
+    make_move(b, state, 2, 2, 1);
+    make_close(b);
+    make_end(b);
+}
+
+static void make_branched(made *b, unsigned state)
+{
+    make_longer(b, book, book_len, state > 255);
+    make_rule(b, 6, ZGV_KIND_SEPARATOR, 0, 2);
+    make_final(b, 1);
+    make_move(b, 0, 1, 1, 1);
+    make_move(b, 1, 'a', 'a', state);
+    make_close(b);
+    make_end(b);
+}
+
+static void make_small(void)
+{
+    make_state_book(&low_state, 3);
+    make_state_book(&high_state, 256);
+    make_branched(&branched, 3);
+    make_branched(&branched_high, 256);
+}
+
+static void lines_lex_made(const made *b) { EACH_LINE(zgv_lex(b->bytes, b->len, line, LINE, records, ROOM)); }
+static void lines_print_made(const made *b)
+{
+    EACH_LINE(zgv_print_separated(b->bytes, b->len, line_blank[i].tag, line_blank[i].place, line_blank[i].length, ZGV_MODE_SPARE,
+                                  line_plain[i], line_plain_len[i], line, LINE, out, SHEET));
+}
+static void read_low(void) { read_made(&low_state); }
+static void read_high(void) { read_made(&high_state); }
+static void lex_low(void) { lines_lex_made(&low_state); }
+static void lex_high(void) { lines_lex_made(&high_state); }
+static void print_low(void) { lines_print_made(&low_state); }
+static void print_high(void) { lines_print_made(&high_state); }
+static void print_branched(void) { lines_print_made(&branched); }
+static void print_branched_high(void) { lines_print_made(&branched_high); }
+
+/* Two runs to be compared, each of so many calls. */
+typedef struct pair {
+    const char *name;
+    void (*first)(void), (*second)(void);
+    double calls;
+} pair;
+
+/* Both must answer alike before they are timed. */
+static void print_pair(const pair *p, const char *differ)
+{
+    contender both[] = {{"", p->first, 0, 0}, {"", p->second, 0, 0}};
+    uint64_t answer;
+    both[0].run();
+    answer = sink;
+    both[1].run();
+    if (sink != answer || zgv_number(answer) != ZGV_ACCEPTED)
+        fail(differ);
+    measure(both, 2);
+    printf("| %s | %.2f | %.2f | %.2f |\n", p->name, both[0].best * 1e6 / p->calls, both[1].best * 1e6 / p->calls,
+           both[1].best / both[0].best);
+}
+
+static void bench_small(void)
+{
+    static const pair states[] = {{"`zgv_read_book`", read_low, read_high, 1},
+                                  {"`zgv_lex`, a line", lex_low, lex_high, LINES},
+                                  {"`zgv_print_separated`, mode 2, a line", print_low, print_high, LINES}},
+                      branches[] = {{"to a state below 256", lines_mode_2, print_branched, LINES},
+                                    {"to a state of 256", lines_mode_2, print_branched_high, LINES}};
+    size_t i;
+    printf("\n### A small book with a state above 255\n\n| book of %lu bytes | states below 256, µs a call | one of 256, µs a call |"
+           " time, below = 1 |\n|---|---:|---:|---:|\n", (unsigned long)high_state.len);
+    for (i = 0; i < sizeof states / sizeof states[0]; i++)
+        print_pair(&states[i], "a state above 255 changes an answer");
+    printf("\n### A small book with a plain byte on a dead branch\n\n| `zgv_print_separated`, mode 2, a line | the built-in book,"
+           " µs a call | with a dead branch, µs a call | time, built-in = 1 |\n|---|---:|---:|---:|\n");
+    for (i = 0; i < sizeof branches / sizeof branches[0]; i++)
+        print_pair(&branches[i], "a dead branch changes an answer");
 }
 
 /* ---- An earlier library beside this one, its calls renamed */
@@ -552,127 +618,99 @@ static void old_lines_mode(uint32_t mode)
 }
 static void old_lines_mode_1(void) { old_lines_mode(ZGV_MODE_ALL); }
 static void old_lines_mode_2(void) { old_lines_mode(ZGV_MODE_SPARE); }
-static void old_read_largest(size_t book) { sink = old_zgv_read_book(largest[book].book, largest[book].len); }
-static void old_print_largest(size_t book)
+static void old_read_made(const made *b) { sink = old_zgv_read_book(b->bytes, b->len); }
+static void old_print_made(const made *b)
 {
-    sink = old_zgv_print_separated(largest[book].book, largest[book].len, 2, 1, 1, ZGV_MODE_SPARE, chain_list, sizeof chain_list,
-                                   chain_pool, sizeof chain_pool, out, SHEET);
-}
-static void old_read_upward(void) { old_read_largest(0); }
-static void old_print_upward(void) { old_print_largest(0); }
-static void old_print_downward(void) { old_print_largest(1); }
-static void old_print_spans(void) { old_print_largest(ORDERS); }
-static void old_print_many(void)
-{
-    sink = old_zgv_print_separated(many, sizeof many, 2, 1, 1, ZGV_MODE_SPARE, chain_list, sizeof chain_list, chain_pool,
+    sink = old_zgv_print_separated(b->bytes, b->len, 2, 1, 1, ZGV_MODE_SPARE, chain_list, sizeof chain_list, chain_pool,
                                    sizeof chain_pool, out, SHEET);
 }
+static void old_print_branched(void)
+{
+    EACH_LINE(old_zgv_print_separated(branched.bytes, branched.len, line_blank[i].tag, line_blank[i].place, line_blank[i].length,
+                                      ZGV_MODE_SPARE, line_plain[i], line_plain_len[i], line, LINE, out, SHEET));
+}
+
+/* A call by one book, of the earlier library and of this one. */
+#define BY_BOTH(call, name, book)                                      \
+    static void old_##call##_##name(void) { old_##call##_made(book); } \
+    static void new_##call##_##name(void) { call##_made(book); }
+BY_BOTH(print, many, many)
+BY_BOTH(read, medium, &medium)
+BY_BOTH(print, medium, &medium)
+BY_BOTH(read, upward, &largest[CHAINS * ORDERS])
+BY_BOTH(print, upward, &largest[CHAINS * ORDERS])
+BY_BOTH(print, downward, &largest[CHAINS * ORDERS + 1])
+BY_BOTH(print, spans, &largest[CHAINS_OF_SPANS * ORDERS])
+BY_BOTH(print, met, &largest[MET * ORDERS])
+BY_BOTH(print, rings, &largest[MET_RINGS * ORDERS])
 
 static void bench_old(void)
 {
-    static const struct {
-        const char *name;
-        void (*old_run)(void), (*new_run)(void);
-        double calls;
-    } pairs[] = {{"`zgv_read_book`, the built-in book", old_book, new_book, 1},
-                 {"`zgv_lex`, a line", old_lines, lines_zgv, LINES},
-                 {"`zgv_print`, a line", old_lines_print, lines_print, LINES},
-                 {"`zgv_print_separated`, mode 1, a line", old_lines_mode_1, lines_mode_1, LINES},
-                 {"`zgv_print_separated`, mode 2, a line", old_lines_mode_2, lines_mode_2, LINES},
-                 {"`zgv_lex`, the sheet", old_sheet, sheet_zgv, 1},
-                 {"`zgv_lex_builtin`, the sheet", old_sheet_builtin, sheet_builtin, 1},
-                 {"`zgv_print`, the sheet", old_print, print_plain, 1},
-                 {"`zgv_print_separated`, mode 1, the sheet", old_mode_1, print_mode_1, 1},
-                 {"`zgv_print_separated`, mode 2, the sheet", old_mode_2, print_mode_2, 1},
-                 {"`zgv_print_separated`, 32 rules of one move", old_print_many, print_many, 1},
-                 {"`zgv_read_book`, 32 chains upward", old_read_upward, read_largest_0, 1},
-                 {"`zgv_print_separated`, 32 chains upward", old_print_upward, print_largest_0, 1},
-                 {"`zgv_print_separated`, 32 chains downward", old_print_downward, print_largest_1, 1},
-                 {"`zgv_print_separated`, 32 chains of spans upward", old_print_spans, print_largest_3, 1}};
+    static const pair pairs[] = {
+        {"`zgv_read_book`, the built-in book", old_book, new_book, 1},
+        {"`zgv_lex`, a line", old_lines, lines_zgv, LINES},
+        {"`zgv_print`, a line", old_lines_print, lines_print, LINES},
+        {"`zgv_print_separated`, mode 1, a line", old_lines_mode_1, lines_mode_1, LINES},
+        {"`zgv_print_separated`, mode 2, a line", old_lines_mode_2, lines_mode_2, LINES},
+        {"`zgv_print_separated`, mode 2, a line, a plain byte on a dead branch", old_print_branched, print_branched, LINES},
+        {"`zgv_lex`, the sheet", old_sheet, sheet_zgv, 1},
+        {"`zgv_lex_builtin`, the sheet", old_sheet_builtin, sheet_builtin, 1},
+        {"`zgv_print`, the sheet", old_print, print_plain, 1},
+        {"`zgv_print_separated`, mode 1, the sheet", old_mode_1, print_mode_1, 1},
+        {"`zgv_print_separated`, mode 2, the sheet", old_mode_2, print_mode_2, 1},
+        {"`zgv_print_separated`, 32 rules of one move", old_print_many, new_print_many, 1},
+        {"`zgv_read_book`, 4 chains in 2,200 bytes", old_read_medium, new_read_medium, 1},
+        {"`zgv_print_separated`, 4 chains in 2,200 bytes", old_print_medium, new_print_medium, 1},
+        {"`zgv_read_book`, 32 chains upward", old_read_upward, new_read_upward, 1},
+        {"`zgv_print_separated`, 32 chains upward", old_print_upward, new_print_upward, 1},
+        {"`zgv_print_separated`, 32 chains downward", old_print_downward, new_print_downward, 1},
+        {"`zgv_print_separated`, 32 chains of spans upward", old_print_spans, new_print_spans, 1},
+        {"`zgv_print_separated`, 32 chains upward, plain bytes on dead branches", old_print_met, new_print_met, 1},
+        {"`zgv_print_separated`, 32 rings of spans upward, plain bytes on dead branches", old_print_rings, new_print_rings, 1},
+    };
     size_t i;
     printf("\n### An earlier library beside this one\n\n| | earlier, µs a call | this, µs a call | this : earlier |\n|---|---:|---:|---:|\n");
-    for (i = 0; i < sizeof pairs / sizeof pairs[0]; i++) {
-        contender both[] = {{"", pairs[i].old_run, 0, 0}, {"", pairs[i].new_run, 0, 0}};
-        uint64_t answer;
-        both[0].run();
-        answer = sink;
-        both[1].run();
-        if (sink != answer)
-            fail("two libraries answer differently");
-        measure(both, 2);
-        printf("| %s | %.2f | %.2f | %.2f |\n", pairs[i].name, both[0].best * 1e6 / pairs[i].calls,
-               both[1].best * 1e6 / pairs[i].calls, both[1].best / both[0].best);
-    }
+    for (i = 0; i < sizeof pairs / sizeof pairs[0]; i++)
+        print_pair(&pairs[i], "two libraries answer differently");
 }
 #endif
 
 /* ---- Growth */
 
-static uint8_t wide_book[ZGV_BOOK_BYTES];
-static size_t wide_len;
-static uint8_t wide_text[SHEET];
+static made grown;
+static uint8_t grown_text[SHEET];
 
-static void put(const uint8_t *bytes, size_t count)
+static void open_rule(unsigned tag, unsigned final)
 {
-    if (wide_len + count > sizeof wide_book)
-        fail("a book is too long");
-    memcpy(wide_book + wide_len, bytes, count);
-    wide_len += count;
+    make_rule(&grown, tag, ZGV_KIND_PLAIN, 0, grown.wide ? ZGV_RULE_STATES - 1 : 255);
+    make_final(&grown, final);
 }
 
-static void open_rule(unsigned tag, uint8_t final)
-{
-    uint8_t head[10] = {1, 0, 0, 0, 2, 0, 3, 255, 4, 0};
-    head[1] = (uint8_t)(tag >> 8);
-    head[2] = (uint8_t)tag;
-    head[9] = final;
-    put(head, sizeof head);
-}
+static void span(unsigned from, unsigned low, unsigned high, unsigned to) { make_move(&grown, from, low, high, to); }
+static void step(unsigned from, unsigned byte, unsigned to) { make_move(&grown, from, byte, byte, to); }
+static void end_rule(void) { make_close(&grown); }
+static void end_book(void) { make_end(&grown); }
 
-static void span(unsigned from, unsigned low, unsigned high, unsigned to)
-{
-    uint8_t s[5];
-    s[0] = 6;
-    s[1] = (uint8_t)from;
-    s[2] = (uint8_t)low;
-    s[3] = (uint8_t)high;
-    s[4] = (uint8_t)to;
-    put(s, sizeof s);
-}
-
-static void step(unsigned from, unsigned byte, unsigned to)
-{
-    uint8_t s[4];
-    s[0] = 5;
-    s[1] = (uint8_t)from;
-    s[2] = (uint8_t)byte;
-    s[3] = (uint8_t)to;
-    put(s, sizeof s);
-}
-
-static void end_rule(void) { put((const uint8_t *)"\x07", 1); }
-static void end_book(void) { put((const uint8_t *)"\x08", 1); }
-
-static void wide_zgv(void) { sink = zgv_lex(wide_book, wide_len, wide_text, SHEET, records, ROOM); }
-static void wide_chains(void) { sink = chains_lex(wide_book, wide_len, wide_text, SHEET, records, ROOM); }
-static void wide_dense(void) { sink = dense_lex(table, wide_text, SHEET, records); }
+static void grown_zgv(void) { sink = zgv_lex(grown.bytes, grown.len, grown_text, SHEET, records, ROOM); }
+static void grown_chains(void) { sink = chains_lex(grown.bytes, grown.len, grown_text, SHEET, records, ROOM); }
+static void grown_dense(void) { sink = dense_lex(table, grown_text, SHEET, records); }
 
 static void growth_line(const char *name)
 {
-    contender all[] = {{"", wide_zgv, SHEET, 0}, {"", wide_chains, SHEET, 0}, {"", wide_dense, SHEET, 0}};
+    contender all[] = {{"", grown_zgv, SHEET, 0}, {"", grown_chains, SHEET, 0}, {"", grown_dense, SHEET, 0}};
     uint64_t answer;
-    wide_zgv();
+    grown_zgv();
     answer = sink;
-    if (zgv_number(answer) != ZGV_ACCEPTED || zgv_second(answer) < SHEET - 256)
+    if (zgv_number(answer) != ZGV_ACCEPTED || zgv_second(answer) < SHEET - ZGV_RULE_STATES)
         fail("a text for growth is not cut");
-    wide_chains();
-    if (sink != answer || !dense_build(table, wide_book, wide_len))
+    grown_chains();
+    if (sink != answer || !dense_build(table, grown.bytes, grown.len))
         fail("a book for growth is too large");
-    wide_dense();
+    grown_dense();
     if (sink != answer)
         fail("two lexers differ on growth");
     measure(all, 3);
-    printf("| %s | %lu | %.0f | %.0f | %.0f |\n", name, (unsigned long)wide_len, SHEET / all[0].best / 1e6,
+    printf("| %s | %lu | %.0f | %.0f | %.0f |\n", name, (unsigned long)grown.len, SHEET / all[0].best / 1e6,
            SHEET / all[1].best / 1e6, SHEET / all[2].best / 1e6);
 }
 
@@ -682,7 +720,7 @@ static void rules_apart(unsigned count)
     unsigned k;
     size_t i;
     char name[64];
-    wide_len = 0;
+    make_book(&grown, 0);
     for (k = 0; k < count; k++) {
         open_rule(k + 1, 1);
         step(0, 0x40 + k, 1);
@@ -691,7 +729,7 @@ static void rules_apart(unsigned count)
     }
     end_book();
     for (i = 0; i < SHEET; i++)
-        wide_text[i] = i % 5 == 0 ? (uint8_t)(0x40 + draw(count)) : (uint8_t)('0' + draw(10));
+        grown_text[i] = i % 5 == 0 ? (uint8_t)(0x40 + draw(count)) : (uint8_t)('0' + draw(10));
     sprintf(name, "%u rule%s, one walks on past a token's first byte", count, count == 1 ? "" : "s");
     growth_line(name);
 }
@@ -702,7 +740,7 @@ static void rules_together(unsigned count)
     unsigned k;
     size_t i;
     char name[64];
-    wide_len = 0;
+    make_book(&grown, 0);
     for (k = 0; k < count; k++) {
         open_rule(k + 1, 2);
         span(0, '0', '9', 1);
@@ -712,7 +750,7 @@ static void rules_together(unsigned count)
     }
     end_book();
     for (i = 0; i < SHEET; i++)
-        wide_text[i] = i % 5 == 4 ? (uint8_t)(0x40 + draw(count)) : (uint8_t)('0' + draw(10));
+        grown_text[i] = i % 5 == 4 ? (uint8_t)(0x40 + draw(count)) : (uint8_t)('0' + draw(10));
     sprintf(name, "%u rule%s, all walk over the whole token", count, count == 1 ? "" : "s");
     growth_line(name);
 }
@@ -723,36 +761,34 @@ static void moves_at_few(unsigned count)
     unsigned k, each = count / 4;
     size_t i;
     char name[64];
-    wide_len = 0;
+    make_book(&grown, 0);
     open_rule(1, 4);
     for (k = 0; k < count; k++)
         step(k / each, k % each, k / each + 1);
     end_rule();
     end_book();
     for (i = 0; i < SHEET; i++)
-        wide_text[i] = (uint8_t)draw(each);
+        grown_text[i] = (uint8_t)draw(each);
     sprintf(name, "%u transitions from 4 states", count);
     growth_line(name);
 }
 
-/* One rule: tokens as long as half the transitions, with two from each state. */
+/* One rule: tokens as long as half the transitions, with two from each state. States have two bytes where one is too short. */
 static void moves_spread(unsigned count)
 {
-    unsigned k, states = count / 2 < 250 ? count / 2 : 250;
+    unsigned k;
     size_t i;
     char name[64];
-    wide_len = 0;
-    open_rule(1, (uint8_t)states);
-    for (k = 0; k < states; k++) {
+    make_book(&grown, count / 2 >= 255);
+    open_rule(1, count / 2);
+    for (k = 0; k < count / 2; k++) {
         step(k, 'a', k + 1);
         step(k, 'b', k + 1);
     }
-    for (k = 2 * states; k < count; k++)
-        step(251 + (k - 2 * states) / 250, (k - 2 * states) % 250, 251);
     end_rule();
     end_book();
     for (i = 0; i < SHEET; i++)
-        wide_text[i] = (uint8_t)('a' + draw(2));
+        grown_text[i] = (uint8_t)('a' + draw(2));
     sprintf(name, "%u transitions, 2 from a state", count);
     growth_line(name);
 }
@@ -760,45 +796,116 @@ static void moves_spread(unsigned count)
 /* ---- Reading */
 
 static void read_zgv(void) { sink = zgv_read_book(book, book_len); }
-static void read_wide_zgv(void) { sink = zgv_read_book(wide_book, wide_len); }
 static void read_chains(const uint8_t *bytes, size_t len)
 {
     chains t;
-    memset(&t, 0, sizeof t);
     sink = chains_load(&t, bytes, len);
 }
 static void read_c(void) { read_chains(book, book_len); }
-static void read_wide_c(void) { read_chains(wide_book, wide_len); }
+
+/* The largest books with 256 moves from a state: by the earlier limits, by those of this library, and by these with states of two bytes. */
+static made full_old, full, full_wide;
+
+static void read_full_old(void) { read_made(&full_old); }
+static void read_full(void) { read_made(&full); }
+static void read_full_wide(void) { read_made(&full_wide); }
+static void read_full_c(void) { read_chains(full.bytes, full.len); }
+#ifdef HAVE_OLD
+static void old_read_full_old(void) { old_read_made(&full_old); }
+#endif
+
+static void make_all_full(void)
+{
+    make_full(&full_old, OLD_BOOK_BYTES, OLD_RULE_TRANSITIONS, 0);
+    make_full(&full, ZGV_BOOK_BYTES, ZGV_RULE_TRANSITIONS, 0);
+    make_full(&full_wide, ZGV_BOOK_BYTES, ZGV_RULE_TRANSITIONS, 1);
+}
 
 static void bench_reading(void)
 {
     contender all[] = {
         {"`zgv_read_book`, the built-in book", read_zgv, 0, 0},
         {"the same in C", read_c, 0, 0},
-        {"`zgv_read_book`, a full book, 256 transitions from a state", read_wide_zgv, 0, 0},
-        {"the same in C", read_wide_c, 0, 0},
+        {"`zgv_read_book`, a full book, 256 transitions from a state", read_full, 0, 0},
+        {"the same in C", read_full_c, 0, 0},
     };
-    unsigned k, rule;
-    wide_len = 0;
-    for (rule = 1; rule <= 15; rule++) {
-        open_rule(rule, 2);
-        for (k = 0; k < ZGV_RULE_TRANSITIONS; k++)
-            step(k / 256, k % 256, k / 256 + 1);
-        end_rule();
-    }
-    end_book();
+    size_t i;
     all[0].bytes = all[1].bytes = (double)book_len;
-    all[2].bytes = all[3].bytes = (double)wide_len;
-    read_wide_zgv();
-    if (zgv_first(sink) != 15)
-        fail("the full book is refused");
+    all[2].bytes = all[3].bytes = (double)full.len;
+    for (i = 0; i < 4; i++) {
+        all[i].run();
+        if (zgv_number(sink) != ZGV_ACCEPTED)
+            fail("a book is refused");
+    }
     print_table("### Reading a book", all, 4, 1);
-    printf("\nThe built-in book has %lu bytes, the full one %lu.\n", (unsigned long)book_len, (unsigned long)wide_len);
+    printf("\nThe built-in book has %lu bytes, the full one %lu.\n", (unsigned long)book_len, (unsigned long)full.len);
 }
 
-static void read_of_steps(void) { read_largest(OF_STEPS); }
+/* A table of readings, each of one book. */
+static void print_readings(const char *title, contender *all, const made *const *books, size_t count)
+{
+    size_t i;
+    measure(all, count);
+    printf("\n%s\n\n| | bytes | moves | µs a call | ns a byte | ns a move | ns a move, first line = 1 |\n"
+           "|---|---:|---:|---:|---:|---:|---:|\n", title);
+    for (i = 0; i < count; i++) {
+        const double a_move = all[i].best / (double)books[i]->moves;
+        printf("| %s | %lu | %lu | %.2f | %.2f | %.2f | %.2f |\n", all[i].name, (unsigned long)books[i]->len,
+               (unsigned long)books[i]->moves, all[i].best * 1e6, all[i].best * 1e9 / (double)books[i]->len, a_move * 1e9,
+               a_move / (all[0].best / (double)books[0]->moves));
+    }
+}
+
+static void bench_full(void)
+{
+    contender all[] = {
+#ifdef HAVE_OLD
+        {"earlier library, 512 moves in a rule", old_read_full_old, 0, 0},
+#endif
+        {"this library, 512 moves in a rule", read_full_old, 0, 0},
+        {"this library, 4,096 moves in a rule", read_full, 0, 0},
+        {"this library, 4,096 moves in a rule, states of two bytes from 256 on", read_full_wide, 0, 0},
+    };
+    const made *const books[] = {
+#ifdef HAVE_OLD
+        &full_old,
+#endif
+        &full_old, &full, &full_wide};
+    size_t i;
+    for (i = 0; i < sizeof all / sizeof all[0]; i++) {
+        all[i].run();
+        if (zgv_number(sink) != ZGV_ACCEPTED)
+            fail("a full book is refused");
+    }
+    print_readings("### Reading the largest books, 256 moves from a state", all, books, sizeof all / sizeof all[0]);
+}
+
+/* One rule of as many moves as it may have: 256 from each of 16 states, and all from one state at one byte. */
+static made apart, overlapping;
+static void read_apart(void) { read_made(&apart); }
+static void read_overlapping(void) { read_made(&overlapping); }
+
+static void bench_overlapping(void)
+{
+    contender all[] = {{"256 from each of 16 states", read_apart, 0, 0},
+                       {"all from one state at one byte, refused by 9", read_overlapping, 0, 0}};
+    const made *const books[] = {&apart, &overlapping};
+    make_full(&apart, 12 + 4 * ZGV_RULE_TRANSITIONS, ZGV_RULE_TRANSITIONS, 0);
+    make_overlapping(&overlapping, ZGV_RULE_TRANSITIONS);
+    read_apart();
+    if (zgv_number(sink) != ZGV_ACCEPTED || zgv_first(sink) != 1 || apart.len != overlapping.len)
+        fail("the moves apart are answered otherwise");
+    read_overlapping();
+    if (zgv_number(sink) != ZGV_OVERLAP || zgv_place(sink) != overlapping.len - 2)
+        fail("the moves that overlap are answered otherwise");
+    print_readings("### Reading one rule of 4,096 moves", all, books, 2);
+    if (all[1].best >= all[0].best)
+        fail("moves that overlap take longer to read than others");
+}
+
+static void read_of_steps(void) { read_made(&of_steps); }
 static void rewrite_zgv(void) { sink = zgv_rewrite_book(book, book_len, out, SHEET); }
-static void rewrite_of_steps(void) { sink = zgv_rewrite_book(largest[OF_STEPS].book, largest[OF_STEPS].len, out, SHEET); }
+static void rewrite_of_steps(void) { sink = zgv_rewrite_book(of_steps.bytes, of_steps.len, out, SHEET); }
 
 static void rewriting_line(const char *name, size_t len, const contender *both)
 {
@@ -816,12 +923,12 @@ static void bench_rewriting(void)
     printf("\n### Rewriting a book\n\n| book | bytes | STEPs | `zgv_read_book`, µs | `zgv_rewrite_book`, µs | rewrite : read |\n"
            "|---|---:|---:|---:|---:|---:|\n");
     rewriting_line("the built-in one", book_len, all);
-    rewriting_line("32 chains of STEPs", largest[OF_STEPS].len, all + 2);
+    rewriting_line("32 chains of two STEPs each", of_steps.len, all + 2);
 }
 
 static void bench_growth(void)
 {
-    static const unsigned rules[] = {1, 8, 32}, moves[] = {16, 128, 512};
+    static const unsigned rules[] = {1, 8, 32}, at_few[] = {16, 128, 512, 1024}, spread[] = {16, 128, 512, 4096};
     size_t i;
     printf("\n### Growth with the book, a text of 65,536 bytes, MB/s\n\n"
            "| book | its bytes | `zgv_lex` | chains in C | dense table |\n|---|---:|---:|---:|---:|\n");
@@ -829,10 +936,10 @@ static void bench_growth(void)
         rules_apart(rules[i]);
     for (i = 0; i < 3; i++)
         rules_together(rules[i]);
-    for (i = 0; i < 3; i++)
-        moves_at_few(moves[i]);
-    for (i = 0; i < 3; i++)
-        moves_spread(moves[i]);
+    for (i = 0; i < 4; i++)
+        moves_at_few(at_few[i]);
+    for (i = 0; i < 4; i++)
+        moves_spread(spread[i]);
 }
 
 /* ---- Hostile inputs */
@@ -842,12 +949,12 @@ static uint8_t hostile_text[SHEET + 2]; /* bytes "a", and behind them zeros, the
 static uint8_t *hostile_list;
 static size_t hostile_tokens;
 
-static void hostile_zgv(void) { sink = zgv_lex(wide_book, wide_len, hostile_text, hostile_len, records, ROOM); }
+static void hostile_zgv(void) { sink = zgv_lex(grown.bytes, grown.len, hostile_text, hostile_len, records, ROOM); }
 static void hostile_counted(void)
 {
-    sink = zgv_lex(wide_book, wide_len, hostile_text, hostile_len, records, (hostile_len - 1) * ZGV_RECORD_BYTES);
+    sink = zgv_lex(grown.bytes, grown.len, hostile_text, hostile_len, records, (hostile_len - 1) * ZGV_RECORD_BYTES);
 }
-static void hostile_chains(void) { sink = chains_lex(wide_book, wide_len, hostile_text, hostile_len, records, ROOM); }
+static void hostile_chains(void) { sink = chains_lex(grown.bytes, grown.len, hostile_text, hostile_len, records, ROOM); }
 static void hostile_dense(void) { sink = dense_lex(table, hostile_text, hostile_len, records); }
 #ifdef HAVE_FLEX
 static void hostile_flex(void) { sink = flex_hostile((char *)hostile_text, hostile_len, records); }
@@ -857,11 +964,11 @@ static void hostile_re2c(void) { sink = re2c_hostile((char *)hostile_text, hosti
 #endif
 static void hostile_print(void)
 {
-    sink = zgv_print(wide_book, wide_len, hostile_list, hostile_tokens * ZGV_RECORD_BYTES, hostile_text, hostile_len, out, SHEET);
+    sink = zgv_print(grown.bytes, grown.len, hostile_list, hostile_tokens * ZGV_RECORD_BYTES, hostile_text, hostile_len, out, SHEET);
 }
 static void hostile_mode(uint32_t mode)
 {
-    sink = zgv_print_separated(wide_book, wide_len, 2, (uint32_t)hostile_len, 1, mode, hostile_list,
+    sink = zgv_print_separated(grown.bytes, grown.len, 2, (uint32_t)hostile_len, 1, mode, hostile_list,
                                hostile_tokens * ZGV_RECORD_BYTES, hostile_text, hostile_len + 1, out, SHEET);
 }
 static void hostile_mode_1(void) { hostile_mode(ZGV_MODE_ALL); }
@@ -888,9 +995,9 @@ static void stray_end(void) { hostile_text[hostile_len - 1] = 'c'; }
    them, or, where `runs`, one or more a's. */
 static void make_hostile_book(int runs)
 {
-    wide_len = 0;
+    make_book(&grown, 0);
     open_rule(1, runs ? 2 : 1);
-    put((const uint8_t *)"\x04\x03", 2);
+    make_final(&grown, 3);
     step(0, 'a', runs ? 2 : 1);
     step(0, 'b', 3);
     step(1, 'a', 2);
@@ -898,8 +1005,8 @@ static void make_hostile_book(int runs)
     step(2, 'a', 2);
     step(2, 'b', 3);
     end_rule();
-    open_rule(2, 1);
-    wide_book[wide_len - 7] = ZGV_KIND_SEPARATOR;
+    make_rule(&grown, 2, ZGV_KIND_SEPARATOR, 0, 255);
+    make_final(&grown, 1);
     step(0, 0, 1);
     end_rule();
     end_book();
@@ -941,7 +1048,7 @@ static void bench_hostile(void)
     if (hostile_list == NULL)
         fail("out of memory");
     make_hostile_book(0);
-    if (!dense_build(table, wide_book, wide_len))
+    if (!dense_build(table, grown.bytes, grown.len))
         fail("the hostile book has no dense table");
     printf("\n### Hostile texts, seconds\n\n%s", head);
     hostile_line("`zgv_lex`", hostile_zgv, ZGV_ACCEPTED, NULL);
@@ -977,8 +1084,8 @@ int main(int argc, char **argv)
     make_sheet();
     make_lines();
     make_largest();
-    make_of_steps();
-    make_many();
+    make_small();
+    make_all_full();
     if (!dense_build(table, book, book_len))
         fail("the built-in book has no dense table");
     check_same();
@@ -993,6 +1100,9 @@ int main(int argc, char **argv)
         return 0;
     bench_growth();
     bench_reading();
+    bench_full();
+    bench_overlapping();
+    bench_small();
     bench_rewriting();
     bench_largest();
     bench_hostile();

@@ -14,15 +14,26 @@ static uint64_t accepted(size_t first, size_t second)
     return (uint64_t)first << 28 | second;
 }
 
-/* What has been read of a book: the closed rules and the open one. */
+/* What has been read of a book: the closed rules and the open one, with the place and number of its cells. */
 typedef struct reading {
-    size_t rules, edges, count;
+    size_t rules, edges, count, row, cells;
     int inside, started, erring, overlap;
-    uint16_t tag;
-    uint8_t kind, start, error;
+    uint16_t tag, start, error;
+    uint8_t kind;
 } reading;
 
-static unsigned open_rule(reading *b, const chains *t, const uint8_t *o)
+/* The cell of a state of the open rule. */
+static uint16_t *cell_of(reading *b, chains *t, size_t state)
+{
+    uint16_t *cells = t->states + b->row;
+    if (b->cells <= state) {
+        memset(cells + CHAIN_NARROW, 0, (CHAIN_STATES - CHAIN_NARROW) * sizeof *cells);
+        b->cells = CHAIN_STATES;
+    }
+    return cells + state;
+}
+
+static unsigned open_rule(reading *b, chains *t, const uint8_t *o)
 {
     uint16_t tag = (uint16_t)(o[0] << 8 | o[1]);
     size_t k;
@@ -38,18 +49,43 @@ static unsigned open_rule(reading *b, const chains *t, const uint8_t *o)
     b->count = 0;
     b->tag = tag;
     b->kind = o[2];
+    b->row += b->cells;
+    b->cells = CHAIN_NARROW;
+    memset(t->states + b->row, 0, CHAIN_NARROW * sizeof t->states[0]);
     return 0;
 }
 
-static unsigned add_transition(reading *b, chains *t, uint8_t from, uint8_t low, uint8_t high, uint8_t to)
+/* START and ERROR. */
+static unsigned set_once(int *known, uint16_t *state, unsigned s)
 {
-    uint16_t *cell = &t->states[b->rules * CHAIN_STATES + from];
+    if (s >= CHAIN_STATES)
+        return ZGV_OUT_OF_RANGE;
+    if (*known)
+        return ZGV_TWICE_OR_MISSING;
+    *known = 1;
+    *state = (uint16_t)s;
+    return 0;
+}
+
+static unsigned add_final(reading *b, chains *t, unsigned s)
+{
+    if (s >= CHAIN_STATES)
+        return ZGV_OUT_OF_RANGE;
+    *cell_of(b, t, s) |= 1;
+    return 0;
+}
+
+static unsigned add_transition(reading *b, chains *t, unsigned from, uint8_t low, uint8_t high, unsigned to)
+{
+    uint16_t *cell;
     size_t h;
     if (b->count >= ZGV_RULE_TRANSITIONS)
         return ZGV_TOO_MANY;
-    if (high < low)
+    if (high < low || from >= CHAIN_STATES || to >= CHAIN_STATES)
         return ZGV_OUT_OF_RANGE;
-    for (h = *cell / 2; h != 0; h = t->edges[h - 1] >> 32)
+    cell_of(b, t, to); /* a walk asks for it */
+    cell = cell_of(b, t, from);
+    for (h = *cell / 2; h != 0 && !b->overlap; h = t->edges[h - 1] >> 32)
         if (low <= (t->edges[h - 1] >> 8 & 255) && (t->edges[h - 1] & 255) <= high)
             b->overlap = 1;
     t->edges[b->edges] = (uint64_t)(*cell / 2) << 32 | (uint64_t)to << 16 | (uint64_t)high << 8 | low;
@@ -61,21 +97,23 @@ static unsigned add_transition(reading *b, chains *t, uint8_t from, uint8_t low,
 
 static unsigned close_rule(reading *b, chains *t)
 {
-    const uint16_t *cells = &t->states[b->rules * CHAIN_STATES];
     if (!b->started || !b->erring)
         return ZGV_TWICE_OR_MISSING;
     if (b->overlap)
         return ZGV_OVERLAP;
-    if (cells[b->error] / 2 != 0)
+    if (*cell_of(b, t, b->error) / 2 != 0)
         return ZGV_LEAVES_ERROR;
-    if (cells[b->error] % 2 == 1)
+    if (*cell_of(b, t, b->error) % 2 == 1)
         return ZGV_ERROR_FINAL;
-    if (cells[b->start] % 2 == 1)
+    if (*cell_of(b, t, b->start) % 2 == 1)
         return ZGV_START_FINAL;
+    t->rows[b->rules] = (uint32_t)b->row;
     t->headers[b->rules++] = (uint64_t)b->tag << 40 | (uint64_t)b->kind << 32 | (uint64_t)b->start << 16 | b->error;
     b->inside = 0;
     return 0;
 }
+
+static unsigned two_bytes(const uint8_t *o) { return (unsigned)o[0] << 8 | o[1]; }
 
 /* Applies the command `code` with its operands; 0 or the number of a refusal at the command. */
 static unsigned apply(reading *b, chains *t, uint8_t code, const uint8_t *o)
@@ -84,26 +122,25 @@ static unsigned apply(reading *b, chains *t, uint8_t code, const uint8_t *o)
     case 1:
         return open_rule(b, t, o);
     case 2:
-        if (b->started)
-            return ZGV_TWICE_OR_MISSING;
-        b->started = 1;
-        b->start = o[0];
-        return 0;
+        return set_once(&b->started, &b->start, o[0]);
     case 3:
-        if (b->erring)
-            return ZGV_TWICE_OR_MISSING;
-        b->erring = 1;
-        b->error = o[0];
-        return 0;
+        return set_once(&b->erring, &b->error, o[0]);
     case 4:
-        t->states[b->rules * CHAIN_STATES + o[0]] |= 1;
-        return 0;
+        return add_final(b, t, o[0]);
     case 5:
         return add_transition(b, t, o[0], o[1], o[1], o[2]);
     case 6:
         return add_transition(b, t, o[0], o[1], o[2], o[3]);
     case 7:
         return close_rule(b, t);
+    case 9:
+        return set_once(&b->started, &b->start, two_bytes(o));
+    case 10:
+        return set_once(&b->erring, &b->error, two_bytes(o));
+    case 11:
+        return add_final(b, t, two_bytes(o));
+    case 12:
+        return add_transition(b, t, two_bytes(o), o[2], o[3], two_bytes(o + 4));
     default:
         return b->rules == 0 ? ZGV_NO_RULE : 0;
     }
@@ -111,7 +148,7 @@ static unsigned apply(reading *b, chains *t, uint8_t code, const uint8_t *o)
 
 uint64_t chains_load(chains *t, const uint8_t *book, size_t len)
 {
-    static const uint8_t operands[9] = {0, 3, 1, 1, 1, 3, 4, 0, 0};
+    static const uint8_t operands[13] = {0, 3, 1, 1, 1, 3, 4, 0, 0, 2, 2, 2, 6};
     reading b;
     size_t at = 0;
     memset(&b, 0, sizeof b);
@@ -122,7 +159,7 @@ uint64_t chains_load(chains *t, const uint8_t *book, size_t len)
         int outside = code == 1 || code == 8;
         size_t next;
         unsigned number;
-        if (code < 1 || code > 8 || outside == b.inside)
+        if (code < 1 || code > 12 || outside == b.inside)
             return refused(ZGV_MISPLACED, at);
         next = at + 1 + operands[code];
         if (next > len)
@@ -139,7 +176,7 @@ uint64_t chains_load(chains *t, const uint8_t *book, size_t len)
 
 static size_t longest_prefix(const chains *t, size_t rule, const uint8_t *text, size_t len)
 {
-    const uint16_t *cells = &t->states[rule * CHAIN_STATES];
+    const uint16_t *cells = t->states + t->rows[rule];
     size_t error = t->headers[rule] & 65535;
     size_t s = t->headers[rule] >> 16 & 65535;
     size_t best = 0, i;
@@ -206,7 +243,6 @@ uint64_t chains_lex(const uint8_t *book, size_t book_len, const uint8_t *text, s
     chains t;
     uint64_t read;
     size_t room = records_len / ZGV_RECORD_BYTES, tokens;
-    memset(&t, 0, sizeof t);
     read = chains_load(&t, book, book_len);
     if (zgv_number(read) != 0)
         return read;

@@ -9,7 +9,7 @@
 /* Where rule `k` goes from a state at a byte. */
 static uint16_t target(const chains *t, size_t k, uint16_t s, unsigned byte)
 {
-    size_t h = t->states[k * CHAIN_STATES + s] / 2;
+    size_t h = t->states[t->rows[k] + s] / 2;
     while (h != 0) {
         uint64_t e = t->edges[h - 1];
         if ((e & 255) <= byte && byte <= (e >> 8 & 255))
@@ -60,7 +60,7 @@ int dense_build(dense *d, const uint8_t *book, size_t book_len)
     for (i = 0; i < all->count && all->count <= DENSE_STATES; i++) {
         d->accepts[i] = 0;
         for (k = all->rules; k-- > 0;)
-            if (t->states[k * CHAIN_STATES + all->states[i][k]] % 2 == 1)
+            if (t->states[t->rows[k] + all->states[i][k]] % 2 == 1)
                 d->accepts[i] = (uint16_t)(t->headers[k] >> 40);
         for (byte = 0; byte < 256; byte++) {
             for (k = 0; k < all->rules; k++)

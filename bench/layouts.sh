@@ -19,6 +19,7 @@ for call in read_book read_book_strict rule rewrite_book lex lex_builtin print p
     objcopy --redefine-sym "zgv_$call=old_zgv_$call" "$dir/old.o"
 done
 $cc $flags -DHAVE_OLD -c bench/bench.c -o "$dir/earlier.o"
+$cc $flags -c bench/books.c -o "$dir/books.o"
 $cc $flags -c bench/chains.c -o "$dir/chains.o"
 $cc $flags -c bench/dense.c -o "$dir/dense.o"
 for gap in 0 16 32 48; do
@@ -26,7 +27,7 @@ for gap in 0 16 32 48; do
 done
 for before in 0 16 32 48; do
     for between in 0 16 32 48; do
-        $cc "$dir/earlier.o" "$dir/chains.o" "$dir/dense.o" "$dir/gap-$before.o" "$dir/old.o" "$dir/gap-$between.o" \
+        $cc "$dir/earlier.o" "$dir/books.o" "$dir/chains.o" "$dir/dense.o" "$dir/gap-$before.o" "$dir/old.o" "$dir/gap-$between.o" \
             build/libzagvulem.a -o "$dir/layout"
         "$dir/layout" examples/builtin.bin earlier | sed -n '/An earlier library/,$s/^| `/`/p' >"$dir/layout-$before-$between"
     done

@@ -44,9 +44,10 @@ if [ -n "${OLD:-}" ]; then
     done
     set -- "$@" -DHAVE_OLD "$dir/old.o"
 fi
+$cc $flags -c bench/books.c -o "$dir/books.o"
 $cc $flags -c bench/chains.c -o "$dir/chains.o"
 $cc $flags -c bench/dense.c -o "$dir/dense.o"
-$cc $flags bench/bench.c "$dir/chains.o" "$dir/dense.o" "$@" build/libzagvulem.a -o "$dir/bench"
+$cc $flags bench/bench.c "$dir/books.o" "$dir/chains.o" "$dir/dense.o" "$@" build/libzagvulem.a -o "$dir/bench"
 $cc $flags bench/stack.c build/libzagvulem.a -lpthread -Wl,-z,lazy -o "$dir/stack"
 
 echo "Compiler of the C contenders: $($cc --version | head -n 1), -O2."

@@ -5,8 +5,8 @@
  *    stack BOOK HEADER     holds the bytes that the header states (STACK) to what is measured: each must be 4,096 above it
  *
  * Each call is the first one of a process of its own, in a thread whose stack is painted with one byte; what is no longer
- * painted was used. The use of a thread that makes no call is taken off. Nothing here calls memset() before, and the program is
- * linked with -z lazy, so that binding it counts too.
+ * painted was used. The use of a thread that makes no call is taken off. Nothing here calls memset() or memcpy() before, and the
+ * program is linked with -z lazy, so that binding them counts too.
  */
 #define _GNU_SOURCE
 
@@ -19,10 +19,10 @@
 #include <sys/wait.h>
 #include <unistd.h>
 
-enum { STACK = 1 << 20, PAINT = 0xC7, MARGIN = 4096, SIZES = 3 };
+enum { STACK = 1 << 22, PAINT = 0xC7, MARGIN = 4096, SIZES = 3 };
 
-static uint8_t book[ZGV_BOOK_BYTES];
-static size_t book_len;
+static uint8_t small[ZGV_BOOK_BYTES], book[ZGV_BOOK_BYTES]; /* the book that is given, and the one that is measured */
+static size_t small_len, book_len;
 static const uint8_t text[] = "[00:12.50]oh yes [fade]\n[00:1";
 static uint8_t records[sizeof text * ZGV_RECORD_BYTES];
 static uint8_t plain[2 * ZGV_RECORD_BYTES];
@@ -103,40 +103,68 @@ static void fill_records(void)
         zgv_put_record(plain, i, tokens[i]);
 }
 
-/* A larger book: in place of END so many plain rules more, which take letters, each of 2,511 bytes. */
-static void enlarge(unsigned count)
+/* A copy without memcpy(). */
+static void copy(volatile uint8_t *to, const uint8_t *from, size_t count)
 {
-    static uint8_t tag = 90;
-    unsigned rule, state, letter;
-    book_len--;
-    for (rule = 0; rule < count; rule++) {
-        const uint8_t head[] = {1, 0, tag++, 0, 2, 0, 3, 255, 4, 1};
-        memcpy(book + book_len, head, sizeof head);
-        book_len += sizeof head;
-        for (state = 0; state < 20; state++)
-            for (letter = 'a'; letter <= 'y'; letter++) {
-                uint8_t *span = book + book_len;
-                span[0] = 6;
-                span[1] = (uint8_t)(state < 1 ? 0 : state + 1);
-                span[2] = span[3] = (uint8_t)letter;
-                span[4] = 1;
-                book_len += 5;
-            }
-        book[book_len++] = 7;
+    while (count-- > 0)
+        *to++ = *from++;
+}
+
+static void put(const uint8_t *bytes, size_t count)
+{
+    copy(book + book_len, bytes, count);
+    book_len += count;
+}
+
+/* A plain rule with states above 255, for which the reader takes more cells. After a "z" it has a blank on a dead branch, so that the ways
+   to final states are sought, with more cells too. */
+static void put_wide_rule(void)
+{
+    static const uint8_t rule[] = {1, 0, 80, 0, 9, 0, 0, 10, 15, 255, 11, 1, 0, 12, 0, 0, 'z', 'z', 1, 0,
+                                   12, 1, 0, ' ', ' ', 1, 1, 7};
+    put(rule, sizeof rule);
+}
+
+/* A plain rule that takes letters, of 11 bytes and five for each move. */
+static void put_letters(unsigned tag, unsigned moves)
+{
+    const uint8_t head[] = {1, 0, (uint8_t)tag, 0, 2, 0, 3, 255, 4, 1}, close = 7;
+    unsigned k;
+    put(head, sizeof head);
+    for (k = 0; k < moves; k++) {
+        const unsigned state = k / 25, letter = 'a' + k % 25;
+        const uint8_t span[] = {6, (uint8_t)(state < 1 ? 0 : state + 1), (uint8_t)letter, (uint8_t)letter, 1};
+        put(span, sizeof span);
     }
-    book[book_len++] = 8;
+    put(&close, 1);
+}
+
+/* The book of a size: the given one; and with rules to the limit, the first of them that of states above 255, just below 8,192 bytes and
+   just below the longest. */
+static void fill_book(size_t size)
+{
+    static const unsigned moves[SIZES] = {0, 57, 500};
+    static const uint8_t end = 8;
+    unsigned tag;
+    book_len = 0;
+    if (size > 0)
+        put_wide_rule();
+    put(small, small_len - 1);
+    for (tag = 90; size > 0 && tag < 90 + ZGV_BOOK_RULES - 6; tag++)
+        put_letters(tag, moves[size]);
+    put(&end, 1);
 }
 
 /* The book for the stricter reading: a SPAN in the place of each STEP. */
 static void fill_spans(void)
 {
-    static const uint8_t lengths[] = {1, 4, 2, 2, 2, 4, 5, 1, 1};
+    static const uint8_t lengths[] = {1, 4, 2, 2, 2, 4, 5, 1, 1, 3, 3, 3, 7};
     const uint8_t *command = book;
     spans_len = 0;
     for (; command < book + book_len; command += lengths[*command]) {
         const uint8_t span[] = {6, command[1], command[2], command[2], command[3]};
         const size_t length = *command == 5 ? sizeof span : lengths[*command];
-        memcpy(spans + spans_len, *command == 5 ? span : command, length);
+        copy(spans + spans_len, *command == 5 ? span : command, length);
         spans_len += length;
     }
 }
@@ -181,11 +209,29 @@ static size_t depth(const char *name, void *(*call)(void *))
     return used;
 }
 
-/* Reads "zgv_NAME() ... BYTES" lines of the header's comment. Of two lines for one call, the second is for the largest book. */
-static int hold_header(const char *header, size_t used[SIZES][CALLS])
+/* The numbers, with commas, of which a text consists; 0 where it has others than one or two, or anything else. */
+static int numbers(const char *text, size_t found[2])
 {
-    size_t stated[SIZES][CALLS] = {{0}}, i, size;
-    int held = 1;
+    int count = 0;
+    for (;;) {
+        while (*text == ' ' || *text == '\n')
+            text++;
+        if (*text == '\0')
+            return count;
+        if (*text < '0' || *text > '9' || count == 2)
+            return 0;
+        found[count] = 0;
+        for (; (*text >= '0' && *text <= '9') || *text == ','; text++)
+            if (*text != ',')
+                found[count] = 10 * found[count] + (size_t)(*text - '0');
+        count++;
+    }
+}
+
+/* Reads the "zgv_NAME()  BYTES  BYTES" lines of the header's comment. The second number is for the largest book, the first for the
+   others; one alone is for all. */
+static int read_header(const char *header, size_t stated[SIZES][CALLS])
+{
     char line[256];
     FILE *file = fopen(header, "r");
     if (file == NULL) {
@@ -193,22 +239,25 @@ static int hold_header(const char *header, size_t used[SIZES][CALLS])
         return 0;
     }
     while (fgets(line, sizeof line, file) != NULL && strstr(line, "#ifndef") == NULL) {
-        char name[32], *bytes = strrchr(line, ' ');
-        if (sscanf(line, " * %31[a-z_](", name) != 1 || bytes == NULL)
+        char name[32];
+        int end = 0, count;
+        size_t found[2], i, size;
+        if (sscanf(line, " * %31[a-z_]()%n", name, &end) != 1 || end == 0 || (count = numbers(line + end, found)) == 0)
             continue;
         for (i = 0; i < CALLS; i++)
-            if (strcmp(name, calls[i].name) == 0) {
-                char *c, digits[16];
-                size_t n = 0;
-                for (c = bytes; *c != '\0' && n < 15; c++)
-                    if (*c >= '0' && *c <= '9')
-                        digits[n++] = *c;
-                digits[n] = '\0';
-                for (size = stated[0][i] == 0 ? 0 : SIZES - 1; size < SIZES; size++)
-                    stated[size][i] = (size_t)atol(digits);
-            }
+            for (size = 0; size < SIZES && strcmp(name, calls[i].name) == 0; size++)
+                stated[size][i] = found[size == SIZES - 1 ? count - 1 : 0];
     }
     fclose(file);
+    return 1;
+}
+
+static int hold_header(const char *header, size_t used[SIZES][CALLS])
+{
+    size_t stated[SIZES][CALLS] = {{0}}, i, size;
+    int held = 1;
+    if (!read_header(header, stated))
+        return 0;
     for (size = 0; size < SIZES; size++)
         for (i = 0; i < CALLS; i++)
             if (stated[size][i] < used[size][i] + MARGIN || stated[size][i] > ZGV_STACK_BYTES) {
@@ -227,18 +276,18 @@ int main(int argc, char **argv)
         fputs("usage: stack BOOK [HEADER]\n", stderr);
         return EXIT_FAILURE;
     }
-    book_len = fread(book, 1, sizeof book, file);
+    small_len = fread(small, 1, sizeof small, file);
     fclose(file);
     fill_records();
     base = depth("nothing", nothing);
     for (size = 0; size < SIZES; size++) {
+        fill_book(size);
         lengths[size] = book_len;
         fill_spans();
         for (i = 0; i < CALLS; i++) {
             size_t all = depth(calls[i].name, calls[i].call);
             used[size][i] = all > base ? all - base : 0;
         }
-        enlarge(size == 0 ? 3 : 4);
     }
     if (argc == 3)
         return hold_header(argv[2], used) ? EXIT_SUCCESS : EXIT_FAILURE;

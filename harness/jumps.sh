@@ -26,7 +26,7 @@ for function; do
         turned=$(printf '%o' $((0x$code ^ 1)))
         printf "\\$turned" | dd of="$copy" bs=1 seek=$((0x$at - text + offset + skip)) conv=notrunc status=none
         status=0
-        timeout 20 "$copy" --cases "$cases" --threads 1 >build/turned.out 2>&1 || status=$?
+        timeout 60 "$copy" --cases "$cases" --threads 1 >build/turned.out 2>&1 || status=$?
         total=$((total + 1))
         case $status in
         0) unseen=$((unseen + 1)); echo "unseen: $function, jump at $at" ;;

@@ -13,6 +13,10 @@
  * books that have it are read as ever, zgv_rewrite_book() puts SPANs in the place
  * of their STEPs, and zgv_read_book_strict() refuses a book that has one.
  *
+ * A rule has states 0 to 4,095. Commands 02 to 06 name one in a byte, so up to
+ * 255; 09 to 0C are START, ERROR, FINAL and SPAN with states of two bytes, the
+ * high byte first. Both forms may stand in one rule and mean the same states.
+ *
  * The library is for x86-64 Linux. FORMAT.md and PERFORMANCE.md, which this
  * header names, come with it: in share/doc/zagvulem where it is installed, in
  * docs/ of a tarball.
@@ -61,20 +65,20 @@
  * STACK
  *
  * The table of a book and the scratch of a printer are local to the call. Bytes
- * of stack to leave free for one:
+ * of stack to leave free for one, with a book of up to 8,192 bytes and with any:
  *
- *    zgv_lex_builtin()                          8,192
- *    zgv_lex(), a book of up to 8,192 bytes     24,576
- *    zgv_lex(), a longer book                   92,160
- *    zgv_read_book()                            73,728
- *    zgv_read_book_strict()                     73,728
- *    zgv_rule()                                 73,728
- *    zgv_rewrite_book()                         73,728
- *    zgv_print()                                143,360
- *    zgv_print_separated()                      151,552
+ *    zgv_lex_builtin()               8,192
+ *    zgv_lex()                      45,056     176,128
+ *    zgv_read_book()                61,440     192,512
+ *    zgv_read_book_strict()         61,440     192,512
+ *    zgv_rule()                     61,440     192,512
+ *    zgv_rewrite_book()             61,440     192,512
+ *    zgv_print()                   126,976     258,048
+ *    zgv_print_separated()         245,760     376,832
  *
  * Each is at least 4,096 more than bench/stack.c of the sources measures, for the
- * first call of a program that binds memset() only then. ZGV_STACK_BYTES is
+ * first call of a program that binds memset() and memcpy() only then. With the
+ * built-in book zgv_print_separated() is content with 135,168. ZGV_STACK_BYTES is
  * enough for every call.
  *
  * COST
@@ -119,20 +123,21 @@ extern "C" {
 
 /* ---- Version ------------------------------------------------------------ */
 
-#define ZGV_VERSION       "0.4.0"
+#define ZGV_VERSION       "0.5.0"
 #define ZGV_VERSION_MAJOR 0
-#define ZGV_VERSION_MINOR 4
+#define ZGV_VERSION_MINOR 5
 #define ZGV_VERSION_PATCH 0
 
 /* ---- Limits ------------------------------------------------------------- */
 
-#define ZGV_BOOK_BYTES       32768  /* bytes of a book */
+#define ZGV_BOOK_BYTES       65536  /* bytes of a book */
 #define ZGV_BOOK_RULES       32     /* rules of a book */
-#define ZGV_RULE_TRANSITIONS 512    /* transitions (STEP and SPAN) of one rule */
+#define ZGV_RULE_TRANSITIONS 4096   /* transitions (STEP and SPAN) of one rule */
+#define ZGV_RULE_STATES      4096   /* states of one rule, numbered from 0 */
 #define ZGV_TEXT_BYTES       65536  /* bytes of a text, to be cut or written */
 #define ZGV_LIST_TOKENS      65536  /* tokens of a list */
 #define ZGV_RECORD_BYTES     10     /* bytes of a token's record */
-#define ZGV_STACK_BYTES      155648 /* stack that is enough for every call */
+#define ZGV_STACK_BYTES      376832 /* stack that is enough for every call */
 
 /* Kinds of a rule, as in its RULE command. */
 #define ZGV_KIND_PLAIN     0
@@ -160,15 +165,16 @@ enum {
      * 3. The place is a byte of the book, from 0: the first one of the command,
      * unless said otherwise.
      */
-    ZGV_BOOK_TOO_LONG     = 1,   /* over 32,768 bytes; place 0. Of
+    ZGV_BOOK_TOO_LONG     = 1,   /* over 65,536 bytes; place 0. Of
                                     zgv_rewrite_book() also where the rewritten
                                     book would be that long */
     ZGV_CUT_OFF           = 2,   /* operands cut off; or the book stops before
                                     END, then the place is its length */
     ZGV_MISPLACED         = 3,   /* no command, or one not allowed here */
     ZGV_BYTES_AFTER_END   = 4,   /* bytes follow END; place of the first */
-    ZGV_TOO_MANY          = 5,   /* a 33rd rule, or a rule's 513th move */
-    ZGV_OUT_OF_RANGE      = 6,   /* tag 0, kind above 1, low above high */
+    ZGV_TOO_MANY          = 5,   /* a 33rd rule, or a rule's 4,097th move */
+    ZGV_OUT_OF_RANGE      = 6,   /* tag 0, kind above 1, low above high, or a
+                                    state above 4,095 */
     ZGV_TAG_TAKEN         = 7,   /* an earlier rule has this tag */
     ZGV_TWICE_OR_MISSING  = 8,   /* a second START or ERROR, or at CLOSE none */
     ZGV_OVERLAP           = 9,   /* two moves of a state share a byte */
@@ -217,12 +223,12 @@ static inline const char *zgv_refusal_text(unsigned number)
 {
     switch (number) {
     case ZGV_ACCEPTED:          return "accepted";
-    case ZGV_BOOK_TOO_LONG:     return "the book has more than 32,768 bytes";
+    case ZGV_BOOK_TOO_LONG:     return "the book has more than 65,536 bytes";
     case ZGV_CUT_OFF:           return "the book stops before its END, or inside a command";
     case ZGV_MISPLACED:         return "no command of a book, or one that may not stand here";
     case ZGV_BYTES_AFTER_END:   return "bytes follow the book's END";
-    case ZGV_TOO_MANY:          return "the book has a 33rd rule, or a rule a 513th move";
-    case ZGV_OUT_OF_RANGE:      return "a tag is 0, a kind above 1, or a move's low above its high";
+    case ZGV_TOO_MANY:          return "the book has a 33rd rule, or a rule a 4,097th move";
+    case ZGV_OUT_OF_RANGE:      return "a tag is 0, a kind above 1, a move's low above its high, or a state above 4,095";
     case ZGV_TAG_TAKEN:         return "an earlier rule of the book has the same tag";
     case ZGV_TWICE_OR_MISSING:  return "a rule has START or ERROR twice, or not at all";
     case ZGV_OVERLAP:           return "two moves of a rule leave one state at the same byte";
@@ -330,7 +336,7 @@ uint64_t zgv_read_book(const uint8_t *book, size_t book_len);
  * Refused: 1 to 13, and 33 at the first byte of the STEP that is met first. At one
  * command 33 stands after 3 and before all others: outside a rule a STEP is
  * refused by 3; inside one by 33, also where its operands are cut off or it is the
- * rule's 513th move.
+ * rule's 4,097th move.
  */
 uint64_t zgv_read_book_strict(const uint8_t *book, size_t book_len);
 

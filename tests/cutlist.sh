@@ -64,7 +64,7 @@ expect 'a refused book' <<'END'
 refused 7 25
 END
 
-letters 32769 x >book.bin
+letters 65537 x >book.bin
 expect 'a book that is too long' <<'END'
 refused 1 0
 END

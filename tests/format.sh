@@ -39,25 +39,29 @@ reads() {
     [ "$said" = "$1" ] || fail "$2: $said"
 }
 
-# moves COUNT WIDTH: a book of 32 rules with so many moves, of 4 or 5 bytes each, spread evenly
+# moves COUNT WIDTH: a book of 32 rules with so many moves, of 4, 5 or 7 bytes each, spread evenly
 moves() {
     awk -v count="$1" -v width="$2" 'BEGIN {
+        head = width == 7 ? "09 00 00 0a 00 ff 0b 00 01" : "02 00 03 ff 04 01"
+        move = width == 4 ? "05 %02x %02x 01\n" : width == 5 ? "06 %02x %02x %02x 01\n" : "0c 00 %02x %02x %02x 00 01\n"
         for (rule = 1; rule <= 32; rule++) {
-            printf "01 00 %02x 00 02 00 03 ff 04 01\n", rule
+            printf "01 00 %02x 00 %s\n", rule, head
             own = int(count / 32) + (rule <= count % 32)
             for (i = 0; i < own; i++)
-                printf width == 4 ? "05 %02x %02x 01\n" : "06 %02x %02x %02x 01\n", int(i / 256), i % 256, i % 256
+                printf move, int(i / 256), i % 256, i % 256
             print "07"
         }
         print "08"
     }' | make-book.sh >book.bin
 }
-moves 8103 4; reads 'rest 0 0' '8,103 STEPs in 32 rules'
+moves 16295 4; reads 'rest 0 0' '16,295 STEPs in 32 rules'
 "$modernize" book.bin spans.bin 2>said && fail 'a book that is full of STEPs is rewritten'
-grep -q 'more than 32768 .*(number 1)$' said || fail "of a book that is full of STEPs modernize says: $(cat said)"
-moves 8104 4; reads 'refused 1 0' '8,104 STEPs in 32 rules'
-moves 6483 5; reads 'rest 0 0' '6,483 SPANs in 32 rules'
-moves 6484 5; reads 'refused 1 0' '6,484 SPANs in 32 rules'
+grep -q 'more than 65536 .*(number 1)$' said || fail "of a book that is full of STEPs modernize says: $(cat said)"
+moves 16296 4; reads 'refused 1 0' '16,296 STEPs in 32 rules'
+moves 13036 5; reads 'rest 0 0' '13,036 SPANs in 32 rules'
+moves 13037 5; reads 'refused 1 0' '13,037 SPANs in 32 rules'
+moves 9298 7; reads 'rest 0 0' '9,298 SPANs of two bytes in 32 rules'
+moves 9299 7; reads 'refused 1 0' '9,299 SPANs of two bytes in 32 rules'
 
 # words RULES: a book of so many rules, each of 42 words of six letters that share no beginning but for the last two letters
 words() {
@@ -80,11 +84,45 @@ words() {
         print "08"
     }' | make-book.sh >book.bin
 }
-words 24; reads 'rest 0 0' '24 rules of 42 words of six letters'
-words 25; reads 'refused 1 0' '25 rules of 42 words of six letters'
+words 32; reads 'rest 0 0' '32 rules of 42 words of six letters'
 words 1
 printf 'AbcdefBbcdefjbcdef' >text.bin
 [ "$("$cutlist" | tail -n 1)" = 'rest 18 0' ] || fail 'words of a list are not cut'
+
+# pairs RULES: a book of so many rules, each of 676 words of six letters, one for each two letters that a word may begin with
+pairs() {
+    awk -v rules="$1" '
+        function two(n) { return sprintf("%02x %02x", int(n / 256), n % 256) }
+        function move(from, byte, to) { printf "0c %s %02x %02x %s\n", two(from), byte, byte, two(to); moves++ }
+        BEGIN {
+            for (rule = 1; rule <= rules; rule++) {
+                printf "01 00 %02x 00 09 00 00 0a 0f ff\n", rule
+                state = 0
+                for (a = 97; a <= 122; a++) {
+                    first = ++state
+                    move(0, a, first)
+                    for (b = 97; b <= 122; b++) {
+                        from = first
+                        for (letter = 1; letter < 6; letter++) {
+                            move(from, letter == 1 ? b : 101 + letter, ++state)
+                            from = state
+                        }
+                        print "0b " two(from)
+                    }
+                }
+                print "07"
+            }
+            print "08"
+            print moves >"moves"
+        }' | make-book.sh >book.bin
+}
+pairs 1
+[ "$(cat moves)" -eq 3406 ] || fail "676 words of six letters are $(cat moves) moves"
+[ "$(wc -c <book.bin)" -eq $((25881 + 1)) ] || fail "676 words of six letters are a book of $(wc -c <book.bin) bytes"
+printf 'abghijzzghijabghi' >text.bin
+[ "$("$cutlist" | tr '\n' /)" = '0 1 0 6/1 1 6 6/rest 12 5/' ] || fail 'words of a long list are not cut'
+pairs 2; : >text.bin; reads 'rest 0 0' 'two rules of 676 words of six letters'
+pairs 3; reads 'refused 1 0' 'three rules of 676 words of six letters'
 
 # refusals of a faulty hexadecimal text and of books that are no books
 echo '01 0' | make-book.sh >bad 2>said && fail 'make-book.sh takes a byte of one digit'

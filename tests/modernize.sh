@@ -57,6 +57,16 @@ is new <<'END'
 08
 END
 
+# commands with states of two bytes are copied, whatever their operands look like
+make-book.sh >old <<'END'
+01 00 01 00  09 05 00  0A 0F FF  0B 05 05  05 05 05 05  0C 05 00 05 05 05 05  0C 05 05 06 07 05 01  07  08
+END
+run 0 old long
+says 'old: 33 bytes, 1 rule, 1 STEP'
+is long <<'END'
+01 00 01 00  09 05 00  0A 0F FF  0B 05 05  06 05 05 05 05  0C 05 00 05 05 05 05  0C 05 05 06 07 05 01  07  08
+END
+
 # without a STEP, as what it has written, a book is copied
 run 0 new copy
 says 'new: 55 bytes, 2 rules, no STEP'
@@ -129,27 +139,27 @@ filled() { # MOVES FINALS
         print "07 08"
     }' | make-book.sh
 }
-filled '05 00 61 01 05 01 61 01' 16374 >old
-filled '06 00 61 61 01 06 01 61 61 01' 16374 >wanted.bin
+filled '05 00 61 01 05 01 61 01' 32758 >old
+filled '06 00 61 61 01 06 01 61 61 01' 32758 >wanted.bin
 run 0 old new
-says 'old: 32766 bytes, 1 rule, 2 STEPs'
-cmp wanted.bin new || fail 'a book of 32,768 bytes is rewritten otherwise'
-[ "$(wc -c <new)" -eq 32768 ] || fail "the rewritten book has $(wc -c <new) bytes"
+says 'old: 65534 bytes, 1 rule, 2 STEPs'
+cmp wanted.bin new || fail 'a book of 65,536 bytes is rewritten otherwise'
+[ "$(wc -c <new)" -eq 65536 ] || fail "the rewritten book has $(wc -c <new) bytes"
 run 0 new copy
-cmp new copy || fail 'a book of 32,768 bytes is changed'
-filled '05 00 61 01' 16377 >old
+cmp new copy || fail 'a book of 65,536 bytes is changed'
+filled '05 00 61 01' 32761 >old
 refuses old
-says "old: refused: its 32768 bytes would be more than 32768 with a SPAN in each STEP's place (number 1)"
-filled '05 00 61 01 05 01 61 01 05 01 62 01' 16372 >old
+says "old: refused: its 65536 bytes would be more than 65536 with a SPAN in each STEP's place (number 1)"
+filled '05 00 61 01 05 01 61 01 05 01 62 01' 32756 >old
 refuses old
-says "old: refused: its 32766 bytes would be more than 32768 with a SPAN in each STEP's place (number 1)"
-filled '06 00 61 61 01' 16377 >old
-[ "$(wc -c <old)" -eq 32769 ] || fail "the book has $(wc -c <old) bytes"
+says "old: refused: its 65534 bytes would be more than 65536 with a SPAN in each STEP's place (number 1)"
+filled '06 00 61 61 01' 32761 >old
+[ "$(wc -c <old)" -eq 65537 ] || fail "the book has $(wc -c <old) bytes"
 refuses old
-says 'old: refused: the book has more than 32,768 bytes (number 1, byte 0 of the book)'
+says 'old: refused: the book has more than 65,536 bytes (number 1, byte 0 of the book)'
 head -c 1000000 /dev/zero >old
 refuses old
-says 'old: refused: the book has more than 32,768 bytes (number 1, byte 0 of the book)'
+says 'old: refused: the book has more than 65,536 bytes (number 1, byte 0 of the book)'
 
 # refused books: their own file is left as it was too
 : >old

@@ -5,7 +5,7 @@ use crate::calls::{expected, Answer, Call};
 use crate::edges::{book, letter, record, Add};
 use crate::generate::{bytes_of, Rule};
 use crate::random::Random;
-use crate::reference::{Move, BOOK_BYTES, RULE_MOVES};
+use crate::reference::{Move, BOOK_BYTES, LAST_STATE, RULE_MOVES};
 
 pub fn branches(add: Add) {
     pairs(add);
@@ -15,9 +15,12 @@ pub fn branches(add: Add) {
     before_the_list(add);
     places(add);
     each_byte(add);
+    one_wide(add);
+    wide_among_many(add);
     chains(add);
-    doubled_chains(add);
+    branching_chains(add);
     stars(add);
+    wide_stars(add);
     full_books(add);
 }
 
@@ -29,12 +32,12 @@ struct Shape {
     word: Vec<u8>,
 }
 
-const ERROR: u8 = 9;
+const ERROR: u16 = 9;
 
 /// A move at one byte: from, byte, to.
-type Step = (u8, u8, u8);
+type Step = (u16, u8, u16);
 
-fn shape(name: &'static str, uses: bool, word: &[u8], start: u8, finals: &[u8], steps: &[Step]) -> Shape {
+fn shape(name: &'static str, uses: bool, word: &[u8], start: u16, finals: &[u16], steps: &[Step]) -> Shape {
     let moves = steps.iter().map(|&(from, byte, to)| (from, byte, byte, to)).collect();
     let rule = Rule { tag: 0, kind: 0, start, error: ERROR, finals: finals.to_vec(), moves };
     Shape { name, uses, rule, word: word.to_vec() }
@@ -47,7 +50,7 @@ fn shapes(o: u8, x: u8) -> Vec<Shape> {
 
 fn used(o: u8, x: u8) -> Vec<Shape> {
     let p = o | 0x80;
-    let s = |name, word: &[u8], finals: &[u8], steps: &[Step]| shape(name, true, word, 0, finals, steps);
+    let s = |name, word: &[u8], finals: &[u16], steps: &[Step]| shape(name, true, word, 0, finals, steps);
     vec![
         s("the only move", &[x], &[1], &[(0, x, 1)]),
         s("the first move", &[x, o], &[2], &[(0, x, 1), (1, o, 2)]),
@@ -79,7 +82,7 @@ fn used(o: u8, x: u8) -> Vec<Shape> {
 /// From no state behind the byte is a final one reached.
 fn dead_ends(o: u8, x: u8) -> Vec<Shape> {
     let p = o | 0x80;
-    let s = |name, word: &[u8], finals: &[u8], steps: &[Step]| shape(name, false, word, 0, finals, steps);
+    let s = |name, word: &[u8], finals: &[u16], steps: &[Step]| shape(name, false, word, 0, finals, steps);
     vec![
         s("no move", &[o], &[1], &[(0, o, 1)]),
         s("from the start to the error state", &[o], &[1], &[(0, o, 1), (0, x, ERROR)]),
@@ -99,7 +102,7 @@ fn dead_ends(o: u8, x: u8) -> Vec<Shape> {
 
 /// The state that the byte's move leaves is not reached from the start.
 fn unreached(o: u8, x: u8) -> Vec<Shape> {
-    let s = |name, word: &[u8], finals: &[u8], steps: &[Step]| shape(name, false, word, 0, finals, steps);
+    let s = |name, word: &[u8], finals: &[u16], steps: &[Step]| shape(name, false, word, 0, finals, steps);
     vec![
         s("from an unreached state to the error state", &[o], &[1], &[(0, o, 1), (5, x, ERROR), (5, o, 1)]),
         s("from an unreached state to the final state", &[o], &[1], &[(0, o, 1), (5, x, 1)]),
@@ -116,7 +119,7 @@ fn unreached(o: u8, x: u8) -> Vec<Shape> {
 
 /// Rules that match no string.
 fn nothing_matched(o: u8, x: u8) -> Vec<Shape> {
-    let s = |name, start, finals: &[u8], steps: &[Step]| shape(name, false, &[], start, finals, steps);
+    let s = |name, start, finals: &[u16], steps: &[Step]| shape(name, false, &[], start, finals, steps);
     vec![
         s("a loop at the start of a rule without final states", 0, &[], &[(0, x, 0)]),
         s("a round in a rule without final states", 0, &[], &[(0, x, 1), (1, x, 0)]),
@@ -129,13 +132,14 @@ fn nothing_matched(o: u8, x: u8) -> Vec<Shape> {
     ]
 }
 
-/// The rule with the states numbered from 255 down.
-fn turned(mut rule: Rule) -> Rule {
-    rule.start = 255 - rule.start;
-    rule.error = 255 - rule.error;
-    rule.finals.iter_mut().for_each(|s| *s = 255 - *s);
-    rule.moves.iter_mut().for_each(|m| (m.0, m.3) = (255 - m.0, 255 - m.3));
-    rule
+/// The rule with the states as they are, or numbered from 255, from a little above it, or from the last one down.
+fn turned(rule: Rule, turn: usize) -> Rule {
+    match turn % 4 {
+        0 => rule,
+        1 => rule.renamed(|s| 255 - s),
+        2 => rule.renamed(|s| 259 - s),
+        _ => rule.renamed(|s| LAST_STATE - s),
+    }
 }
 
 fn named(rule: &Rule, tag: u16, kind: u8) -> Rule {
@@ -173,8 +177,9 @@ fn pairs(add: Add) {
             let shared = (plain.uses && separator.uses).then_some(X);
             let name = format!("the byte x: {} | {}", plain.name, separator.name);
             let mut rules = vec![named(&plain.rule, 1, 0), named(&separator.rule, 2, 1)];
-            if i % 2 == 1 {
-                rules[0] = turned(rules[0].clone());
+            rules[0] = turned(rules[0].clone(), i + k / 4);
+            if i % 4 == 2 {
+                rules[1] = turned(rules[1].clone(), k);
             }
             if k % 2 == 1 {
                 rules.reverse();
@@ -213,9 +218,7 @@ fn spans(add: Add) {
             for (low, high) in [(X - 1, X), (X, X + 1), (X - 1, X + 1), (X - 8, X + 2)] {
                 let mut rule = named(&one.rule, 3, kind);
                 rule.moves.iter_mut().filter(|m| m.1 == X).for_each(|m| (m.1, m.2) = (low, high));
-                if i % 2 == 1 {
-                    rule = turned(rule);
-                }
+                rule = turned(rule, i);
                 for byte in [low - 1, low, X, high, high + 1] {
                     let used = one.uses && low <= byte && byte <= high;
                     let name = format!("a SPAN from {low:02X} to {high:02X} and the byte {byte:02X}: {}", one.name);
@@ -324,8 +327,50 @@ fn each_byte(add: Add) {
     }
 }
 
+/// Each state of each shape alone under a number on either side of 256, or the last one, in the first or the last rule.
+fn one_wide(add: Add) {
+    for one in shapes(PLAIN, X) {
+        for state in [0, 1, 2, 3, 4, 5, 6, ERROR] {
+            for number in [255, 256, LAST_STATE] {
+                let rule = named(&one.rule, 3, 0).renamed(|s| if s == state { number } else { s });
+                let name = format!("the byte x, the state {state} as {number}: {}", one.name);
+                let mut rules = vec![rule, letter(1, 0, b'1', true), letter(2, 1, X, true)];
+                if (state as usize + name.len()) % 2 == 1 {
+                    rules.reverse();
+                }
+                add_call(add, &name, rules, b"1", &[X], one.uses.then_some(X));
+            }
+        }
+    }
+}
+
+/// A rule that is larger than the others, at each end of them, and the byte in it or in another one: a state of two bytes, or more
+/// than 512 moves.
+fn wide_among_many(add: Add) {
+    let broad = |count: usize| -> Vec<Move> {
+        (0..count).map(|i| (20 + (i / 100) as u16, (i % 100) as u8 + 150, (i % 100) as u8 + 150, 19)).collect()
+    };
+    for one in shapes(PLAIN, X) {
+        for (at, other) in [(0, 3), (1, 3), (3, 0), (2, 3)] {
+            for large in 0..6 {
+                let mut rules: Vec<Rule> = (0..4).map(|k| letter(10 + k, 0, b'1', true)).collect();
+                rules[at] = named(&one.rule, 3, 0);
+                let mark = &mut rules[if large % 2 == 0 { at } else { other }];
+                match large {
+                    0 | 1 => mark.moves.extend(broad(512 - mark.moves.len())),
+                    2 | 3 => mark.moves.extend(broad(513 - mark.moves.len())),
+                    _ => mark.moves.push((256, 1, 1, 257)),
+                }
+                rules.extend([letter(1, 0, b'2', true), letter(2, 1, X, true)]);
+                let name = format!("the byte x in rule {at}, number {large} of large rules: {}", one.name);
+                add_call(add, &name, rules, b"2", &[X], one.uses.then_some(X));
+            }
+        }
+    }
+}
+
 /// A chain through these states: from each to the next at `own`, but at the byte of `odd` in the move of that number.
-fn chain(states: &[u8], error: u8, start: usize, finals: &[usize], own: u8, odd: (usize, u8)) -> Rule {
+fn chain(states: &[u16], error: u16, start: usize, finals: &[usize], own: u8, odd: (usize, u8)) -> Rule {
     let byte = |i| if i == odd.0 { odd.1 } else { own };
     Rule {
         tag: 0,
@@ -337,14 +382,15 @@ fn chain(states: &[u8], error: u8, start: usize, finals: &[usize], own: u8, odd:
     }
 }
 
-/// States in the order of a chain: numbered upward, downward, or without order; and the error state, which is none of them.
-fn numberings(count: usize) -> Vec<(&'static str, Vec<u8>, u8)> {
-    let up: Vec<u8> = (0..count).map(|s| s as u8).collect();
-    let down: Vec<u8> = (0..count).map(|s| 255 - s as u8).collect();
-    let mut shuffled: Vec<u8> = (0..=255).filter(|&s| s != 100).collect();
+/// States in the order of a chain: numbered upward, downward, or without order; and the error state, which is none of them. The
+/// highest number is `last`.
+fn numberings(count: usize, last: u16) -> Vec<(&'static str, Vec<u16>, u16)> {
+    let up: Vec<u16> = (0..count as u16).collect();
+    let down: Vec<u16> = (0..count as u16).map(|s| last - s).collect();
+    let mut shuffled: Vec<u16> = (0..=last).filter(|&s| s != 100).collect();
     Random::of(count as u64, 0).shuffle(&mut shuffled);
     shuffled.truncate(count);
-    vec![("upward", up, 255), ("downward", down, 0), ("without order", shuffled, 100)]
+    vec![("upward", up, last), ("downward", down, 0), ("without order", shuffled, 100)]
 }
 
 /// The moves as they are written in the book.
@@ -355,22 +401,29 @@ fn orders(moves: &[Move]) -> Vec<(&'static str, Vec<Move>)> {
     vec![("first to last", moves.to_vec()), ("last to first", reversed), ("without order", shuffled)]
 }
 
-/// Chains of up to 255 states with the start, the final state and the byte anywhere in it: what is before the start is not reached,
-/// what is after the final state is a dead end.
+/// Chains of up to 4,095 states with the start, the final state and the byte anywhere in it: what is before the start is not
+/// reached, what is after the final state is a dead end.
 fn chains(add: Add) {
-    for count in [9, 255] {
-        let last = count - 1;
-        for (numbered, states, error) in numberings(count) {
+    // the number of states and the highest one: all below 256 or not, and no more than 512 moves or more
+    for (count, last) in
+        [(9, 255), (9, 260), (255, 255), (256, 256), (512, LAST_STATE), (514, 600), (4_095, LAST_STATE)]
+    {
+        let end = count - 1;
+        for (numbered, states, error) in numberings(count, last) {
             for start in [0, count / 3] {
-                for end in [start + 1, count / 2, last - 1, last] {
-                    for at in [0, start.max(1) - 1, start, end - 1, end.min(last - 1), last - 1] {
-                        let shared = (start <= at && at < end).then_some(X);
-                        let kind = (start + end + at) as u8 % 2;
-                        let rule = chain(&states, error, start, &[end], PLAIN, (at, X));
+                for finish in [start + 1, count / 2, end - 1, end] {
+                    for at in [0, start.max(1) - 1, start, finish - 1, finish.min(end - 1), end - 1] {
+                        // of the longest ones fewer
+                        if count > 600 && (finish == end - 1 || at + 1 == start) {
+                            continue;
+                        }
+                        let shared = (start <= at && at < finish).then_some(X);
+                        let kind = (start + finish + at) as u8 % 2;
+                        let rule = chain(&states, error, start, &[finish], PLAIN, (at, X));
                         for (written, moves) in orders(&rule.moves) {
                             let rule = Rule { tag: 3, kind, moves, ..rule.clone() };
                             let name = format!(
-                                "{count} states numbered {numbered}, moves written {written}, start {start}, final {end}, the byte at {at}"
+                                "{count} states numbered {numbered}, moves written {written}, start {start}, final {finish}, the byte at {at}"
                             );
                             let rules = vec![
                                 letter(4, 1 - kind, X, true),
@@ -387,21 +440,36 @@ fn chains(add: Add) {
     }
 }
 
-/// A chain of 255 states with two moves from each to the next, as many moves as a rule may have, and a dead end or not.
-fn doubled_chains(add: Add) {
-    for (numbered, states, error) in numberings(255) {
-        for end in [127, 254] {
-            for at in [0, end - 1, end.min(253), 253] {
-                let mut rule = chain(&states, error, 0, &[end], PLAIN, (0, PLAIN));
-                let second = chain(&states, error, 0, &[end], b'b', (at, X)).moves;
-                rule.moves.extend(second);
-                let loops = RULE_MOVES - rule.moves.len();
-                rule.moves.extend((0..loops as u8).map(|b| (states[254], b, b, states[254])));
-                for (written, moves) in orders(&rule.moves) {
-                    let rule = Rule { tag: 3, moves, ..rule.clone() };
-                    let name = format!("{RULE_MOVES} moves, states numbered {numbered}, written {written}, final {end}, the byte at {at}");
-                    let rules = vec![letter(1, 0, b'1', true), rule, letter(2, 1, X, true)];
-                    add_call(add, &name, rules, b"1", &[X], (at < end).then_some(X));
+/// Chains with several moves from each state to the next, on either side of 512 moves and as many as a rule may have, and a dead end
+/// or not.
+fn branching_chains(add: Add) {
+    let sizes = [
+        (255, 255, 2, 512),
+        (255, 255, 2, 513),
+        (256, 256, 2, 512),
+        (255, 255, 16, RULE_MOVES),
+        (2_047, LAST_STATE, 2, RULE_MOVES),
+        (4_095, LAST_STATE, 1, RULE_MOVES),
+    ];
+    for (count, last, branches, total) in sizes {
+        for (numbered, states, error) in numberings(count, last) {
+            let top = count - 1;
+            for end in [count / 2, top] {
+                for at in [0, end - 1, end.min(top - 1), top - 1] {
+                    // each branch at a byte of its own, the last one with the odd byte
+                    let branch = |b: usize| {
+                        let odd = if b + 1 == branches { (at, X) } else { (0, 200 + b as u8) };
+                        chain(&states, error, 0, &[end], 200 + b as u8, odd).moves
+                    };
+                    let mut moves: Vec<Move> = (0..branches).flat_map(branch).collect();
+                    let loops = total - moves.len();
+                    moves.extend((0..loops as u8).map(|b| (states[top], b, b, states[top])));
+                    for (written, moves) in orders(&moves) {
+                        let rule = Rule { tag: 3, kind: 0, start: states[0], error, finals: vec![states[end]], moves };
+                        let name = format!("{total} moves, {count} states numbered {numbered}, written {written}, final {end}, the byte at {at}");
+                        let rules = vec![letter(1, 0, b'1', true), rule, letter(2, 1, X, true)];
+                        add_call(add, &name, rules, b"1", &[X], (at < end).then_some(X));
+                    }
                 }
             }
         }
@@ -412,7 +480,8 @@ fn doubled_chains(add: Add) {
 /// end or to itself. That one may be unreached. Either the end is final, or the states around the start are.
 fn stars(add: Add) {
     let (way, byte) = (254, 255);
-    for (numbered, states, error) in numberings(255) {
+    let wide = numberings(255, 259).into_iter().chain(numberings(255, LAST_STATE));
+    for (numbered, states, error) in numberings(255, 255).into_iter().chain(wide) {
         let (start, around, end) = (states[0], &states[1..254], states[254]);
         for at in [0, 126, 252] {
             for (reached, to) in [(true, end), (true, around[at]), (false, end), (false, around[at])] {
@@ -435,28 +504,72 @@ fn stars(add: Add) {
     }
 }
 
-/// Books of 32 chains, as long as a book may be, with the byte in the first, the last or one between them, before or after the
-/// last final state.
-fn full_books(add: Add) {
-    for (numbered, states, error) in numberings(253) {
-        for one in [0, 15, 16, 31] {
-            for at in [100, 220] {
-                let mut rules: Vec<Rule> = Vec::new();
-                for k in 0..32 {
-                    let (kind, own) = [(0, PLAIN), (1, BLANK)][k % 2];
-                    // the other kind uses the byte too
-                    let byte = if k == one || k == (one + 17) % 32 { X } else { own };
-                    let rule = chain(&states, error, 0, &[1, 200], own, (if k == one { at } else { 50 }, byte));
-                    let (_, moves) = orders(&rule.moves).swap_remove(k % 3);
-                    rules.push(Rule { tag: k as u16 + 1, kind, moves, ..rule });
+/// A start with eight states around it, each of which has 255 around it, and an end that each of these has a move to, but for one
+/// that has a move at the byte: to the end or to itself. That one may be unreached. Either the end is final, or one of its
+/// neighbours.
+fn wide_stars(add: Add) {
+    let (way, byte) = (b'w', 255);
+    let (hubs, each) = (8, 255);
+    let count = 1 + hubs + hubs * each + 1;
+    for (numbered, states, error) in numberings(count, LAST_STATE) {
+        let (start, end) = (states[0], states[count - 1]);
+        let (centres, around) = (&states[1..=hubs], &states[1 + hubs..count - 1]);
+        for at in [0, 1_111, around.len() - 1] {
+            for (reached, to) in [(true, end), (true, around[at]), (false, end), (false, around[at])] {
+                let mut moves: Vec<Move> = (0..hubs).map(|h| (start, h as u8, h as u8, centres[h])).collect();
+                let inward = (0..around.len()).filter(|&i| reached || i != at);
+                moves.extend(inward.map(|i| (centres[i / each], (i % each) as u8, (i % each) as u8, around[i])));
+                let out = |i| if i == at { (around[i], byte, byte, to) } else { (around[i], way, way, end) };
+                moves.extend((0..around.len()).map(out));
+                for (finals, word) in [(vec![end], &[0, 1, way][..]), (vec![around[1], around[at]], &[0, 1])] {
+                    let live = reached && finals.contains(&to);
+                    for (written, moves) in orders(&moves) {
+                        let known = if reached { "reached" } else { "unreached" };
+                        let name = format!(
+                            "a star of {count} states numbered {numbered}, written {written}, state {at} {known}"
+                        );
+                        let star = Rule { tag: 1, kind: 0, start, error, finals: finals.clone(), moves };
+                        let rules = vec![star, letter(2, 1, byte, true)];
+                        add_call(add, &name, rules, word, &[byte], live.then_some(byte));
+                    }
                 }
-                // what is left is an odd number: a SPAN takes five bytes, each FINAL two
-                rules[31].moves.push((states[252], 0, 1, states[252]));
-                let left = BOOK_BYTES - book(rules.clone()).bytes().len();
-                rules[31].finals.extend(vec![states[1]; left / 2]);
-                assert_eq!(book(rules.clone()).bytes().len(), BOOK_BYTES);
-                let name = format!("32 chains, states numbered {numbered}, the byte at {at} of rule {one}");
-                add_call(add, &name, rules, &[PLAIN], &[BLANK], (at < 200).then_some(X));
+            }
+        }
+    }
+}
+
+/// Books of 32 chains, as long as a book may be, with the byte in the first, the last or one between them, before or after the
+/// last final state: of states below 256, of states beyond, and with one rule of these among those.
+fn full_books(add: Add) {
+    for (last, far) in [(255, 32), (LAST_STATE, 32), (255, 0), (255, 16), (255, 31)] {
+        let count = if last == 255 { 253 } else { 285 };
+        for (numbered, states, error) in numberings(count, last) {
+            for one in [0, 15, 16, 31] {
+                for at in [100, 220] {
+                    let mut rules: Vec<Rule> = Vec::new();
+                    for k in 0..32 {
+                        let (kind, own) = [(0, PLAIN), (1, BLANK)][k % 2];
+                        // the other kind uses the byte too
+                        let byte = if k == one || k == (one + 17) % 32 { X } else { own };
+                        let rule = chain(&states, error, 0, &[1, 200], own, (if k == one { at } else { 50 }, byte));
+                        let (_, moves) = orders(&rule.moves).swap_remove(k % 3);
+                        let rule = Rule { tag: k as u16 + 1, kind, moves, ..rule };
+                        rules.push(if k == far { rule.renamed(|s| LAST_STATE - s) } else { rule });
+                    }
+                    let bytes = |rules: &[Rule]| book(rules.to_vec()).bytes().len();
+                    // an odd number that is left: a SPAN takes five or seven bytes, each FINAL of a state below 256 two
+                    if (BOOK_BYTES - bytes(&rules)) % 2 == 1 {
+                        rules[31].moves.push((states[count - 1], 0, 1, states[count - 1]));
+                    }
+                    let before = |s: &u16| states.iter().position(|t| t == s).map_or(true, |i| 0 < i && i < 200);
+                    let short = (1..255).find(|s| before(s) && *s != error).expect("there is one");
+                    let left = BOOK_BYTES - bytes(&rules);
+                    rules[31].finals.extend(vec![short; left / 2]);
+                    assert_eq!(bytes(&rules), BOOK_BYTES);
+                    let name =
+                        format!("32 chains up to {last}, {far}, numbered {numbered}, the byte at {at} of rule {one}");
+                    add_call(add, &name, rules, &[PLAIN], &[BLANK], (at < 200).then_some(X));
+                }
             }
         }
     }

@@ -6,6 +6,7 @@ use crate::fewest;
 use crate::generate::{bytes_of, Book, Rule};
 use crate::reference::{self as paper, Record};
 use crate::rewriting;
+use crate::wide;
 
 /// A rule that matches one or more of `letter`, or exactly one where `once`.
 pub fn letter(tag: u16, kind: u8, letter: u8, once: bool) -> Rule {
@@ -17,22 +18,23 @@ pub fn letter(tag: u16, kind: u8, letter: u8, once: bool) -> Rule {
 }
 
 /// A rule with `count` moves of one byte each, 256 from a state.
-fn wide(tag: u16, count: usize) -> Rule {
-    let moves = (0..count).map(|i| ((i / 256) as u8, i as u8, i as u8, (i / 256 + 1) as u8)).collect();
+fn broad(tag: u16, count: usize) -> Rule {
+    let moves = (0..count).map(|i| ((i / 256) as u16, i as u8, i as u8, (i / 256 + 1) as u16)).collect();
     Rule { tag, kind: 0, start: 0, error: 255, finals: vec![1], moves }
 }
 
-/// A book of just so many bytes, with as many moves as they can hold: the rule for "a", then rules of moves alone.
-fn crowded(length: usize) -> Vec<u8> {
+/// A book of just so many bytes, with as many moves as they can hold, and up to `most` in a rule: the rule for "a", then rules of
+/// moves alone.
+fn crowded(length: usize, most: usize) -> Vec<u8> {
     let mut bytes = book(vec![letter(1, 0, b'a', true)]).bytes();
     bytes.pop();
     let mut tag = 1;
     while bytes.len() + 1 < length {
         // RULE, START, ERROR and CLOSE take nine bytes, a STEP four; what is left over is no less than nine again, or nothing
         let left = length - 1 - bytes.len() - 9;
-        let mut moves = (left / 4).min(512);
-        if moves == 512 && left > 4 * 512 && left < 4 * 512 + 13 {
-            moves -= 4;
+        let mut moves = (left / 4).min(most);
+        if moves == most && left > 4 * most && left < 4 * most + 13 {
+            moves -= 8;
         }
         let last = left - 4 * moves < 9;
         let spare = if last { left - 4 * moves } else { 0 };
@@ -50,6 +52,17 @@ fn crowded(length: usize) -> Vec<u8> {
     }
     bytes.push(paper::END);
     assert_eq!(bytes.len(), length);
+    bytes
+}
+
+/// So many moves in a rule that the largest book has 32 rules.
+const FEW: usize = 530;
+
+/// The same with one more command, a wide one, at the end of the last rule.
+fn wide_at_last(length: usize, command: &[u8]) -> Vec<u8> {
+    let mut bytes = crowded(length - command.len(), FEW);
+    let close = bytes.len() - 2;
+    bytes.splice(close..close, command.iter().copied());
     bytes
 }
 
@@ -92,6 +105,7 @@ pub fn calls() -> Vec<(String, Call)> {
     dead::branches(&mut add);
     fewest::lists(&mut add);
     rewriting::books(&mut add);
+    wide::books(&mut add);
     all
 }
 
@@ -102,7 +116,7 @@ fn books(add: Add) {
     add("END alone", Call::read_book(&[8]));
     let a = book(vec![letter(1, 0, b'a', true)]).bytes();
     assert_eq!(a.len(), 16);
-    for length in [32_766, 32_768, 32_769, 32_770, 40_000] {
+    for length in [65_534, 65_536, 65_537, 65_538, 80_000] {
         // FINAL may be repeated: it fills a book up by two bytes
         let mut filled = a[..10].to_vec();
         while filled.len() + 6 + 2 <= length {
@@ -113,9 +127,15 @@ fn books(add: Add) {
         add(&format!("a book of {length} bytes"), Call::read_book(&filled));
     }
     // the sizes of books at which a larger table is used
-    for size in [1_024, 2_048, 4_096, 8_192, 16_384, 32_768] {
+    for size in [1_024, 2_048, 4_096, 8_192, 16_384, 32_768, 65_536] {
         for length in [size - 1, size, size + 1] {
-            add(&format!("moves in a book of {length} bytes"), Call::read_book(&crowded(length)));
+            let name = format!("moves in a book of {length} bytes");
+            add(&name, Call::read_book(&crowded(length, paper::RULE_MOVES)));
+            add(&name, Call::read_book(&crowded(length, FEW)));
+            add(&name, Call::read_book(&wide::crowded(length)));
+            for command in [&[paper::WIDE_FINAL, 1, 0][..], &[paper::WIDE_SPAN, 1, 0, 0, 255, 15, 255]] {
+                add(&format!("{name}, a wide state at last"), Call::read_book(&wide_at_last(length, command)));
+            }
         }
     }
     for rules in [31, 32, 33, 34] {
@@ -126,22 +146,22 @@ fn books(add: Add) {
         zero.rules.last_mut().expect("there are rules").tag = 0;
         add(&format!("{rules} rules, the last with tag 0"), Call::read_book(&zero.bytes()));
     }
-    for moves in [511, 512, 513, 514] {
-        let bytes = book(vec![letter(9, 0, b'a', true), wide(1, moves)]).bytes();
+    for moves in [511, 512, 513, 4_095, 4_096, 4_097, 4_098] {
+        let bytes = book(vec![letter(9, 0, b'a', true), broad(1, moves)]).bytes();
         add(&format!("{moves} moves in a rule"), Call::read_book(&bytes));
-        let mut bad = book(vec![wide(1, moves)]);
+        let mut bad = book(vec![broad(1, moves)]);
         bad.rules[0].moves.last_mut().expect("there are moves").1 = 255;
         bad.rules[0].moves.last_mut().expect("there are moves").2 = 0;
         add(&format!("{moves} moves, the last with low above high"), Call::read_book(&bad.bytes()));
     }
     // as many moves as a book can hold
-    let mut full: Vec<Rule> = (1..=15).map(|t| wide(t, 512)).collect();
-    full.push(wide(16, 467));
+    let mut full: Vec<Rule> = (1..=3).map(|t| broad(t, paper::RULE_MOVES)).collect();
+    full.push(broad(4, 4_084));
     let bytes = book(full).bytes();
-    assert!(bytes.len() > 32_700 && bytes.len() <= paper::BOOK_BYTES);
+    assert!(bytes.len() > 65_500 && bytes.len() <= paper::BOOK_BYTES);
     add("a book full of moves", Call::read_book(&bytes));
     add("cutting by a book full of moves", Call::lex(&bytes, b"abc\x00\xFF", room(5)));
-    // a chain through every state
+    // a chain through every state of one byte
     let chain = Rule {
         tag: 1,
         kind: 0,
@@ -179,7 +199,7 @@ fn rules(add: Add) {
     for index in 0..4 {
         add("rules with RULE's code among their operands", Call::rule(&bytes, index));
     }
-    let full = crowded(32_768);
+    let full = crowded(paper::BOOK_BYTES, FEW);
     for index in [0, 1, 15, 16, 17, 31, 32] {
         add("a rule of a book full of moves", Call::rule(&full, index));
     }
@@ -197,7 +217,7 @@ fn faults(add: Add) {
             changed[at] = byte;
             add("the book of 16 bytes with a byte changed", Call::read_book(&changed));
         }
-        for code in 0..=9 {
+        for code in 0..=13 {
             let mut cut = a[..at].to_vec();
             cut.push(code);
             add("the book of 16 bytes, then another command", Call::read_book(&cut));

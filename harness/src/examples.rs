@@ -4,11 +4,9 @@
 use crate::calls::{self, Answer, Call, Operation, Outcome, BUILTIN};
 use crate::generate::{bytes_of, Book, Rule};
 use crate::library::{Against, Library};
-use crate::reference::{self as paper, Record};
+use crate::reference::{self as paper, Move, Record};
 
-type Moves = Vec<(u8, u8, u8, u8)>;
-
-fn rule(tag: u16, kind: u8, finals: &[u8], moves: Moves) -> Rule {
+fn rule(tag: u16, kind: u8, finals: &[u16], moves: Vec<Move>) -> Rule {
     Rule { tag, kind, start: 0, error: 9, finals: finals.to_vec(), moves }
 }
 
@@ -34,10 +32,10 @@ fn book_c() -> Vec<u8> {
     Book { rules: vec![rule(1, 0, &[2], of_if), rule(2, 0, &[1], letters)] }.bytes()
 }
 
-/// A book of one rule with `count` moves.
+/// A book of one rule with `count` moves, 256 from a state.
 fn moves(count: usize) -> Vec<u8> {
-    let all = (0..count).map(|i| ((i / 256) as u8, i as u8, i as u8, 3)).collect();
-    Book { rules: vec![rule(1, 0, &[3], all)] }.bytes()
+    let all = (0..count).map(|i| ((i / 256) as u16, i as u8, i as u8, 3)).collect();
+    Book { rules: vec![Rule { error: 99, ..rule(1, 0, &[3], all) }] }.bytes()
 }
 
 const SIXTEEN: [u8; 16] = [1, 0, 1, 0, 2, 0, 3, 2, 4, 1, 5, 0, 0x61, 1, 7, 8];
@@ -115,8 +113,8 @@ fn all() -> Vec<(bool, &'static str, &'static str, Call)> {
         (false, "a text of 65,537 bytes", "refused 14 at 0", cut(&SIXTEEN, &vec![b'a'; 65_537])),
         (false, "built-in, a text of 65,536 bytes", "65536 tokens, rest 65536", built_in(&vec![b'['; 65_536])),
         (false, "built-in, a text of 65,537 bytes", "refused 14 at 0", built_in(&vec![b'['; 65_537])),
-        (false, "512 moves in a rule", "1 rule", Call::read_book(&moves(512))),
-        (false, "513 moves in a rule", "refused 5 at 2058", Call::read_book(&moves(513))),
+        (false, "4096 moves in a rule", "1 rule", Call::read_book(&moves(4_096))),
+        (false, "4097 moves in a rule", "refused 5 at 16394", Call::read_book(&moves(4_097))),
         (false, "the empty book", "refused 2 at 0", Call::read_book(b"")),
     ]
 }

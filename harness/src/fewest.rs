@@ -77,8 +77,8 @@ fn joined(words: &[&[u8]], separator: &[u8], way: &[usize]) -> Vec<u8> {
 
 /// Every list of up to five tokens by books in which a token is read on over several others, in modes 1 and 2.
 pub fn lists(add: Add) {
-    let word = |tag: u16, word: &[u8], finals: &[u8]| {
-        let moves = word.iter().enumerate().map(|(i, &b)| (i as u8, b, b, i as u8 + 1)).collect();
+    let word = |tag: u16, word: &[u8], finals: &[u16]| {
+        let moves = word.iter().enumerate().map(|(i, &b)| (i as u16, b, b, i as u16 + 1)).collect();
         Rule { tag, kind: 0, start: 0, error: 9, finals: finals.to_vec(), moves }
     };
     let blanks = letter(9, 1, b' ', false);
@@ -101,11 +101,17 @@ pub fn lists(add: Add) {
         ),
     ];
     for (name, rules, tokens) in books {
-        let bytes = book(rules.into_iter().chain([blanks.clone()]).collect()).bytes();
-        for list in all_lists(&tokens, 5) {
-            for mode in [1, 2] {
-                let call = Call::print_separated(&bytes, record(9, 4, 1), mode, bytes_of(&list), pool, vec![0xEE; 48]);
-                add(&format!("{name}, {} tokens in mode {mode}", list.len()), call);
+        let rules: Vec<Rule> = rules.into_iter().chain([blanks.clone()]).collect();
+        // states below 256, around it, and the last ones
+        let wide = rules.iter().map(|r| r.clone().renamed(|s| if s < 3 { 254 + s } else { 4_095 - s })).collect();
+        for (what, rules, longest) in [("", rules, 5), (", wide states", wide, 4)] {
+            let bytes = book(rules).bytes();
+            for list in all_lists(&tokens, longest) {
+                for mode in [1, 2] {
+                    let call =
+                        Call::print_separated(&bytes, record(9, 4, 1), mode, bytes_of(&list), pool, vec![0xEE; 48]);
+                    add(&format!("{name}{what}, {} tokens in mode {mode}", list.len()), call);
+                }
             }
         }
     }

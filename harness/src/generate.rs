@@ -2,42 +2,59 @@
 
 use crate::calls::{self, Answer, Call};
 use crate::random::Random;
-use crate::reference::{self as paper, Record};
+use crate::reference::{self as paper, Command, Move, Record, Width};
 use crate::rewriting;
+use std::collections::BTreeSet;
 
 /// A rule as its parts, from which its commands are written.
 #[derive(Clone)]
 pub struct Rule {
     pub tag: u16,
     pub kind: u8,
-    pub start: u8,
-    pub error: u8,
-    pub finals: Vec<u8>,
-    /// from, low, high, to
-    pub moves: Vec<(u8, u8, u8, u8)>,
+    pub start: u16,
+    pub error: u16,
+    pub finals: Vec<u16>,
+    pub moves: Vec<Move>,
+}
+
+/// The shortest command of a move.
+pub fn move_command((from, low, high, to): Move) -> Command {
+    match (u8::try_from(from), u8::try_from(to)) {
+        (Ok(from), Ok(to)) if low == high => Command::Step { from, byte: low, to },
+        (Ok(_), Ok(_)) => Command::Span { width: Width::Short, from, low, high, to },
+        _ => Command::Span { width: Width::Wide, from, low, high, to },
+    }
 }
 
 impl Rule {
-    pub fn commands(&self) -> Vec<Vec<u8>> {
-        let [high, low] = self.tag.to_be_bytes();
+    /// Its commands, the short ones wherever they serve.
+    fn parts(&self) -> Vec<Command> {
+        let width = |s: u16| if s < 256 { Width::Short } else { Width::Wide };
         let mut all = vec![
-            vec![paper::RULE, high, low, self.kind],
-            vec![paper::START, self.start],
-            vec![paper::ERROR, self.error],
+            Command::Rule { tag: self.tag, kind: self.kind },
+            Command::Start(width(self.start), self.start),
+            Command::Error(width(self.error), self.error),
         ];
-        all.extend(self.finals.iter().map(|&s| vec![paper::FINAL, s]));
-        for &(from, low, high, to) in &self.moves {
-            if low == high {
-                all.push(vec![paper::STEP, from, low, to]);
-            } else {
-                all.push(vec![paper::SPAN, from, low, high, to]);
-            }
-        }
-        all.push(vec![paper::CLOSE]);
+        all.extend(self.finals.iter().map(|&s| Command::Final(width(s), s)));
+        all.extend(self.moves.iter().copied().map(move_command));
+        all.push(Command::Close);
         all
     }
 
-    fn target(&self, state: u8, byte: u8) -> u8 {
+    pub fn commands(&self) -> Vec<Vec<u8>> {
+        self.parts().into_iter().map(Command::bytes).collect()
+    }
+
+    /// The states under other names.
+    pub fn renamed(mut self, name: impl Fn(u16) -> u16) -> Rule {
+        self.start = name(self.start);
+        self.error = name(self.error);
+        self.finals.iter_mut().for_each(|s| *s = name(*s));
+        self.moves.iter_mut().for_each(|m| (m.0, m.3) = (name(m.0), name(m.3)));
+        self
+    }
+
+    fn target(&self, state: u16, byte: u8) -> u16 {
         self.moves.iter().find(|m| m.0 == state && m.1 <= byte && byte <= m.2).map_or(self.error, |m| m.3)
     }
 
@@ -129,18 +146,18 @@ fn words_rule(r: &mut Random, letters: &[u8]) -> Rule {
                 continue;
             }
             let from = states.iter().position(|s| s == &word[..n - 1]).expect("its beginning is there");
-            rule.moves.push((from as u8, word[n - 1], word[n - 1], states.len() as u8));
+            rule.moves.push((from as u16, word[n - 1], word[n - 1], states.len() as u16));
             states.push(word[..n].to_vec());
         }
         let end = states.iter().position(|s| *s == word).expect("the word is there");
-        rule.finals.push(end as u8);
+        rule.finals.push(end as u16);
     }
-    rule.error = states.len() as u8;
+    rule.error = states.len() as u16;
     if r.once_in(3) {
-        let state = r.from(1, states.len() - 1) as u8;
+        let state = r.from(1, states.len() - 1) as u16;
         let byte = *r.pick(letters);
         if rule.target(state, byte) == rule.error {
-            rule.moves.push((state, byte, byte, r.from(1, states.len() - 1) as u8));
+            rule.moves.push((state, byte, byte, r.from(1, states.len() - 1) as u16));
         }
     }
     rule
@@ -150,9 +167,9 @@ fn words_rule(r: &mut Random, letters: &[u8]) -> Rule {
 fn wild_rule(r: &mut Random, letters: &[u8]) -> Rule {
     let mut rule = empty_rule();
     let count = r.from(2, 6);
-    rule.error = r.below(count) as u8;
-    rule.start = r.below(count) as u8;
-    for state in 0..count as u8 {
+    rule.error = r.below(count) as u16;
+    rule.start = r.below(count) as u16;
+    for state in 0..count as u16 {
         if state == rule.error {
             continue;
         }
@@ -163,7 +180,7 @@ fn wild_rule(r: &mut Random, letters: &[u8]) -> Rule {
         while i < letters.len() {
             let end = r.from(i, letters.len() - 1);
             if !r.once_in(4) {
-                rule.moves.push((state, letters[i], letters[end], r.below(count) as u8));
+                rule.moves.push((state, letters[i], letters[end], r.below(count) as u16));
             }
             i = end + 1;
         }
@@ -194,14 +211,14 @@ fn branched_rule(r: &mut Random, letters: &[u8], strange: &[u8]) -> Rule {
     let dead = r.from(2, 4);
     let unreached = dead + r.from(0, 3);
     let count = unreached + r.from(0, 3);
-    rule.error = count as u8;
+    rule.error = count as u16;
     for state in 0..count {
         if (state > 0 && state < dead && r.once_in(2)) || (state >= unreached && r.once_in(3)) {
-            rule.finals.push(state as u8);
+            rule.finals.push(state as u16);
         }
         for &byte in letters {
             if state < dead && !r.once_in(3) {
-                rule.moves.push((state as u8, byte, byte, r.below(dead) as u8));
+                rule.moves.push((state as u16, byte, byte, r.below(dead) as u16));
             }
         }
         for &byte in letters.iter().chain(strange) {
@@ -212,7 +229,7 @@ fn branched_rule(r: &mut Random, letters: &[u8], strange: &[u8]) -> Rule {
         }
     }
     match r.below(4) {
-        0 => rule.finals.push(r.from(1, count - 1) as u8),
+        0 => rule.finals.push(r.from(1, count - 1) as u16),
         1 => {
             let byte = if r.once_in(2) { *r.pick(letters) } else { *r.pick(strange) };
             join(&mut rule, r.below(count), byte, r.below(count + 1));
@@ -224,8 +241,8 @@ fn branched_rule(r: &mut Random, letters: &[u8], strange: &[u8]) -> Rule {
 
 /// Adds a move, where none leaves the state at the byte.
 fn join(rule: &mut Rule, from: usize, byte: u8, to: usize) {
-    if rule.moves.iter().all(|m| m.0 != from as u8 || byte < m.1 || m.2 < byte) {
-        rule.moves.push((from as u8, byte, byte, to as u8));
+    if rule.moves.iter().all(|m| m.0 != from as u16 || byte < m.1 || m.2 < byte) {
+        rule.moves.push((from as u16, byte, byte, to as u16));
     }
 }
 
@@ -233,18 +250,31 @@ fn empty_rule() -> Rule {
     Rule { tag: 0, kind: 0, start: 0, error: 0, finals: Vec::new(), moves: Vec::new() }
 }
 
-/// Renames the states at random.
-fn rename(r: &mut Random, rule: &mut Rule) {
-    let mut names: Vec<u8> = (0..=255).collect();
-    r.shuffle(&mut names);
-    let name = |s: u8| names[s as usize];
-    rule.start = name(rule.start);
-    rule.error = name(rule.error);
-    rule.finals.iter_mut().for_each(|s| *s = name(*s));
-    for m in &mut rule.moves {
-        m.0 = name(m.0);
-        m.3 = name(m.3);
+/// Numbers of states at which something changes: those around 256, and the last ones.
+const EDGES: [std::ops::Range<u16>; 3] = [0..8, 248..264, 4_080..4_096];
+
+/// Renames the states at random: below 256, around the edges, or to any.
+fn rename(r: &mut Random, rule: &Rule) -> Rule {
+    let edges: Vec<u16> = EDGES.into_iter().flatten().collect();
+    let highest = rule.parts().into_iter().flat_map(Command::states).max().expect("it has a start");
+    let choice = match highest {
+        0..=31 => r.below(4),
+        32..=255 => *r.pick(&[0, 3]),
+        _ => 3,
+    };
+    let mut taken = BTreeSet::new();
+    let mut names = Vec::new();
+    while names.len() <= highest as usize {
+        let name = match choice {
+            0 | 1 => r.below(256) as u16,
+            2 => *r.pick(&edges),
+            _ => r.from(0, paper::LAST_STATE as usize) as u16,
+        };
+        if taken.insert(name) {
+            names.push(name);
+        }
     }
+    rule.clone().renamed(|s| names[s as usize])
 }
 
 /// Gives a rule a tag that no other has; then its states have other names, its moves another order, a final state is named twice.
@@ -256,7 +286,7 @@ fn finish(r: &mut Random, rule: &mut Rule, others: &[Rule]) {
         }
     };
     if r.once_in(2) {
-        rename(r, rule);
+        *rule = rename(r, rule);
     }
     r.shuffle(&mut rule.moves);
     if !rule.finals.is_empty() && r.once_in(5) {
@@ -305,29 +335,44 @@ fn branched_book(r: &mut Random) -> (Book, Alphabet) {
     (Book { rules }, alphabet)
 }
 
-/// How many STEPs of a book are written as SPANs: none, all, or about half of them.
-fn spans(r: &mut Random) -> usize {
-    *r.pick(&[0, 0, 1, 2])
+/// How the commands of a book are written: once in how many times a STEP as a SPAN, and a short command as a wide one; never where
+/// that is 0.
+#[derive(Clone, Copy)]
+struct Spelling {
+    spans: usize,
+    wide: usize,
 }
 
-/// Writes a STEP as a SPAN once in `spans` times, or never where that is 0.
-fn spell(r: &mut Random, commands: &mut [Vec<u8>], spans: usize) {
+fn spelling(r: &mut Random) -> Spelling {
+    Spelling { spans: *r.pick(&[0, 0, 1, 2]), wide: *r.pick(&[0, 0, 0, 1, 2]) }
+}
+
+fn spell(r: &mut Random, commands: &mut [Vec<u8>], spelling: Spelling) {
+    let mut once = |n: usize| n > 0 && r.once_in(n);
     for command in commands {
         if let [paper::STEP, from, byte, to] = command[..] {
-            if spans > 0 && r.once_in(spans) {
+            if once(spelling.spans) {
                 *command = vec![paper::SPAN, from, byte, byte, to];
             }
+        }
+        let wide = match command[..] {
+            [code @ paper::START..=paper::FINAL, state] => vec![code + paper::WIDE_START - paper::START, 0, state],
+            [paper::SPAN, from, low, high, to] => vec![paper::WIDE_SPAN, 0, from, low, high, 0, to],
+            _ => continue,
+        };
+        if once(spelling.wide) {
+            *command = wide;
         }
     }
 }
 
 /// The commands of a rule may stand in any order between RULE and CLOSE.
 pub fn shuffled(r: &mut Random, book: &Book) -> Vec<u8> {
-    let spans = spans(r);
+    let spelling = spelling(r);
     let mut bytes = Vec::new();
     for rule in &book.rules {
         let mut commands = rule.commands();
-        spell(r, &mut commands, spans);
+        spell(r, &mut commands, spelling);
         let last = commands.len() - 1;
         r.shuffle(&mut commands[1..last]);
         bytes.extend(commands.concat());
@@ -336,13 +381,19 @@ pub fn shuffled(r: &mut Random, book: &Book) -> Vec<u8> {
     bytes
 }
 
-/// A book of rules with up to 512 moves, filled up by FINALs until its rewritten form is about as long as a book may be.
+/// A book of rules with up to 4,096 moves, filled up by FINALs until its rewritten form is about as long as a book may be.
 fn long_book(r: &mut Random) -> Vec<u8> {
-    let length = paper::BOOK_BYTES - 2 + if r.once_in(4) { r.from(5, 6_000) } else { r.below(5) };
+    let length = paper::BOOK_BYTES - 2 + if r.once_in(4) { r.from(5, 12_000) } else { r.below(5) };
+    // a move takes up to seven bytes
+    let mut most = 9_000;
     let mut rules = Vec::new();
     for tag in 2..=r.from(2, 13) {
-        let moves = (0..r.from(1, paper::RULE_MOVES)).map(|i| ((i % 99) as u8, i as u8, i as u8, (i % 99) as u8 + 1));
-        rules.push(Rule { tag: tag as u16, error: 255, finals: vec![1], moves: moves.collect(), ..empty_rule() });
+        let count = r.from(1, paper::RULE_MOVES.min(most));
+        let far = if r.once_in(3) { r.from(150, 4_000) as u16 } else { 0 };
+        let moves = (0..count).map(|i| ((i % 90) as u16 + far, i as u8, i as u8, (i % 90) as u16 + 1));
+        let error = if far > 0 { paper::LAST_STATE } else { 255 };
+        rules.push(Rule { tag: tag as u16, error, finals: vec![1], moves: moves.collect(), ..empty_rule() });
+        most -= count.min(most - 1);
     }
     let mut bytes = shuffled(r, &Book { rules });
     bytes.pop();
@@ -354,13 +405,97 @@ fn long_book(r: &mut Random) -> Vec<u8> {
         filled.extend([paper::SPAN, 0, 0, 255, 1]);
         left -= 5;
     }
+    while left >= 6 && r.once_in(2) {
+        filled.extend([paper::WIDE_FINAL, 1, 0, paper::WIDE_FINAL, 0, 1]);
+        left -= 6;
+    }
     filled.extend([paper::FINAL, 1].repeat(left / 2));
     filled.push(paper::CLOSE);
     let parts = if r.once_in(2) { [bytes, filled] } else { [filled, bytes] };
     [parts.concat(), vec![paper::END]].concat()
 }
 
+/// A book of both kinds with hundreds or thousands of states and moves: a chain, joined by moves at random.
+fn large_book(r: &mut Random) -> (Book, Alphabet) {
+    let alphabet = Alphabet::random(r);
+    let mut rules: Vec<Rule> = Vec::new();
+    // a move takes up to seven bytes
+    let mut most = 9_000;
+    for k in 0..r.from(2, 4) {
+        let kind = (k % 2) as u8;
+        let (letters, strange) = (alphabet.of(kind), alphabet.of(1 - kind));
+        let run = most < paper::RULE_MOVES || (k < 2 && r.once_in(2));
+        let mut rule = if run { run_rule(r, &letters) } else { large_rule(r, &letters, &strange) };
+        rule.kind = kind;
+        most -= rule.moves.len();
+        finish(r, &mut rule, &rules);
+        rules.push(rule);
+    }
+    r.shuffle(&mut rules);
+    (Book { rules }, alphabet)
+}
+
+/// A chain at the letters whose end is final, and moves from any state to any one. One time in two the chain has a gap, which they
+/// do not pass; then they are at letters and at strange bytes, else almost all at letters.
+fn large_rule(r: &mut Random, letters: &[u8], strange: &[u8]) -> Rule {
+    let mut rule = empty_rule();
+    let count = *r.pick(&[200, 255, 256, 257, 300, 600, 1_200, paper::LAST_STATE as usize]);
+    let most = *r.pick(&[count, 511, 512, 513, count + 100, paper::RULE_MOVES]);
+    let gap = if r.once_in(2) { r.from(1, count - 1) } else { count };
+    rule.error = count as u16;
+    rule.finals.push(count as u16 - 1);
+    let mut taken = BTreeSet::new();
+    for state in (0..count - 1).filter(|s| s + 1 != gap) {
+        let byte = *r.pick(letters);
+        taken.insert((state, byte));
+        rule.moves.push((state as u16, byte, byte, state as u16 + 1));
+    }
+    for _ in rule.moves.len()..most {
+        let (from, to) = (r.below(count), r.below(count));
+        let byte = if r.once_in(if gap < count { 3 } else { 3_000 }) { *r.pick(strange) } else { *r.pick(letters) };
+        if (from >= gap || to < gap) && taken.insert((from, byte)) {
+            rule.moves.push((from as u16, byte, byte, to as u16));
+        }
+    }
+    for _ in 0..r.below(4) {
+        let low = if r.once_in(4) || gap == count { 1 } else { gap };
+        let high = if r.once_in(2) { count - 1 } else { (low + 9).min(count - 1) };
+        rule.finals.push(r.from(low, high) as u16);
+    }
+    rule
+}
+
 // ---- Damaged books
+
+/// A state that a rule can have, of either width.
+fn state(r: &mut Random) -> u16 {
+    if r.once_in(2) {
+        r.byte().into()
+    } else {
+        r.from(0, paper::LAST_STATE as usize) as u16
+    }
+}
+
+/// A number that is too large for a state.
+fn beyond(r: &mut Random) -> u16 {
+    match r.below(4) {
+        0 | 1 => paper::LAST_STATE + 1,
+        2 => *r.pick(&[4_097, 4_351, 4_352, 8_191, 8_192, 32_768, 65_280, 65_535]),
+        _ => r.from(4_096, 65_535) as u16,
+    }
+}
+
+/// A wide command.
+fn wide(r: &mut Random) -> Vec<u8> {
+    let (one, other) = (state(r), state(r));
+    let command = match r.below(4) {
+        0 => Command::Start(Width::Wide, one),
+        1 => Command::Error(Width::Wide, one),
+        2 => Command::Final(Width::Wide, one),
+        _ => Command::Span { width: Width::Wide, from: one, low: r.byte(), high: r.byte(), to: other },
+    };
+    command.bytes()
+}
 
 /// A book with one fault put in by design.
 pub fn faulty(r: &mut Random, book: &Book) -> Vec<u8> {
@@ -370,38 +505,62 @@ pub fn faulty(r: &mut Random, book: &Book) -> Vec<u8> {
     let rule = &mut book.rules[k];
     let mut extra: Option<Vec<u8>> = None;
     let mut drop: Option<u8> = None;
-    let mut spans = spans(r);
+    let mut spelling = spelling(r);
     let (mut outside, mut ends) = (false, false);
-    match r.below(16) {
+    match r.below(20) {
         0 => rule.tag = 0,
         1 => rule.tag = other,
         2 => rule.kind = r.from(2, 255) as u8,
         3 => rule.finals.push(rule.error),
         4 => rule.finals.push(rule.start),
-        5 => rule.moves.push((rule.error, r.byte(), 255, r.byte())),
+        5 => rule.moves.push((rule.error, r.byte(), 255, state(r))),
         6 => {
             if let Some(&m) = rule.moves.first() {
                 let byte = r.from(m.1 as usize, m.2 as usize) as u8;
-                rule.moves.push((m.0, byte, r.from(byte as usize, 255) as u8, r.byte()));
+                rule.moves.push((m.0, byte, r.from(byte as usize, 255) as u8, state(r)));
             }
         }
-        7 => extra = Some(vec![paper::START, rule.start]),
+        7 => extra = Some(Command::Start(Width::Wide, rule.start).bytes()),
         8 => extra = Some(vec![paper::ERROR, r.byte()]),
         9 => drop = Some(paper::START),
         10 => drop = Some(paper::ERROR),
-        11 => extra = Some(vec![paper::SPAN, r.byte(), 9, 8, r.byte()]),
-        12 => extra = Some(vec![*r.pick(&[paper::RULE, paper::END, 0, 9, 255]), 0, 1, 0]),
+        11 => extra = Some(move_command((state(r), 9, 8, state(r))).bytes()),
+        12 => extra = Some(vec![*r.pick(&[paper::RULE, paper::END, 0, 13, 255]), 0, 1, 0]),
         13 | 14 => {
             // often the only STEP
             extra = Some(vec![paper::STEP, r.byte(), r.byte(), r.byte()]);
-            spans = *r.pick(&[1, 1, spans]);
+            spelling.spans = *r.pick(&[1, 1, spelling.spans]);
             outside = r.once_in(3);
             ends = r.once_in(2);
+        }
+        15 => {
+            extra = Some(wide(r));
+            outside = r.once_in(2);
+            ends = r.once_in(2);
+        }
+        16 => {
+            let s = beyond(r);
+            match r.below(3) {
+                0 => rule.start = s,
+                1 => rule.error = s,
+                _ => rule.finals.push(s),
+            }
+        }
+        17 if !rule.moves.is_empty() => {
+            let at = r.below(rule.moves.len());
+            let m = &mut rule.moves[at];
+            *(if r.once_in(2) { &mut m.0 } else { &mut m.3 }) = beyond(r);
+        }
+        17 | 18 => {
+            let s = beyond(r);
+            extra = Some(
+                if r.once_in(2) { Command::Start(Width::Wide, s) } else { Command::Error(Width::Wide, s) }.bytes(),
+            );
         }
         _ => drop = Some(*r.pick(&[paper::CLOSE, paper::RULE, paper::END])),
     }
     let mut commands = book.commands();
-    spell(r, &mut commands, spans);
+    spell(r, &mut commands, spelling);
     if let Some(extra) = extra {
         let mut places: Vec<usize> = (1..commands.len()).collect();
         places.retain(|&at| !outside || commands[at - 1][0] == paper::CLOSE);
@@ -409,11 +568,14 @@ pub fn faulty(r: &mut Random, book: &Book) -> Vec<u8> {
         commands.insert(at, extra);
         if ends {
             commands.truncate(at + 1);
-            commands[at].truncate(r.from(1, 4));
+            let length = commands[at].len();
+            commands[at].truncate(r.from(1, length));
         }
     }
     if let Some(code) = drop {
-        let all: Vec<usize> = (0..commands.len()).filter(|&i| commands[i][0] == code).collect();
+        // START and ERROR in either width
+        let wide = if code < paper::FINAL { code + paper::WIDE_START - paper::START } else { code };
+        let all: Vec<usize> = (0..commands.len()).filter(|&i| [code, wide].contains(&commands[i][0])).collect();
         commands.remove(*r.pick(&all));
     }
     commands.concat()
@@ -429,12 +591,12 @@ pub fn damaged(r: &mut Random, bytes: &[u8]) -> Vec<u8> {
         let at = r.below(bytes.len());
         match r.below(7) {
             0 => bytes[at] = r.byte(),
-            1 => bytes[at] = r.below(10) as u8,
+            1 => bytes[at] = r.below(14) as u8,
             2 => bytes[at] ^= 1 << r.below(8),
             3 => {
                 bytes.remove(at);
             }
-            4 => bytes.insert(at, r.below(10) as u8),
+            4 => bytes.insert(at, r.below(14) as u8),
             5 => bytes.truncate(at),
             _ => {
                 let again = bytes[at..(at + r.from(1, 12)).min(bytes.len())].to_vec();
@@ -627,7 +789,7 @@ fn without_step(r: &mut Random, book: &[u8], count: usize) -> Vec<Call> {
 }
 
 /// The calls of one case: a book, each operation on it, and writing with separators by another book, which is read strictly and
-/// rewritten too; now and then a book that rewriting may make too long.
+/// rewritten too; now and then a book that rewriting may make too long, and one with large rules.
 pub fn case(r: &mut Random) -> Vec<Call> {
     let (rules, alphabet) = book(r);
     let sound = shuffled(r, &rules);
@@ -640,25 +802,12 @@ pub fn case(r: &mut Random) -> Vec<Call> {
     let mut calls = without_step(r, &bytes, 2);
     calls.push(Call::read_book(&bytes));
 
-    let text = text(r, &rules, &alphabet, longest);
-    let call = Call::lex(&bytes, &text, vec![0; text.len() * paper::RECORD_BYTES]);
-    calls.push(with_room(r, call, true));
+    let leftover = if r.once_in(4) { r.from(1, 9) } else { 0 };
+    calls.extend(uses(r, (&rules, &sound, &alphabet), &bytes, longest, leftover));
 
     let sheet = sheet(r, longest);
     let call = Call::lex_builtin(&sheet, vec![0; sheet.len() * paper::RECORD_BYTES]);
     calls.push(with_room(r, call, true));
-
-    let written = list(r, &rules, &sound, &alphabet, longest, false);
-    let mut records = bytes_of(&written.tokens);
-    let leftover = if r.once_in(4) { r.from(1, 9) } else { 0 };
-    records.extend(r.bytes(leftover));
-    let call = Call::print(&bytes, records, &written.pool, vec![0; paper::TEXT_BYTES]);
-    calls.push(with_room(r, call, false));
-
-    let only_plain = !r.once_in(6);
-    let spaced = list(r, &rules, &sound, &alphabet, longest, only_plain);
-    let call = spacing(r, &bytes, spaced, leftover);
-    calls.push(with_room(r, call, false));
 
     let index = if r.once_in(20) { r.next() as u32 } else { r.from(0, rules.rules.len()) as u32 };
     calls.push(Call::rule(&bytes, index));
@@ -670,11 +819,39 @@ pub fn case(r: &mut Random) -> Vec<Call> {
     calls.extend(without_step(r, &bytes, 1));
     calls.push(with_room(r, call, false));
 
-    if r.once_in(200) {
+    if r.once_in(100) {
         let bytes = long_book(r);
         calls.extend(without_step(r, &bytes, 4));
     }
+    if r.once_in(200) {
+        let (rules, alphabet) = large_book(r);
+        let bytes = shuffled(r, &rules);
+        calls.extend(without_step(r, &bytes, 1));
+        calls.extend(uses(r, (&rules, &bytes, &alphabet), &bytes, 40, leftover));
+    }
     calls
+}
+
+/// Cutting, writing and writing with separators by the bytes of a book; texts and lists come from its sound form.
+fn uses(
+    r: &mut Random,
+    (rules, sound, alphabet): (&Book, &[u8], &Alphabet),
+    bytes: &[u8],
+    longest: usize,
+    leftover: usize,
+) -> Vec<Call> {
+    let text = text(r, rules, alphabet, longest);
+    let cut = Call::lex(bytes, &text, vec![0; text.len() * paper::RECORD_BYTES]);
+
+    let written = list(r, rules, sound, alphabet, longest, false);
+    let mut records = bytes_of(&written.tokens);
+    records.extend(r.bytes(leftover));
+    let print = Call::print(bytes, records, &written.pool, vec![0; paper::TEXT_BYTES]);
+
+    let only_plain = !r.once_in(6);
+    let spaced = list(r, rules, sound, alphabet, longest, only_plain);
+    let spaced = spacing(r, bytes, spaced, leftover);
+    vec![with_room(r, cut, true), with_room(r, print, false), with_room(r, spaced, false)]
 }
 
 /// Writing with separators in some mode, with all the room there may be.

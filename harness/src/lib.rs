@@ -1,4 +1,5 @@
-//! Compares libzagvulem.a with a second implementation of document 01: answers, places and every byte of every lent buffer.
+//! Compares libzagvulem.a with a second implementation of documents 01 and 02: answers, places and every byte of every lent
+//! buffer.
 //!
 //! harness [--cases N] [--seed S] [--case K] [--plant FAULT] [--threads N] [--verbose] [--count]
 
@@ -15,6 +16,7 @@ mod reference;
 mod report;
 mod rewriting;
 mod round_trip;
+mod wide;
 
 use calls::{Answer, Call, Operation, Outcome, OPERATIONS};
 use fewest::Tried;

@@ -3,7 +3,7 @@
 
 use crate::calls::{Answer, Call, Operation, Outcome};
 use crate::library::{Against, Library};
-use crate::reference::{self, Command, Reading};
+use crate::reference::{self, Command, Reading, Width};
 use std::collections::BTreeSet;
 
 #[derive(Clone, Copy, Debug, PartialEq, Eq)]
@@ -46,9 +46,21 @@ pub enum Fault {
     RoomFirst,
     /// 22 of rewriting names the bytes that would be needed if the book were STEPs alone.
     RoomForAll,
+    /// A state of two bytes is read low byte first.
+    LowByteFirst,
+    /// The high byte of a state plays no part.
+    HighByte,
+    /// 4,096 is taken as a state.
+    TooLarge,
+    /// A short and a wide command name different states by the same number.
+    WidthsApart,
+    /// A second START or ERROR of a state above 4,095 is 8.
+    TwiceFirst,
+    /// At the first state of two bytes that is final or left by a move, the final states that the rule has had are lost.
+    Widening,
 }
 
-pub const FAULTS: [Fault; 19] = [
+pub const FAULTS: [Fault; 25] = [
     Fault::Tie,
     Fault::Need,
     Fault::PastTheCount,
@@ -68,6 +80,12 @@ pub const FAULTS: [Fault; 19] = [
     Fault::StepTurned,
     Fault::RoomFirst,
     Fault::RoomForAll,
+    Fault::LowByteFirst,
+    Fault::HighByte,
+    Fault::TooLarge,
+    Fault::WidthsApart,
+    Fault::TwiceFirst,
+    Fault::Widening,
 ];
 
 impl Fault {
@@ -92,6 +110,12 @@ impl Fault {
             Fault::StepTurned => "step-turned",
             Fault::RoomFirst => "room-first",
             Fault::RoomForAll => "room-for-all",
+            Fault::LowByteFirst => "low-byte-first",
+            Fault::HighByte => "high-byte",
+            Fault::TooLarge => "too-large",
+            Fault::WidthsApart => "widths-apart",
+            Fault::TwiceFirst => "twice-first",
+            Fault::Widening => "widening",
         }
     }
 
@@ -127,6 +151,12 @@ pub fn run(fault: Option<Fault>, library: &mut Library, call: &Call, against: Ag
         Fault::StepTurned => respelled(call, sound, step_turned),
         Fault::RoomFirst => room_first(call, sound),
         Fault::RoomForAll => room_for_all(call, sound),
+        Fault::LowByteFirst => by_other_book(library, call, against, sound, low_byte_first)?,
+        Fault::HighByte => by_other_book(library, call, against, sound, high_byte)?,
+        Fault::TooLarge => by_other_book(library, call, against, sound, too_large)?,
+        Fault::WidthsApart => by_other_book(library, call, against, sound, widths_apart)?,
+        Fault::TwiceFirst => twice_first(call, sound),
+        Fault::Widening => by_other_book(library, call, against, sound, widening)?,
     })
 }
 
@@ -301,7 +331,7 @@ fn final_alone(rules: &[&[u8]]) -> Vec<Marks> {
 }
 
 fn left_over(rules: &[&[u8]]) -> Vec<Marks> {
-    let mut left: Marks = vec![(false, false); 256];
+    let mut left: Marks = vec![(false, false); reference::LAST_STATE as usize + 1];
     let mut next = |rule: &&[u8]| {
         left.iter_mut().zip(marks(rule)).for_each(|(l, m)| *l = (l.0 || m.0, l.1 || m.1));
         left.clone()
@@ -353,7 +383,9 @@ fn step_kept(commands: Vec<Command>) -> Vec<u8> {
 
 fn step_turned(commands: Vec<Command>) -> Vec<u8> {
     let turned = |c: Command| match c {
-        Command::Step { from, byte, to } => Command::Span { from, low: to, high: to, to: byte },
+        Command::Step { from, byte, to } => {
+            Command::Span { width: Width::Short, from: from.into(), low: to, high: to, to: byte.into() }
+        }
         other => other,
     };
     commands.into_iter().flat_map(|c| turned(c).bytes()).collect()
@@ -376,4 +408,107 @@ fn room_for_all(call: &Call, mut outcome: Outcome) -> Outcome {
         outcome.answer = 22 << 56 | (call.book.len() / 4 * 5) as u64;
     }
     outcome
+}
+
+/// What the library leaves by another book than the one that is given. Rewriting has that one's bytes to copy.
+fn by_other_book(
+    library: &mut Library,
+    call: &Call,
+    against: Against,
+    sound: Outcome,
+    other: fn(&[u8]) -> Vec<u8>,
+) -> Result<Outcome, String> {
+    if matches!(call.operation, Operation::LexBuiltin | Operation::RewriteBook) {
+        return Ok(sound);
+    }
+    let book = other(&call.book);
+    if book == call.book {
+        return Ok(sound);
+    }
+    let mut outcome = library.run(&Call { book, ..call.clone() }, against)?;
+    outcome.buffers[0] = call.book.clone();
+    Ok(outcome)
+}
+
+/// The book with other states in its wide commands.
+fn renamed(book: &[u8], name: impl Fn(u16) -> u16) -> Vec<u8> {
+    let mut bytes = Vec::new();
+    for (_, command) in reference::placed(book) {
+        let other = match command {
+            Command::Start(Width::Wide, state) => Command::Start(Width::Wide, name(state)),
+            Command::Error(Width::Wide, state) => Command::Error(Width::Wide, name(state)),
+            Command::Final(Width::Wide, state) => Command::Final(Width::Wide, name(state)),
+            Command::Span { width: Width::Wide, from, low, high, to } => {
+                Command::Span { width: Width::Wide, from: name(from), low, high, to: name(to) }
+            }
+            other => other,
+        };
+        bytes.extend(other.bytes());
+    }
+    bytes.extend(&book[bytes.len()..]);
+    bytes
+}
+
+fn low_byte_first(book: &[u8]) -> Vec<u8> {
+    renamed(book, u16::swap_bytes)
+}
+
+fn high_byte(book: &[u8]) -> Vec<u8> {
+    renamed(book, |state| state & 0xFF)
+}
+
+/// A state that the book does not name, the last one at or before this.
+fn unnamed(book: &[u8], last: u16) -> u16 {
+    let named: BTreeSet<u16> = reference::placed(book).flat_map(|(_, command)| command.states()).collect();
+    (0..=last).rev().find(|state| !named.contains(state)).unwrap_or(last)
+}
+
+fn too_large(book: &[u8]) -> Vec<u8> {
+    let other = unnamed(book, reference::LAST_STATE);
+    renamed(book, |state| if state == reference::LAST_STATE + 1 { other } else { state })
+}
+
+fn widths_apart(book: &[u8]) -> Vec<u8> {
+    // a low state and its other name have the same low byte
+    let far = |state: u16| (1..16).map(|high| state + 256 * high).find(|&other| unnamed(book, other) == other);
+    renamed(book, |state| if state < 256 { far(state).unwrap_or(state) } else { state })
+}
+
+fn twice_first(call: &Call, sound: Outcome) -> Outcome {
+    let answer = Answer(sound.answer);
+    if call.operation == Operation::LexBuiltin || answer.number() != 6 {
+        return sound;
+    }
+    let place = answer.place() as usize;
+    let read: Vec<Command> = reference::placed(&call.book[..place]).map(|(_, command)| command).collect();
+    let rule = read.rsplit(|c| *c == Command::Close).next().unwrap_or(&read);
+    let twice = match reference::placed(&call.book[place..]).next() {
+        Some((_, Command::Start(..))) => rule.iter().any(|c| matches!(c, Command::Start(..))),
+        Some((_, Command::Error(..))) => rule.iter().any(|c| matches!(c, Command::Error(..))),
+        _ => false,
+    };
+    if twice {
+        return Outcome { answer: 8 << 56 | place as u64, ..sound };
+    }
+    sound
+}
+
+fn widening(book: &[u8]) -> Vec<u8> {
+    let wide = |c: &Command| match *c {
+        Command::Final(_, state) => state > 255,
+        Command::Span { from, .. } => from > 255,
+        _ => false,
+    };
+    let all: Vec<Command> = reference::placed(book).map(|(_, command)| command).collect();
+    let first = all.iter().position(wide).unwrap_or(0);
+    let rule = all[..first].iter().rposition(|c| matches!(c, Command::Rule { .. })).unwrap_or(first);
+    // in their place a state that plays no part
+    let none = unnamed(book, 255);
+    let lost = |(i, c): (usize, &Command)| match *c {
+        Command::Final(width, _) if rule < i && i < first => Command::Final(width, none).bytes(),
+        other => other.bytes(),
+    };
+    let mut bytes: Vec<u8> = all.iter().enumerate().flat_map(lost).collect();
+    bytes.extend(&book[bytes.len()..]);
+    bytes
 }

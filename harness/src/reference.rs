@@ -1,13 +1,15 @@
 //! The operations a second time, from the text of documents 01 and 02 alone.
 //!
 //! Nothing here is fast. A match reads the rule's commands in the book's bytes again for every byte, and a cut tries every
-//! length from the longest down. There are no tables, so that a mistake in tables cannot be made twice.
+//! length from the longest down. There are no tables, so that a mistake in tables cannot be made twice; of long rules the moves
+//! are sorted, and of long texts the states of one walk are kept.
 
 use std::collections::{BTreeMap, BTreeSet, VecDeque};
 
-pub const BOOK_BYTES: usize = 32_768;
+pub const BOOK_BYTES: usize = 65_536;
 pub const BOOK_RULES: usize = 32;
-pub const RULE_MOVES: usize = 512;
+pub const RULE_MOVES: usize = 4_096;
+pub const LAST_STATE: u16 = 4_095;
 pub const TEXT_BYTES: usize = 65_536;
 pub const LIST_TOKENS: usize = 65_536;
 pub const RECORD_BYTES: usize = 10;
@@ -20,6 +22,10 @@ pub const STEP: u8 = 5;
 pub const SPAN: u8 = 6;
 pub const CLOSE: u8 = 7;
 pub const END: u8 = 8;
+pub const WIDE_START: u8 = 9;
+pub const WIDE_ERROR: u8 = 10;
+pub const WIDE_FINAL: u8 = 11;
+pub const WIDE_SPAN: u8 = 12;
 
 #[derive(Clone, Copy, Debug, PartialEq, Eq)]
 pub struct Refusal {
@@ -73,17 +79,26 @@ pub fn records_of(buffer: &[u8]) -> Vec<Record> {
 // ---- The book
 
 /// A move: from, low, high, to.
-pub type Move = (u8, u8, u8, u8);
+pub type Move = (u16, u8, u8, u16);
+
+/// Whether a command's states have one byte or two.
+#[derive(Clone, Copy, Debug, PartialEq, Eq)]
+pub enum Width {
+    Short,
+    Wide,
+}
+
+use Width::{Short, Wide};
 
 /// A command with its operands.
 #[derive(Clone, Copy, Debug, PartialEq, Eq)]
 pub enum Command {
     Rule { tag: u16, kind: u8 },
-    Start(u8),
-    Error(u8),
-    Final(u8),
+    Start(Width, u16),
+    Error(Width, u16),
+    Final(Width, u16),
     Step { from: u8, byte: u8, to: u8 },
-    Span { from: u8, low: u8, high: u8, to: u8 },
+    Span { width: Width, from: u16, low: u8, high: u8, to: u16 },
     Close,
     End,
 }
@@ -92,29 +107,43 @@ impl Command {
     /// The command that the bytes begin with, and the bytes behind it; none where they end before its operands do.
     #[inline(always)]
     fn first(bytes: &[u8]) -> Option<(Command, &[u8])> {
+        let two = |high, low| u16::from_be_bytes([high, low]);
         Some(match *bytes {
-            [RULE, high, low, kind, ref rest @ ..] => {
-                (Command::Rule { tag: u16::from_be_bytes([high, low]), kind }, rest)
-            }
-            [START, state, ref rest @ ..] => (Command::Start(state), rest),
-            [ERROR, state, ref rest @ ..] => (Command::Error(state), rest),
-            [FINAL, state, ref rest @ ..] => (Command::Final(state), rest),
+            [RULE, high, low, kind, ref rest @ ..] => (Command::Rule { tag: two(high, low), kind }, rest),
+            [START, state, ref rest @ ..] => (Command::Start(Short, state.into()), rest),
+            [ERROR, state, ref rest @ ..] => (Command::Error(Short, state.into()), rest),
+            [FINAL, state, ref rest @ ..] => (Command::Final(Short, state.into()), rest),
             [STEP, from, byte, to, ref rest @ ..] => (Command::Step { from, byte, to }, rest),
-            [SPAN, from, low, high, to, ref rest @ ..] => (Command::Span { from, low, high, to }, rest),
+            [SPAN, from, low, high, to, ref rest @ ..] => {
+                (Command::Span { width: Short, from: from.into(), low, high, to: to.into() }, rest)
+            }
             [CLOSE, ref rest @ ..] => (Command::Close, rest),
             [END, ref rest @ ..] => (Command::End, rest),
+            [WIDE_START, a, b, ref rest @ ..] => (Command::Start(Wide, two(a, b)), rest),
+            [WIDE_ERROR, a, b, ref rest @ ..] => (Command::Error(Wide, two(a, b)), rest),
+            [WIDE_FINAL, a, b, ref rest @ ..] => (Command::Final(Wide, two(a, b)), rest),
+            [WIDE_SPAN, a, b, low, high, c, d, ref rest @ ..] => {
+                (Command::Span { width: Wide, from: two(a, b), low, high, to: two(c, d) }, rest)
+            }
             _ => return None,
         })
     }
 
     pub fn bytes(self) -> Vec<u8> {
+        let named = |width, short, wide, state: u16| match (width, state.to_be_bytes()) {
+            (Short, [_, low]) => vec![short, low],
+            (Wide, [high, low]) => vec![wide, high, low],
+        };
         match self {
             Command::Rule { tag, kind } => [&[RULE], &tag.to_be_bytes()[..], &[kind]].concat(),
-            Command::Start(state) => vec![START, state],
-            Command::Error(state) => vec![ERROR, state],
-            Command::Final(state) => vec![FINAL, state],
+            Command::Start(width, state) => named(width, START, WIDE_START, state),
+            Command::Error(width, state) => named(width, ERROR, WIDE_ERROR, state),
+            Command::Final(width, state) => named(width, FINAL, WIDE_FINAL, state),
             Command::Step { from, byte, to } => vec![STEP, from, byte, to],
-            Command::Span { from, low, high, to } => vec![SPAN, from, low, high, to],
+            Command::Span { width: Short, from, low, high, to } => vec![SPAN, from as u8, low, high, to as u8],
+            Command::Span { width: Wide, from, low, high, to } => {
+                [&[WIDE_SPAN], &from.to_be_bytes()[..], &[low, high], &to.to_be_bytes()].concat()
+            }
             Command::Close => vec![CLOSE],
             Command::End => vec![END],
         }
@@ -123,10 +152,21 @@ impl Command {
     /// The move that the command adds to its rule.
     fn added(self) -> Option<Move> {
         match self {
-            Command::Step { from, byte, to } => Some((from, byte, byte, to)),
-            Command::Span { from, low, high, to } => Some((from, low, high, to)),
+            Command::Step { from, byte, to } => Some((from.into(), byte, byte, to.into())),
+            Command::Span { from, low, high, to, .. } => Some((from, low, high, to)),
             _ => None,
         }
+    }
+
+    /// The states that the command names.
+    pub fn states(self) -> impl Iterator<Item = u16> {
+        let named = match self {
+            Command::Start(_, state) | Command::Error(_, state) | Command::Final(_, state) => [Some(state), None],
+            Command::Step { from, to, .. } => [Some(from.into()), Some(to.into())],
+            Command::Span { from, to, .. } => [Some(from), Some(to)],
+            _ => [None, None],
+        };
+        named.into_iter().flatten()
     }
 }
 
@@ -140,10 +180,10 @@ pub enum Reading {
 /// What a rule that is still open has had so far.
 #[derive(Default)]
 struct Open {
-    starts: Vec<u8>,
-    errors: Vec<u8>,
-    finals: BTreeSet<u8>,
-    moves: Vec<(u8, u8, u8)>,
+    starts: Vec<u16>,
+    errors: Vec<u16>,
+    finals: BTreeSet<u16>,
+    moves: Vec<(u16, u8, u8)>,
 }
 
 /// Reads a book: its commands.
@@ -159,7 +199,7 @@ fn read(book: &[u8], reading: Reading) -> Result<Vec<Command>, Refusal> {
         let at = book.len() - rest.len();
         let allowed = match code {
             RULE | END => open.is_none(),
-            START..=CLOSE => open.is_some(),
+            START..=CLOSE | WIDE_START..=WIDE_SPAN => open.is_some(),
             _ => false,
         };
         if !allowed {
@@ -173,6 +213,7 @@ fn read(book: &[u8], reading: Reading) -> Result<Vec<Command>, Refusal> {
             None => return refuse(2, at),
         };
         commands.push(command);
+        let beyond = command.states().any(|state| state > LAST_STATE);
         match (command, open.as_mut()) {
             (Command::Rule { tag, kind }, _) => {
                 if tags.len() == BOOK_RULES {
@@ -195,19 +236,20 @@ fn read(book: &[u8], reading: Reading) -> Result<Vec<Command>, Refusal> {
                 }
                 return Ok(commands);
             }
-            (Command::Start(state), Some(rule)) => {
+            (Command::Start(..) | Command::Error(..) | Command::Final(..), _) if beyond => return refuse(6, at),
+            (Command::Start(_, state), Some(rule)) => {
                 if !rule.starts.is_empty() {
                     return refuse(8, at);
                 }
                 rule.starts.push(state);
             }
-            (Command::Error(state), Some(rule)) => {
+            (Command::Error(_, state), Some(rule)) => {
                 if !rule.errors.is_empty() {
                     return refuse(8, at);
                 }
                 rule.errors.push(state);
             }
-            (Command::Final(state), Some(rule)) => {
+            (Command::Final(_, state), Some(rule)) => {
                 rule.finals.insert(state);
             }
             (Command::Step { .. } | Command::Span { .. }, Some(rule)) => {
@@ -215,7 +257,7 @@ fn read(book: &[u8], reading: Reading) -> Result<Vec<Command>, Refusal> {
                 if rule.moves.len() == RULE_MOVES {
                     return refuse(5, at);
                 }
-                if low > high {
+                if low > high || beyond {
                     return refuse(6, at);
                 }
                 rule.moves.push((from, low, high));
@@ -243,8 +285,8 @@ fn fault_at_close(rule: &Open) -> Option<u8> {
         (Some(start), Some(error)) => (start, error),
         _ => return Some(8),
     };
-    let bytes = |&(from, low, high): &(u8, u8, u8)| (low..=high).map(move |byte| (from, byte));
-    let mut covered: Vec<(u8, u8)> = rule.moves.iter().flat_map(bytes).collect();
+    let bytes = |&(from, low, high): &(u16, u8, u8)| (low..=high).map(move |byte| (from, byte));
+    let mut covered: Vec<(u16, u8)> = rule.moves.iter().flat_map(bytes).collect();
     covered.sort_unstable();
     if covered.windows(2).any(|pair| pair[0] == pair[1]) {
         return Some(9);
@@ -302,12 +344,12 @@ pub fn rules(book: &[u8]) -> Vec<&[u8]> {
     found
 }
 
-fn start_of(rule: &[u8]) -> u8 {
-    find(rule, |c| if let Command::Start(state) = c { Some(state) } else { None }).expect("an accepted rule has it")
+fn start_of(rule: &[u8]) -> u16 {
+    find(rule, |c| if let Command::Start(_, state) = c { Some(state) } else { None }).expect("an accepted rule has it")
 }
 
-pub fn error_of(rule: &[u8]) -> u8 {
-    find(rule, |c| if let Command::Error(state) = c { Some(state) } else { None }).expect("an accepted rule has it")
+pub fn error_of(rule: &[u8]) -> u16 {
+    find(rule, |c| if let Command::Error(_, state) = c { Some(state) } else { None }).expect("an accepted rule has it")
 }
 
 pub fn tag_of(rule: &[u8]) -> u16 {
@@ -325,50 +367,128 @@ pub fn rule(book: &[u8], index: usize) -> Result<(u16, u8), Refusal> {
     all.get(index).copied().ok_or(Refusal { number: 18, place: all.len() })
 }
 
-fn step(rule: &[u8], state: u8, byte: u8) -> u8 {
-    let target = |c| match c {
-        Command::Step { from, byte: only, to } if from == state && only == byte => Some(to),
-        Command::Span { from, low, high, to } if from == state && low <= byte && byte <= high => Some(to),
-        _ => None,
-    };
-    find(rule, target).unwrap_or_else(|| error_of(rule))
+/// A rule to walk by.
+struct Walker<'b> {
+    rule: &'b [u8],
+    sorted: Option<Sorted>,
 }
 
-/// Whether the walk from the rule's start over `word` ends in a final state.
-fn matches(rule: &[u8], word: &[u8]) -> bool {
-    let state = word.iter().fold(start_of(rule), |s, &b| step(rule, s, b));
-    find(rule, |c| (c == Command::Final(state)).then_some(())).is_some()
+/// What a long rule says, sorted: its moves by the state that they leave and their low byte.
+struct Sorted {
+    start: u16,
+    error: u16,
+    finals: BTreeSet<u16>,
+    moves: BTreeMap<(u16, u8), (u8, u16)>,
 }
 
-/// How many bytes of `text` can take part in a match: after them every rule stands in its error state, which nothing leaves.
-fn bound<'t>(rules: &[&[u8]], text: impl Iterator<Item = &'t u8>) -> usize {
-    let mut states: Vec<u8> = rules.iter().map(|r| start_of(r)).collect();
-    let errors: Vec<u8> = rules.iter().map(|r| error_of(r)).collect();
-    let mut count = 0;
-    for &byte in text {
-        if states == errors {
-            break;
-        }
-        for (s, r) in states.iter_mut().zip(rules) {
-            *s = step(r, *s, byte);
-        }
-        count += 1;
+/// Rules of more bytes are sorted first.
+const LONG_RULE: usize = 400;
+
+impl<'b> Walker<'b> {
+    fn of(rule: &'b [u8]) -> Walker<'b> {
+        let sorted = (rule.len() > LONG_RULE).then(|| Sorted {
+            start: start_of(rule),
+            error: error_of(rule),
+            finals: finals(rule).collect(),
+            moves: moves(rule).into_iter().map(|(from, low, high, to)| ((from, low), (high, to))).collect(),
+        });
+        Walker { rule, sorted }
     }
-    count
+
+    fn start(&self) -> u16 {
+        self.sorted.as_ref().map_or_else(|| start_of(self.rule), |s| s.start)
+    }
+
+    fn error(&self) -> u16 {
+        self.sorted.as_ref().map_or_else(|| error_of(self.rule), |s| s.error)
+    }
+
+    fn is_final(&self, state: u16) -> bool {
+        match &self.sorted {
+            Some(sorted) => sorted.finals.contains(&state),
+            None => finals(self.rule).any(|s| s == state),
+        }
+    }
+
+    fn step(&self, state: u16, byte: u8) -> u16 {
+        if let Some(sorted) = &self.sorted {
+            // no two moves of a state overlap, so that only the last one that begins at the byte or before can cover it
+            let last = sorted.moves.range((state, 0)..=(state, byte)).next_back();
+            return last.filter(|(_, (high, _))| byte <= *high).map_or(sorted.error, |(_, (_, to))| *to);
+        }
+        let target = |c| match c {
+            Command::Step { from, byte: only, to } if u16::from(from) == state && only == byte => Some(to.into()),
+            Command::Span { from, low, high, to, .. } if from == state && low <= byte && byte <= high => Some(to),
+            _ => None,
+        };
+        find(self.rule, target).unwrap_or_else(|| error_of(self.rule))
+    }
+
+    /// Whether the walk from the rule's start over `word` ends in a final state.
+    fn matches(&self, word: &[u8]) -> bool {
+        self.is_final(word.iter().fold(self.start(), |s, &b| self.step(s, b)))
+    }
 }
 
-/// Texts up to this length are tried at every length, longer ones only up to their bound.
+fn walkers<'b>(rules: &[&'b [u8]]) -> Vec<Walker<'b>> {
+    rules.iter().map(|rule| Walker::of(rule)).collect()
+}
+
+/// Texts up to this length are tried at every length with a walk for each, longer ones only up to their bound.
 const LITERAL: usize = 48;
 
-/// The rank of the earliest rule that matches the longest beginning of `text`, and that beginning's length.
-fn choose(rules: &[&[u8]], text: &[u8]) -> Option<(usize, usize)> {
-    let longest = if text.len() <= LITERAL { text.len() } else { bound(rules, text.iter()) };
-    for length in (1..=longest).rev() {
-        if let Some(rank) = rules.iter().position(|r| matches(r, &text[..length])) {
-            return Some((rank, length));
+/// The beginnings of a text, to be matched by rules.
+struct Beginnings<'a, 'b> {
+    rules: &'a [Walker<'b>],
+    text: Vec<u8>,
+    /// Of a long text: the states in which the rules stand after each number of bytes.
+    states: Option<Vec<u16>>,
+}
+
+impl<'a, 'b> Beginnings<'a, 'b> {
+    /// Of `front` and `back` joined.
+    fn of(rules: &'a [Walker<'b>], front: &[u8], back: &[u8]) -> Beginnings<'a, 'b> {
+        let text = front.iter().chain(back);
+        if front.len() + back.len() <= LITERAL {
+            return Beginnings { rules, text: text.copied().collect(), states: None };
+        }
+        // how many bytes can take part in a match: after them every rule stands in its error state, which nothing leaves
+        let errors: Vec<u16> = rules.iter().map(|r| r.error()).collect();
+        let mut now: Vec<u16> = rules.iter().map(|r| r.start()).collect();
+        let mut states = now.clone();
+        let mut kept = Vec::new();
+        for &byte in text {
+            if now == errors {
+                break;
+            }
+            for (s, r) in now.iter_mut().zip(rules) {
+                *s = r.step(*s, byte);
+            }
+            states.extend(&now);
+            kept.push(byte);
+        }
+        Beginnings { rules, text: kept, states: Some(states) }
+    }
+
+    /// The lengths after that of the first `shortest` bytes, up to the longest that a rule can match.
+    fn lengths(&self, shortest: usize) -> std::ops::RangeInclusive<usize> {
+        shortest + 1..=self.text.len()
+    }
+
+    /// The rank of the earliest rule that matches the beginning of so many bytes.
+    fn first_match(&self, length: usize) -> Option<usize> {
+        let count = self.rules.len();
+        match &self.states {
+            Some(states) => (0..count).find(|&k| self.rules[k].is_final(states[length * count + k])),
+            None => self.rules.iter().position(|r| r.matches(&self.text[..length])),
         }
     }
-    None
+}
+
+/// The rank of the earliest rule that matches the longest beginning of `text`, and that beginning's length.
+fn choose(rules: &[Walker], text: &[u8]) -> Option<(usize, usize)> {
+    let beginnings = Beginnings::of(rules, text, &[]);
+    beginnings.lengths(0).rev().find_map(|length| Some((beginnings.first_match(length)?, length)))
 }
 
 // ---- Rewriting
@@ -381,7 +501,9 @@ pub fn has_step(book: &[u8]) -> bool {
 /// The commands with a SPAN of one byte for each STEP, written again.
 pub fn spanned(commands: impl IntoIterator<Item = Command>) -> Vec<u8> {
     let span = |c| match c {
-        Command::Step { from, byte, to } => Command::Span { from, low: byte, high: byte, to },
+        Command::Step { from, byte, to } => {
+            Command::Span { width: Short, from: from.into(), low: byte, high: byte, to: to.into() }
+        }
         other => other,
     };
     commands.into_iter().map(span).flat_map(Command::bytes).collect()
@@ -409,9 +531,10 @@ pub struct Cut {
 
 pub fn cut(book: &[u8], text: &[u8]) -> Cut {
     let rules = rules(book);
+    let walkers = walkers(&rules);
     let mut tokens = Vec::new();
     let mut rest = 0;
-    while let Some((rank, length)) = choose(&rules, &text[rest..]) {
+    while let Some((rank, length)) = choose(&walkers, &text[rest..]) {
         tokens.push(Record { tag: tag_of(rules[rank]), place: rest as u32, length: length as u32 });
         rest += length;
     }
@@ -436,6 +559,7 @@ pub fn lex(book: &[u8], text: &[u8], room: usize) -> Result<Cut, Refusal> {
 /// The rules of a book and how its tags name them.
 struct Tags<'a> {
     rules: Vec<&'a [u8]>,
+    walkers: Vec<Walker<'a>>,
     ranks: BTreeMap<u16, usize>,
 }
 
@@ -443,7 +567,7 @@ impl<'a> Tags<'a> {
     fn of(book: &'a [u8]) -> Tags<'a> {
         let rules = rules(book);
         let ranks = rules.iter().enumerate().map(|(k, r)| (tag_of(r), k)).collect();
-        Tags { rules, ranks }
+        Tags { walkers: walkers(&rules), rules, ranks }
     }
 
     /// A token's bytes and its rule's rank, or 17, 18, 19 at `place`.
@@ -456,7 +580,7 @@ impl<'a> Tags<'a> {
             Some(&rank) => rank,
             None => return refuse(18, place),
         };
-        let first = self.rules.iter().position(|rule| matches(rule, bytes));
+        let first = self.walkers.iter().position(|rule| rule.matches(bytes));
         if first != Some(rank) {
             return refuse(19, place);
         }
@@ -465,12 +589,8 @@ impl<'a> Tags<'a> {
 
     /// Whether some rule matches `word` plus a non-empty beginning of `after`.
     fn reads_on(&self, word: &[u8], after: &[u8]) -> bool {
-        let mut longest = word.len() + after.len();
-        if longest > LITERAL {
-            longest = bound(&self.rules, word.iter().chain(after));
-        }
-        let whole: Vec<u8> = word.iter().chain(after).take(longest).copied().collect();
-        (word.len() + 1..=longest).any(|n| self.rules.iter().any(|r| matches(r, &whole[..n])))
+        let beginnings = Beginnings::of(&self.walkers, word, after);
+        beginnings.lengths(word.len()).any(|length| beginnings.first_match(length).is_some())
     }
 }
 
@@ -507,35 +627,50 @@ pub fn moves(rule: &[u8]) -> Vec<Move> {
     commands(rule).filter_map(Command::added).collect()
 }
 
-/// A byte string for each state that has one.
-pub type Strings = Vec<Option<Vec<u8>>>;
+fn finals(rule: &[u8]) -> impl Iterator<Item = u16> + '_ {
+    commands(rule).filter_map(|c| if let Command::Final(_, state) = c { Some(state) } else { None })
+}
+
+/// For each state that has one, a string by its last move, or by its first one where the string leads from the state: the rest is
+/// the string of the state at that move's other end. No move stands for the empty string.
+pub type Strings = Vec<Option<Option<Move>>>;
 
 /// The string of a walk from the start to a state.
 pub fn fronts(rule: &[u8]) -> Strings {
-    let start = [start_of(rule)];
-    grown(rule, &start, |m| (m.0, m.3), |s, m| [s, &[m.1]].concat())
+    grown(rule, &[start_of(rule)], |m| (m.0, m.3))
 }
 
 /// The string of a walk from a state to a final one.
 pub fn backs(rule: &[u8]) -> Strings {
-    let state = |c| if let Command::Final(state) = c { Some(state) } else { None };
-    let finals: Vec<u8> = commands(rule).filter_map(state).collect();
-    grown(rule, &finals, |m| (m.3, m.0), |s, m| [&[m.2], s].concat())
+    let finals: Vec<u16> = finals(rule).collect();
+    grown(rule, &finals, |m| (m.3, m.0))
 }
 
-/// The empty string for the states of `first`; then all moves again and again, as long as one that joins a state with a string
-/// to one without gives this one its string.
-fn grown(rule: &[u8], first: &[u8], ends: fn(Move) -> (u8, u8), longer: fn(&[u8], Move) -> Vec<u8>) -> Strings {
+/// The empty string for the states of `first`, and then each move that joins a state with a string to one without gives this one
+/// its string. Rules of middle length are gone through in both ways.
+fn grown(rule: &[u8], first: &[u16], ends: fn(Move) -> (u16, u16)) -> Strings {
     let moves = moves(rule);
-    let mut strings: Strings = vec![None; 256];
-    first.iter().for_each(|&s| strings[s as usize] = Some(Vec::new()));
+    let last = commands(rule).flat_map(Command::states).max();
+    let mut strings: Strings = vec![None; last.map_or(0, |s| s as usize + 1)];
+    first.iter().for_each(|&s| strings[s as usize] = Some(None));
+    if rule.len() > 2 * LONG_RULE {
+        return by_rounds(strings, first, &moves, ends);
+    }
+    let found = |strings: &Strings| strings.iter().map(|s| s.is_some()).collect::<Vec<bool>>();
+    let grown = by_passes(strings.clone(), &moves, ends);
+    assert!(rule.len() <= LONG_RULE || found(&by_rounds(strings, first, &moves, ends)) == found(&grown));
+    grown
+}
+
+/// All moves again and again, as long as one of them gives a string.
+fn by_passes(mut strings: Strings, moves: &[Move], ends: fn(Move) -> (u16, u16)) -> Strings {
     let mut changed = true;
     while changed {
         changed = false;
-        for &m in &moves {
+        for &m in moves {
             let (with, without) = ends(m);
-            if let (Some(s), None) = (&strings[with as usize], &strings[without as usize]) {
-                strings[without as usize] = Some(longer(s, m));
+            if strings[with as usize].is_some() && strings[without as usize].is_none() {
+                strings[without as usize] = Some(Some(m));
                 changed = true;
             }
         }
@@ -543,15 +678,50 @@ fn grown(rule: &[u8], first: &[u8], ends: fn(Move) -> (u8, u8), longer: fn(&[u8]
     strings
 }
 
+/// Of a long rule: in each round the moves of the states that the round before gave a string.
+fn by_rounds(mut strings: Strings, first: &[u16], moves: &[Move], ends: fn(Move) -> (u16, u16)) -> Strings {
+    let mut sorted = moves.to_vec();
+    sorted.sort_by_key(|&m| ends(m).0);
+    let mut round: BTreeSet<u16> = first.iter().copied().collect();
+    while !round.is_empty() {
+        let mut next = BTreeSet::new();
+        for state in round {
+            let from = sorted.partition_point(|&m| ends(m).0 < state);
+            for &m in sorted[from..].iter().take_while(|&&m| ends(m).0 == state) {
+                let without = ends(m).1;
+                if strings[without as usize].is_none() {
+                    strings[without as usize] = Some(Some(m));
+                    next.insert(without);
+                }
+            }
+        }
+        round = next;
+    }
+    strings
+}
+
+/// The string of a state that has one, from that state outward.
+fn string(strings: &Strings, state: u16, next: fn(Move) -> (u8, u16)) -> Vec<u8> {
+    let last = |s: u16| strings[s as usize].expect("it has a string");
+    std::iter::successors(last(state), |&m| last(next(m).1)).map(|m| next(m).0).collect()
+}
+
 /// The bytes that occur in the strings that the rule matches. Of a short rule each string is tried.
 fn used(rule: &[u8]) -> BTreeSet<u8> {
     let (fronts, backs) = (fronts(rule), backs(rule));
+    let tried = |from, byte, to| {
+        let mut whole = string(&fronts, from, |m| (m.1, m.0));
+        whole.reverse();
+        whole.push(byte);
+        whole.extend(string(&backs, to, |m| (m.2, m.3)));
+        Walker::of(rule).matches(&whole)
+    };
     let mut bytes = BTreeSet::new();
     for (from, low, high, to) in moves(rule) {
-        if let (Some(front), Some(back)) = (&fronts[from as usize], &backs[to as usize]) {
+        if fronts[from as usize].is_some() && backs[to as usize].is_some() {
             for byte in low..=high {
                 let new = bytes.insert(byte);
-                assert!(!new || rule.len() > LITERAL || matches(rule, &[front, &[byte][..], back].concat()));
+                assert!(!new || rule.len() > LITERAL || tried(from, byte, to));
             }
         }
     }

@@ -40,7 +40,7 @@ fn pieces(name: &str, bytes: &[u8], grain: Grain) -> Vec<Vec<u8>> {
     while at < bytes.len() {
         let size = match (name, grain) {
             (_, Grain::Bytes) => 1,
-            ("book", _) => 1 + [0, 3, 1, 1, 1, 3, 4].get(bytes[at] as usize).unwrap_or(&0),
+            ("book", _) => 1 + [0, 3, 1, 1, 1, 3, 4, 0, 0, 2, 2, 2, 6].get(bytes[at] as usize).unwrap_or(&0),
             ("records", _) => 10,
             _ => 1,
         };
@@ -49,7 +49,8 @@ fn pieces(name: &str, bytes: &[u8], grain: Grain) -> Vec<Vec<u8>> {
             Some(last) if joined => last.extend(piece),
             _ => all.push(piece.to_vec()),
         }
-        joined = name == "book" && grain == Grain::Rules && bytes[at] < reference::CLOSE;
+        let inside = !matches!(bytes[at], reference::CLOSE | reference::END) && bytes[at] <= reference::WIDE_SPAN;
+        joined = name == "book" && grain == Grain::Rules && inside;
         at += size;
     }
     all

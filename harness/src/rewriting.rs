@@ -206,8 +206,8 @@ fn closed(mut commands: Commands, more: Commands) -> Commands {
     commands
 }
 
-/// A book of just so many bytes with so many STEPs, in rules before or behind one that is filled up by FINALs, and by a SPAN where
-/// their number is odd.
+/// A book of just so many bytes with so many STEPs, in rules before or behind one that is filled up by FINALs, and by a SPAN or a
+/// wide FINAL where their number is odd.
 fn sized(length: usize, steps: usize, before: bool) -> Commands {
     let all: Commands =
         (0..steps).map(|i| i % RULE_MOVES).map(|i| vec![paper::STEP, (i % 99) as u8, i as u8, 1]).collect();
@@ -215,8 +215,9 @@ fn sized(length: usize, steps: usize, before: bool) -> Commands {
     let with: Commands = parts.flat_map(|(k, part)| closed(head(k as u8 + 2), part.to_vec())).collect();
     // the rule that is filled up has nine bytes else, END one
     let left = length - place(&with, with.len()) - 9 - 1;
-    let mut filling = if left % 2 == 1 { vec![vec![paper::SPAN, 0, 0, 255, 1]] } else { Vec::new() };
-    filling.extend(vec![vec![paper::FINAL, 1]; (left - 5 * filling.len()) / 2]);
+    let odd = if before { vec![paper::SPAN, 0, 0, 255, 1] } else { vec![paper::WIDE_FINAL, 15, 254] };
+    let mut filling = if left % 2 == 1 { vec![odd] } else { Vec::new() };
+    filling.extend(vec![vec![paper::FINAL, 1]; (left - filling.concat().len()) / 2]);
     let filled = closed(head(1), filling);
     let mut rules = if before { [with, filled] } else { [filled, with] }.concat();
     rules.push(vec![paper::END]);
@@ -226,7 +227,7 @@ fn sized(length: usize, steps: usize, before: bool) -> Commands {
 
 /// Books that rewriting makes as long as a book may be, and a byte or two on either side of it.
 fn limits(add: Add) {
-    for steps in [0, 1, 2, 511, 512, 513, 6_500] {
+    for steps in [0, 1, 2, 511, 512, 513, 4_095, 4_096, 4_097, 13_000] {
         for grown in BOOK_BYTES - 2..=BOOK_BYTES + 2 {
             if grown - steps > BOOK_BYTES {
                 continue;
@@ -245,7 +246,7 @@ fn limits(add: Add) {
 
 /// Books that are too long as they are, and refusals at the end of books that rewriting would make too long.
 fn too_long(add: Add) {
-    for steps in [0, 1, 6_500] {
+    for steps in [0, 1, 13_000] {
         let book = sized(BOOK_BYTES + 1, steps, true).concat();
         let name = format!("{steps} STEPs in a book of {} bytes", book.len());
         add_held(add, &name, &book, refusal(1, 0), Some(refusal(1, 0)));
@@ -254,7 +255,7 @@ fn too_long(add: Add) {
         let name = format!("nothing but STEP's code, {length} bytes");
         add_held(add, &name, &vec![paper::STEP; length], refusal(number, 0), Some(refusal(number, 0)));
     }
-    let commands = sized(BOOK_BYTES - 2, 6_500, true);
+    let commands = sized(BOOK_BYTES - 2, 13_000, true);
     let (close, end) = (commands.len() - 2, commands.len() - 1);
     let bytes = place(&commands, end) + 1;
     let first = place(&commands, 3);
@@ -279,9 +280,9 @@ struct Base {
     at: usize,
 }
 
-/// Two rules, and the refusals that can be made of them.
+/// Two rules, of short commands and of wide ones, and the refusals that can be made of them.
 fn bases() -> Vec<Base> {
-    use paper::{CLOSE, END, ERROR, FINAL, RULE, SPAN, START};
+    use paper::{CLOSE, END, ERROR, FINAL, RULE, SPAN, START, WIDE_ERROR, WIDE_FINAL, WIDE_SPAN, WIDE_START};
     let sound: Commands = vec![
         vec![RULE, 0, 1, 0],
         vec![START, 0],
@@ -290,10 +291,10 @@ fn bases() -> Vec<Base> {
         vec![SPAN, 0, b'a', b'a', 1],
         vec![CLOSE],
         vec![RULE, 0, 2, 1],
-        vec![SPAN, 0, b'b', b'c', 1],
-        vec![START, 0],
-        vec![FINAL, 1],
-        vec![ERROR, 9],
+        vec![WIDE_SPAN, 0, 0, b'b', b'c', 5, 5],
+        vec![WIDE_START, 0, 0],
+        vec![WIDE_FINAL, 5, 5],
+        vec![WIDE_ERROR, 1, 9],
         vec![CLOSE],
         vec![END],
     ];
@@ -306,21 +307,33 @@ fn bases() -> Vec<Base> {
         all.push(Base { name, commands, number, at });
     };
     more("no command", 4, &[0], 3, 4);
-    more("no command", 4, &[9], 3, 4);
+    more("no command", 4, &[13], 3, 4);
     more("no command between rules", 6, &[255], 3, 6);
     more("RULE in a rule", 4, &[RULE, 0, 3, 0], 3, 4);
     more("END in a rule", 4, &[END], 3, 4);
     more("START outside a rule", 6, &[START, 0], 3, 6);
     more("SPAN outside a rule", 6, &[SPAN, 0, b'z', b'z', 1], 3, 6);
     more("CLOSE outside a rule", 12, &[CLOSE], 3, 12);
+    more("wide START outside a rule", 6, &[WIDE_START, 0, 0], 3, 6);
+    more("wide SPAN outside a rule", 12, &[WIDE_SPAN, 0, 0, b'z', b'z', 0, 1], 3, 12);
     more("tag 0", 6, &[RULE, 0, 0, 0], 6, 6);
     more("a kind above 1", 6, &[RULE, 0, 3, 2], 6, 6);
     more("low above high", 4, &[SPAN, 0, 2, 1, 1], 6, 4);
+    more("low above high in a wide SPAN", 4, &[WIDE_SPAN, 0, 0, 2, 1, 0, 1], 6, 4);
+    more("a final state above 4,095", 4, &[WIDE_FINAL, 16, 0], 6, 4);
+    more("a second START above 4,095", 4, &[WIDE_START, 16, 0], 6, 4);
+    more("a move to a state above 4,095", 11, &[WIDE_SPAN, 0, 0, b'z', b'z', 255, 255], 6, 11);
     more("a tag again", 6, &[RULE, 0, 1, 0], 7, 6);
     more("a second START", 4, &[START, 0], 8, 4);
     more("a second ERROR", 4, &[ERROR, 9], 8, 4);
+    more("a second START, a wide one", 4, &[WIDE_START, 0, 0], 8, 4);
+    more("a second ERROR, a short one", 11, &[ERROR, 9], 8, 11);
     more("moves that overlap", 5, &[SPAN, 0, 0, 255, 1], 9, 6);
     more("a move from the error state", 5, &[SPAN, 9, b'a', b'a', 1], 10, 6);
+    more("moves of both widths that overlap", 11, &[SPAN, 0, 0, 255, 1], 9, 12);
+    more("a wide move from the error state", 5, &[WIDE_SPAN, 0, 9, b'a', b'a', 9, 9], 10, 6);
+    more("a final error state of two bytes", 10, &[WIDE_FINAL, 1, 9], 11, 12);
+    more("a final start, once wide", 11, &[FINAL, 0], 12, 12);
     more("a final error state", 4, &[FINAL, 9], 11, 6);
     more("a final start", 4, &[FINAL, 0], 12, 6);
     more("END before any rule", 0, &[END], 13, 0);
@@ -400,14 +413,31 @@ fn own_faults(add: Add) {
     let step = |from: usize, byte: usize| vec![paper::STEP, from as u8, byte as u8, 1];
     let span = |from: usize, byte: usize| vec![paper::SPAN, from as u8, byte as u8, byte as u8, 1];
     let spans = |count: usize| -> Commands { (0..count).map(|i| span(i / 256, i)).collect() };
+    let wide = |from: usize, byte: usize| vec![paper::WIDE_SPAN, 0, from as u8, byte as u8, byte as u8, 15, 1];
     // what stands in the rule, and the numbers of the commands that are refused
-    let faults: [(&str, Commands, u8, usize, usize); 6] = [
+    let (many, last) = (RULE_MOVES, RULE_MOVES / 256);
+    let faults: [(&str, Commands, u8, usize, usize); 9] = [
         ("a STEP that overlaps a SPAN", vec![span(0, 7), step(0, 7)], 9, 4, 5),
         ("a SPAN that overlaps a STEP", vec![step(0, 7), span(0, 7)], 9, 3, 5),
+        ("a STEP that overlaps a wide SPAN", vec![wide(0, 7), step(0, 7)], 9, 4, 5),
+        ("a wide SPAN that overlaps a STEP", vec![step(0, 7), wide(0, 7)], 9, 3, 5),
         ("a STEP twice", vec![span(1, 1), step(0, 7), step(0, 7)], 9, 4, 6),
         ("a STEP from the error state", vec![step(255, 7)], 10, 3, 4),
-        ("a STEP as the 513th move", [spans(512), vec![step(2, 0)]].concat(), 5, 515, 515),
-        ("a SPAN as the 513th move", [spans(510), vec![step(2, 0)], spans(2)].concat(), 5, 513, 515),
+        ("a STEP as the 4,097th move", [spans(many), vec![step(last, 0)]].concat(), 5, 3 + many, 3 + many),
+        (
+            "a SPAN as the 4,097th move",
+            [spans(many - 2), vec![step(last, 0)], spans(2)].concat(),
+            5,
+            1 + many,
+            3 + many,
+        ),
+        (
+            "a wide SPAN as the 4,097th move",
+            [spans(many - 1), vec![step(last, 0), wide(last, 1)]].concat(),
+            5,
+            2 + many,
+            3 + many,
+        ),
     ];
     for (name, more, number, strict, ordinary) in faults {
         let mut commands = closed(head(1), more);
@@ -416,19 +446,19 @@ fn own_faults(add: Add) {
         add_held(add, name, &commands.concat(), refusal(33, strict), Some(refusal(number, ordinary)));
     }
     for n in 1..4 {
-        let book = [closed(head(1), vec![])[..3].concat(), spans(512).concat(), step(2, 0)[..n].to_vec()].concat();
+        let book = [closed(head(1), vec![])[..3].concat(), spans(many).concat(), step(last, 0)[..n].to_vec()].concat();
         let at = book.len() - n;
-        add_held(add, "the 513th move, a STEP that is cut off", &book, refusal(33, at), Some(refusal(2, at)));
+        add_held(add, "the 4,097th move, a STEP that is cut off", &book, refusal(33, at), Some(refusal(2, at)));
     }
-    let mut full = closed(head(1), [spans(511), vec![step(2, 0)]].concat());
+    let mut full = closed(head(1), [spans(many - 1), vec![step(last, 0)]].concat());
     full.push(vec![paper::END]);
-    add_accepted(add, "a STEP as the 512th move", &full);
+    add_accepted(add, "a STEP as the 4,096th move", &full);
 }
 
 /// The codes of commands as operands.
 fn codes(add: Add) {
-    use paper::{CLOSE, END, ERROR, FINAL, RULE, SPAN, START, STEP};
-    for code in RULE..=END {
+    use paper::{CLOSE, END, ERROR, FINAL, RULE, SPAN, START, STEP, WIDE_ERROR, WIDE_FINAL, WIDE_SPAN, WIDE_START};
+    for code in RULE..=WIDE_SPAN {
         let other = code ^ 8;
         let commands = vec![
             vec![RULE, code, code, 1],
@@ -446,10 +476,30 @@ fn codes(add: Add) {
         add_accepted(add, &format!("operands of {code:02X}, a STEP"), &stepped);
         stepped.insert(4, vec![STEP, other, code + 4, code]);
         add_accepted(add, &format!("operands of {code:02X}, two STEPs"), &stepped);
+        for step in [STEP, code] {
+            let start = other.max(1);
+            let wide = vec![
+                vec![RULE, code, step, 1],
+                vec![WIDE_FINAL, code, step],
+                vec![WIDE_SPAN, step, code, code, code, code, step],
+                vec![WIDE_START, start, code],
+                vec![WIDE_SPAN, start, code, step, step, code, step],
+                vec![WIDE_ERROR, 0, code],
+                vec![WIDE_FINAL, step, 200],
+            ];
+            for at in 0..=wide.len() {
+                let mut commands = wide.clone();
+                if at > 0 {
+                    commands.insert(at, vec![STEP, 200, step, code]);
+                }
+                commands.extend([vec![CLOSE], vec![END]]);
+                add_accepted(add, &format!("wide operands of {code:02X} and {step:02X}"), &commands);
+            }
+        }
     }
 }
 
-/// Each byte as each operand of a STEP.
+/// Each byte as each operand of a STEP, and in wide commands.
 fn each_byte(add: Add) {
     for byte in 0..=255u8 {
         let [a, b, c, d] = [0, 1, 2, 3].map(|n| byte.wrapping_add(n));
@@ -460,25 +510,45 @@ fn each_byte(add: Add) {
             commands.push(vec![paper::END]);
             add_accepted(add, &format!("a STEP of {from:02X} {at:02X} {to:02X}"), &commands);
         }
+        // and of the wide commands, a high byte up to 15
+        for high in [0, byte % 16] {
+            let [start, error, end] = [0, 5, 10].map(|n| [(high + n) % 16, byte]);
+            let commands = vec![
+                vec![paper::RULE, 0, 1, 0],
+                vec![paper::WIDE_START, start[0], start[1]],
+                vec![paper::STEP, 1, byte ^ 16, 2],
+                vec![paper::WIDE_ERROR, error[0], error[1]],
+                vec![paper::WIDE_SPAN, start[0], start[1], byte, byte | 15, end[0], end[1]],
+                vec![paper::STEP, 3, byte ^ 16, 4],
+                vec![paper::WIDE_FINAL, end[0], end[1]],
+                vec![paper::CLOSE],
+                vec![paper::END],
+            ];
+            add_accepted(add, &format!("wide commands of {byte:02X}"), &commands);
+        }
     }
 }
 
-/// Every sequence of up to five of FINAL, STEP and SPAN, as one rule and over two.
+/// Every sequence of up to five of FINAL, STEP and SPAN, and of up to four of these and the wide ones, as one rule and over two.
 fn sequences(add: Add) {
     let command = |kind: usize, k: usize| match kind {
         0 => vec![paper::FINAL, 1],
         1 => vec![paper::STEP, 0, 8 * k as u8, 1],
-        _ => vec![paper::SPAN, 0, 8 * k as u8, 8 * k as u8 + 5, 1],
+        2 => vec![paper::SPAN, 0, 8 * k as u8, 8 * k as u8 + 5, 1],
+        3 => vec![paper::WIDE_FINAL, 5, 1],
+        _ => vec![paper::WIDE_SPAN, 0, 0, 8 * k as u8, 8 * k as u8 + 5, 5, 1],
     };
-    for length in 0..=5 {
-        for number in 0..3usize.pow(length) {
-            let all: Commands = (0..length).map(|k| command(number / 3usize.pow(k) % 3, k as usize)).collect();
-            let half = all.len() / 2;
-            for rules in [vec![&all[..]], vec![&all[..half], &all[half..]]] {
-                let tags = 1..=rules.len() as u8;
-                let closed = tags.zip(rules).flat_map(|(tag, rule)| closed(head(tag), rule.to_vec()));
-                let commands: Commands = closed.chain([vec![paper::END]]).collect();
-                add_accepted(add, &format!("a sequence of {length} commands"), &commands);
+    for (kinds, lengths) in [(3usize, 5..=5), (5, 0..=4)] {
+        for length in lengths {
+            for number in 0..kinds.pow(length) {
+                let all: Commands = (0..length).map(|k| command(number / kinds.pow(k) % kinds, k as usize)).collect();
+                let half = all.len() / 2;
+                for rules in [vec![&all[..]], vec![&all[..half], &all[half..]]] {
+                    let tags = 1..=rules.len() as u8;
+                    let closed = tags.zip(rules).flat_map(|(tag, rule)| closed(head(tag), rule.to_vec()));
+                    let commands: Commands = closed.chain([vec![paper::END]]).collect();
+                    add_accepted(add, &format!("a sequence of {length} commands"), &commands);
+                }
             }
         }
     }
@@ -493,10 +563,21 @@ fn lengths(add: Add) {
             run.extend(vec![vec![paper::SPAN, from, 0, 9, 1]; odd]);
             run
         };
+        // seven bytes for a wide SPAN where they are there, and three for a wide FINAL
+        let wide_run = |from: u8| -> Commands {
+            let spans = (count >= 7 && count != 8) as usize;
+            let left = count - 7 * spans;
+            let mut run = vec![vec![paper::WIDE_SPAN, 15, from, 0, 9, 4, 5]; spans];
+            run.extend(vec![vec![paper::WIDE_FINAL, 5, 5]; if left % 3 == 1 { left / 3 - 1 } else { left / 3 }]);
+            run.extend(vec![vec![paper::FINAL, 1]; [0, 2, 1][left % 3]]);
+            run
+        };
         let step = |byte| vec![vec![paper::STEP, 0, byte, 1]];
-        let more = [step(b'a'), run(1), step(b'b'), run(2)].concat();
-        let mut commands = closed(head(1), more);
-        commands.push(vec![paper::END]);
-        add_accepted(add, &format!("{count} bytes between STEPs"), &commands);
+        for (one, other) in [(run(1), run(2)), (wide_run(1), wide_run(2))] {
+            let more = [step(b'a'), one, step(b'b'), other].concat();
+            let mut commands = closed(head(1), more);
+            commands.push(vec![paper::END]);
+            add_accepted(add, &format!("{count} bytes between STEPs"), &commands);
+        }
     }
 }

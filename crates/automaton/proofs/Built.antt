@@ -6,7 +6,7 @@ use mathlib.Core.Logic.{_⊎_, inl, inr}
 use mathlib.Core.List.{List, [], _∷_}
 use Prim.Native.Nat.{ℕ, _+_, _-_, _*_, _/_, _%_, _<_, _≤_}
 use native.Mathlib.Omega.{arith}
-use lib.ListN.{length, getD, set, length-set}
+use lib.ListN.{length, getD, set, length-set, List·getD-eq-default}
 use lib.Seq.{getD-set-same, getD-set-other}
 use lib.Dec.{eqb, leb}
 use borrow.Author.Tests.{eq-eqb, ne-eqb, eqb-true, eqb-false}
@@ -39,6 +39,14 @@ cell-small rows stamp s = go (eqb (stampAt rows s) stamp)
     go : (c : Bool) → if c (getD rows s 0 % 131072) 0 < 131072
     go true = omega arith
     go false = omega arith
+
+-- a cell that is not there is empty
+pub cell-none : (rows : List ℕ) (stamp s : ℕ) → length rows ≤ s → cellAt rows stamp s ≡ 0
+cell-none rows stamp s l = rw (List·getD-eq-default rows 0 l) (go (eqb (0 / 131072) stamp))
+  where
+    go : (c : Bool) → if c (0 % 131072) 0 ≡ 0
+    go true = refl
+    go false = refl
 
 -- one cell stored: the bound of the stamps
 pub stamp-set : (rows : List ℕ) (stamp j head mark : ℕ) → j < length rows → head * 2 + mark < 131072
@@ -201,14 +209,14 @@ unfolding leaving
 leaving-miss s t ts e = rw (ne-eqb t.from s e)
 
 -- The cell of state `from` becomes one with this head and mark. What holds of it, and of the other states' cells before, holds of all now.
-module _ (rows : List ℕ) (stamp from head mark : ℕ) (room : length rows ≡ stateCount) (below : from < stateCount)
+module _ (rows : List ℕ) (stamp from head mark : ℕ) (room : from < length rows)
     (short : head < 65536) (bit : mark < 2) (P : ℕ → ℕ → Type 0) where
   abbrev rows₁ : List ℕ
   rows₁ = set rows from (rowWord stamp head mark)
 
   there : cellAt rows₁ stamp from ≡ head * 2 + mark
   there =
-      let q : getD rows₁ from 0 ≡ rowWord stamp head mark = getD-set-same rows from (rowWord stamp head mark) 0 (omega arith) in
+      let q : getD rows₁ from 0 ≡ rowWord stamp head mark = getD-set-same rows from (rowWord stamp head mark) 0 room in
       let d : rowWord stamp head mark / 131072 ≡ stamp = omega arith in
       let m : rowWord stamp head mark % 131072 ≡ head * 2 + mark = omega arith in
       rw (q, eq-eqb _ _ d, m)
@@ -229,7 +237,7 @@ module _ {tb rows : List ℕ} {stamp first end : ℕ} {fs : List ℕ} {ts : List
   built-order = listed-order tb first end ts (b .listed)
 
   -- a transition more
-  module _ (t : Transition) (room : end < length tb) (short : end + 1 < 65536) (f : t.from < stateCount)
+  module _ (t : Transition) (room : end < length tb) (short : end + 1 < 65536) (cell-there : t.from < length rows) (f : t.from < stateCount)
       (lo : t.low < 256) (hi : t.high < 256) (g : t.to < stateCount) where
     abbrev cell : ℕ
     cell = cellAt rows stamp t.from
@@ -243,7 +251,7 @@ module _ {tb rows : List ℕ} {stamp first end : ℕ} {fs : List ℕ} {ts : List
     stored₁ : (P : ℕ → ℕ → Type 0) → P t.from (end * 2 + cell % 2)
         → ((s : ℕ) → s < stateCount → (t.from ≡ s → ⊥) → P s (cellAt rows stamp s))
         → (s : ℕ) → s < stateCount → P s (cellAt (set rows t.from (rowWord stamp end (cell % 2))) stamp s)
-    stored₁ = stored rows stamp t.from end (cell % 2) (b .cells) f (omega arith) (omega arith)
+    stored₁ = stored rows stamp t.from end (cell % 2) cell-there (omega arith) (omega arith)
 
     pub built-edge : Built (set tb end (edgeWord t.low t.high (cellAt rows stamp t.from / 2) (bareSpot t.to)))
         (set rows t.from (rowWord stamp end (cellAt rows stamp t.from % 2))) stamp first (end + 1) fs (t ∷ ts)
@@ -256,7 +264,6 @@ module _ {tb rows : List ℕ} {stamp first end : ℕ} {fs : List ℕ} {ts : List
           start = b .start;
           room = simp length-set (omega arith);
           short = short;
-          cells = simp length-set (b .cells);
           listed = (
             omega (arith, built-order),
             rw z (new-edge tb first end (cell / 2) t room (omega arith) built-order pos lo hi g (b .tops t.from f)),
@@ -273,13 +280,13 @@ module _ {tb rows : List ℕ} {stamp first end : ℕ} {fs : List ℕ} {ts : List
         }
 
   -- a final state more
-  module _ (f : ℕ) (l : f < stateCount) where
+  module _ (f : ℕ) (cell-there : f < length rows) (l : f < stateCount) where
     abbrev head : ℕ
     head = cellAt rows stamp f / 2
 
     stored₂ : (P : ℕ → ℕ → Type 0) → P f (head * 2 + 1) → ((s : ℕ) → s < stateCount → (f ≡ s → ⊥) → P s (cellAt rows stamp s))
         → (s : ℕ) → s < stateCount → P s (cellAt (set rows f (rowWord stamp head 1)) stamp s)
-    stored₂ = stored rows stamp f head 1 (b .cells) l (omega (arith, b .tops f l, b .short)) (omega arith)
+    stored₂ = stored rows stamp f head 1 cell-there (omega (arith, b .tops f l, b .short)) (omega arith)
 
     pub built-final : Built tb (set rows f (rowWord stamp (cellAt rows stamp f / 2) 1)) stamp first end (f ∷ fs) ts
     built-final =
@@ -289,7 +296,6 @@ module _ {tb rows : List ℕ} {stamp first end : ℕ} {fs : List ℕ} {ts : List
           start = b .start;
           room = b .room;
           short = b .short;
-          cells = simp length-set (b .cells);
           listed = b .listed;
           chains = stored₂ (λ s x. Chain tb first (x / 2) (leaving s ts)) (rw h (b .chains f l)) (λ s k ne. b .chains s k);
           tops = stored₂ (λ s x. x / 2 < end) (rw h (b .tops f l)) (λ s k ne. b .tops s k);
@@ -359,20 +365,34 @@ module _ {tb rows : List ℕ} {stamp first end : ℕ} {fs : List ℕ} {ts : List
         }
 
 -- cells that were written for other rules are those of a rule with nothing in it
-pub built-blank : (tb rows : List ℕ) (stamp first : ℕ) → edgeStart ≤ first → first ≤ length tb → first < 65536 → length rows ≡ stateCount
+pub built-blank : (tb rows : List ℕ) (stamp first : ℕ) → edgeStart ≤ first → first ≤ length tb → first < 65536
     → ((s : ℕ) → s < stateCount → stampAt rows s ≡ stamp → ⊥) → Built tb rows stamp first first [] []
 unfolding leaving
-built-blank tb rows stamp first l r h n z =
+built-blank tb rows stamp first l r h z =
     let q : (s : ℕ) → s < stateCount → cellAt rows stamp s ≡ 0 = λ s k. rw (ne-eqb _ _ (z s k)) in
     record {
       start = l;
       room = r;
       short = h;
-      cells = n;
       listed = refl;
       chains = λ s k. rw (q s k);
       tops = λ s k. rw (q s k) (omega arith);
       finals = λ s k. rw (q s k);
+    }
+
+-- other cells that hold the same
+pub built-cells : {tb rows rows₁ : List ℕ} {stamp first end : ℕ} {fs : List ℕ} {ts : List Transition}
+    → ((s : ℕ) → s < stateCount → getD rows₁ s 0 ≡ getD rows s 0)
+    → Built tb rows stamp first end fs ts → Built tb rows₁ stamp first end fs ts
+built-cells e b =
+    record {
+      start = b .start;
+      room = b .room;
+      short = b .short;
+      listed = b .listed;
+      chains = λ s l. rw (e s l) (b .chains s l);
+      tops = λ s l. rw (e s l) (b .tops s l);
+      finals = λ s l. rw (e s l) (b .finals s l);
     }
 
 -- ---- the loop of `settle`

@@ -33,7 +33,7 @@ edgeStart = 65
 
 -- transitions that a rule may have
 abbrev pub edgeRoom : ℕ
-edgeRoom = 512
+edgeRoom = 4096
 
 -- ---- Words.
 
@@ -238,8 +238,8 @@ pub record Ranks (rules : List Rule) (tag k : ℕ) : Type 0 where
   pub here : k < length rules → (ruleAt rules k) .tag ≡ tag
 
 -- ---- While a rule is open.
--- `rows` has a cell for each state: the stamp of the rule for which it was written, the head of the state's chain and whether it is final.
--- A cell with another stamp counts as empty, so that a new rule needs no cell cleared.
+-- `rows` has cells of states, from state 0 on: the stamp of the rule for which it was written, the head of the state's chain and whether
+-- it is final. A cell with another stamp counts as empty, so that a new rule needs no cell cleared, and so does one that is not there.
 
 abbrev pub rowWord : ℕ → ℕ → ℕ → ℕ
 rowWord stamp head final = stamp * 131072 + head * 2 + final
@@ -262,7 +262,6 @@ pub record Built (tb rows : List ℕ) (stamp first end : ℕ) (fs : List ℕ) (t
   pub start : edgeStart ≤ first
   pub room : end ≤ length tb
   pub short : end < 65536
-  pub cells : length rows ≡ stateCount
   pub listed : Listed tb first end ts
   pub chains : (s : ℕ) → s < stateCount → Chain tb first (headIn rows stamp s) (leaving s ts)
   pub tops : (s : ℕ) → s < stateCount → headIn rows stamp s < end

@@ -107,6 +107,6 @@ pub record Sound (n : ℕ) (r : Rule) : Type 0 where
   pub fails : among r.error r.finals ≡ false
   pub nonempty : among r.start r.finals ≡ false
 
--- states of a rule, and so cells
+-- states of a rule are numbered below this (document 02, wish 13)
 abbrev pub stateCount : ℕ
-stateCount = 256
+stateCount = 4096

@@ -10,18 +10,20 @@ ghost use Rattle.automaton.specs.Contracts.{ruleRoom, edgeStart, namePla
 ghost use Rattle.automaton.specs.Contracts.{Chain, Chained, Within, shares};
 ghost use Rattle.automaton.specs.Contracts.{rowWord, cellAt, headIn, finalIn, spotAt, Settles, settled, edgeAt, toOf};
 
-// The cell of state `s` in the rule with this stamp: twice the head of its chain, plus 1 where it is final.
+// The cell of state `s` in the rule with this stamp: twice the head of its chain, plus 1 where it is final. A state that has no cell is not
+// final, and nothing leaves it.
 fn cell(rows: &[u32], stamp: u32, s: usize) -> u32
-    requires { ⌜ s < length (now rows) ⌝ }
     ensures { λ r. ⌜ r ≡ cellAt (now (rows .entry)) stamp s ⌝ }
 {
+    if rows.len() <= s {
+        return 0;
+    }
     let row = rows[s];
     if row / 131072 == stamp { row % 131072 } else { 0 }
 }
 
 // The head of the chain of state `s`.
 pub fn head(rows: &[u32], stamp: u32, s: usize) -> usize
-    requires { ⌜ s < length (now rows) ⌝ }
     ensures { λ r. ⌜ r ≡ headIn (now (rows .entry)) stamp s ⌝ }
 {
     (cell(rows, stamp, s) / 2) as usize
@@ -29,7 +31,6 @@ pub fn head(rows: &[u32], stamp: u32, s: usize) -> usize
 
 // Whether state `s` is final.
 pub fn is_final(rows: &[u32], stamp: u32, s: usize) -> bool
-    requires { ⌜ s < length (now rows) ⌝ }
     ensures { λ r. ⌜ r ≡ finalIn (now (rows .entry)) stamp s ⌝ }
 {
     cell(rows, stamp, s) % 2 == 1
@@ -74,7 +75,7 @@ pub fn first_bytes(table: &[u64], head: usize) -> u64
 }
 
 // Stores the word of a transition to state `to`, with the next link of its chain.
-pub fn put_edge(table: &mut [u64], at: usize, low: u8, high: u8, next: usize, to: u8)
+pub fn put_edge(table: &mut [u64], at: usize, low: u8, high: u8, next: usize, to: u16)
     requires { ⌜ (at < length (now table)) × (next < 65536) ⌝ }
     ensures { λ r. ⌜ now (table .exit) ≡ set (now (table .entry)) at (edgeWord low high next (bareSpot to)) ⌝ }
 {
@@ -101,7 +102,7 @@ pub fn mark_final(rows: &mut [u32], stamp: u32, s: usize)
 
 // The spot of state `s`.
 pub fn spot_of(rows: &[u32], stamp: u32, s: usize) -> u64
-    requires { ⌜ (s < stateCount) × (length (now rows) ≡ stateCount) ⌝ }
+    requires { ⌜ s < stateCount ⌝ }
     ensures { λ r. ⌜ r ≡ spotAt (now (rows .entry)) stamp s ⌝ }
 {
     let c = cell(rows, stamp, s) as u64;
@@ -110,7 +111,7 @@ pub fn spot_of(rows: &[u32], stamp: u32, s: usize) -> u64
 
 // Puts into each of the words from `first` to before `end` the spot of the state to which it leads.
 pub fn settle(table: &mut [u64], rows: &[u32], stamp: u32, first: usize, end: usize)
-    requires { ⌜ (first ≤ end) × (end ≤ length (now table)) × (length (now rows) ≡ stateCount) ⌝ }
+    requires { ⌜ (first ≤ end) × (end ≤ length (now table)) ⌝ }
     requires { ⌜ ((i : ℕ) → first ≤ i → i < end → toOf (edgeAt (now table) i) < stateCount) ⌝ }
     ensures { λ r. ⌜ Settles (now (rows .entry)) stamp first end (now (table .entry)) (now (table .exit)) ⌝ }
 {
@@ -122,7 +123,7 @@ pub fn settle(table: &mut [u64], rows: &[u32], stamp: u32, first: usize, end: us
 }
 
 fn settle_one(table: &mut [u64], rows: &[u32], stamp: u32, i: usize)
-    requires { ⌜ (i < length (now table)) × (length (now rows) ≡ stateCount) × (toOf (edgeAt (now table) i) < stateCount) ⌝ }
+    requires { ⌜ (i < length (now table)) × (toOf (edgeAt (now table) i) < stateCount) ⌝ }
     ensures { λ r. ⌜ now (table .exit) ≡ set (now (table .entry)) i (settled (now (rows .entry)) stamp (edgeAt (now (table .entry)) i)) ⌝ }
 {
     let e = table[i];
@@ -133,7 +134,7 @@ fn settle_one(table: &mut [u64], rows: &[u32], stamp: u32, i: usize)
 }
 
 // Stores the name of rule number `rule`.
-pub fn put_name(table: &mut [u64], rule: usize, tag: u16, kind: u8, start: u8)
+pub fn put_name(table: &mut [u64], rule: usize, tag: u16, kind: u8, start: u16)
     requires { ⌜ (rule < ruleRoom) × (edgeStart ≤ length (now table)) ⌝ }
     ensures { λ r. ⌜ now (table .exit) ≡ set (now (table .entry)) (namePlace rule) (nameWord tag kind start) ⌝ }
 {

@@ -18,7 +18,7 @@ pub const RULES: usize = 32;
 pub const EDGE_START: usize = 65;
 
 // The states of a rule are below this.
-pub const STATES: usize = 256;
+pub const STATES: usize = 4096;
 
 // How many rules the table holds.
 pub fn count_of(table: &[u64]) -> usize

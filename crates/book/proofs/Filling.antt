@@ -6,7 +6,7 @@ use mathlib.Core.List.{List, [], _∷_, _++_}
 use Prim.Native.Nat.{ℕ, _+_, _*_, _%_, _<_, _≤_}
 use native.Mathlib.Omega.{arith}
 use lib.Dec.{eqb}
-use lib.ListN.{length, set, length-set, length-append, List·getD-append}
+use lib.ListN.{length, getD, set, length-set, length-append, List·getD-append}
 use lib.Seq.{getD-set-same, getD-set-other, getD-at}
 use borrow.Author.Tests.{eqb-true, eqb-false}
 use borrow.Author.Count.{below-more}
@@ -14,7 +14,7 @@ use Rattle.automaton.specs.Rule.{Transition, Rule, stateCount}
 use Rattle.automaton.specs.Contracts.{edgeStart, namePlace, bodyPlace, nameWord, bodyWord, startOf, firstOf, endOf, bareSpot, edgeWord}
 use Rattle.automaton.specs.Contracts.{startWord, countAt, nameAt, bodyAt, edgeAt}
 use Rattle.automaton.specs.Contracts.{stampAt, rowWord, headIn, cellAt, blank, ruleAt, Chain, Within, Table, Settles}
-use Rattle.automaton.proofs.Built.{stamp-set, built-edge, built-final, built-blank, built-start, built-body, built-order}
+use Rattle.automaton.proofs.Built.{stamp-set, built-edge, built-final, built-blank, built-cells, built-start, built-body, built-order}
 use Rattle.automaton.proofs.Built.{Keeps, keeps-agrees, opens-agrees, body-keeps, table-keeps}
 use Rattle.book.specs.Limits.{maxRules}
 use Rattle.book.specs.Valid.{ValidRule}
@@ -26,15 +26,15 @@ module _ {first end : ℕ} {tb rows : List ℕ} {rules : List Rule} {fs : List �
   stamp = length rules + 1
 
   -- a final state more
-  pub stored-final : (s : ℕ) → s < stateCount
+  pub stored-final : (s : ℕ) → s < length rows → s < stateCount
       → Stored first end tb (set rows s (rowWord (length rules + 1) (headIn rows (length rules + 1) s) 1)) rules (s ∷ fs) ts
-  stored-final s l =
+  stored-final s c l =
       record {
         holds = st .holds;
         apart = st .apart;
-        stamps = stamp-set rows stamp s (headIn rows stamp s) 1 (omega (arith, st .built .cells))
+        stamps = stamp-set rows stamp s (headIn rows stamp s) 1 c
             (omega (arith, st .built .tops s l, st .built .short)) (st .stamps);
-        built = built-final (st .built) s l;
+        built = built-final (st .built) s c l;
       }
 
   -- closed rules in a table with the same words before `first`
@@ -48,7 +48,8 @@ module _ {first end : ℕ} {tb rows : List ℕ} {rules : List Rule} {fs : List �
         (st .holds .each k l)
 
   -- a transition more
-  module _ (t : Transition) (more : end < length tb) (short : end + 1 < 65536) (f : t.from < stateCount)
+  module _ (t : Transition) (more : end < length tb) (short : end + 1 < 65536) (cell-there : t.from < length rows)
+      (f : t.from < stateCount)
       (lo : t.low < 256) (hi : t.high < 256) (g : t.to < stateCount) where
     abbrev word : ℕ
     word = edgeWord t.low t.high (headIn rows stamp t.from) (bareSpot t.to)
@@ -74,9 +75,9 @@ module _ {first end : ℕ} {tb rows : List ℕ} {rules : List Rule} {fs : List �
                 (before (namePlace k) (omega arith)) (before (bodyPlace k) (omega arith));
           };
           apart = λ k l. rw (before (bodyPlace k) (omega arith)) (st .apart k l);
-          stamps = stamp-set rows stamp t.from end (cellAt rows stamp t.from % 2) (omega (arith, st .built .cells)) (omega arith)
+          stamps = stamp-set rows stamp t.from end (cellAt rows stamp t.from % 2) cell-there (omega arith)
               (st .stamps);
-          built = built-edge (st .built) t more short f lo hi g;
+          built = built-edge (st .built) t more short cell-there f lo hi g;
         }
 
   -- the open rule closed
@@ -200,7 +201,7 @@ module _ {first end : ℕ} {tb rows : List ℕ} {rules : List Rule} {fs : List �
               (rw (body-here, first-here, end-here) (st .built .start, omega arith)) k (omega (arith, more));
           stamps = λ s l. omega (arith, st .stamps s l, more);
           built = built-blank tb₁ rows (length (rules ++ (r ∷ [])) + 1) end (omega (arith, st .built .start, built-order (st .built)))
-              (rw same-size (st .built .room)) (st .built .short) (st .built .cells) (λ s l e. omega (arith, st .stamps s l, more));
+              (rw same-size (st .built .room)) (st .built .short) (λ s l e. omega (arith, st .stamps s l, more));
         }
 
 -- nothing read yet
@@ -210,5 +211,17 @@ stored-fresh {tb} {rows} f =
       holds = record { room = f .head; few = omega arith; count = f .empty; each = λ k l. absurd (omega arith) };
       apart = λ k l. absurd (omega arith);
       stamps = λ s l. rw (f .zeros s l) (omega arith);
-      built = built-blank tb rows 1 edgeStart (omega arith) (f .head) (omega arith) (f .cells) (λ s l e. omega (arith, f .zeros s l));
+      built = built-blank tb rows 1 edgeStart (omega arith) (f .head) (omega arith) (λ s l e. omega (arith, f .zeros s l));
+    }
+
+-- other cells that hold the same
+pub stored-cells : {first end : ℕ} {tb rows rows₁ : List ℕ} {rules : List Rule} {fs : List ℕ} {ts : List Transition}
+    → ((s : ℕ) → s < stateCount → getD rows₁ s 0 ≡ getD rows s 0)
+    → Stored first end tb rows rules fs ts → Stored first end tb rows₁ rules fs ts
+stored-cells e st =
+    record {
+      holds = st .holds;
+      apart = st .apart;
+      stamps = λ s l. rw (e s l) (st .stamps s l);
+      built = built-cells e (st .built);
     }

@@ -15,18 +15,18 @@ use Rattle.command.specs.declared.Command.{Command}
 use Rattle.command.specs.declared.Command.the-variants.{Rule as RULE, Start, Error, Final, Step, Span, Close, End}
 use Rattle.book.specs.Limits.{maxRules, maxTransitions}
 use Rattle.book.specs.Draft.{Draft, bare, between, withParts, isSet, isUnset, stateOf, ruleOf}
-use Rattle.book.specs.Draft.{Verdict, goes, accepts, refuses, check, tagged, isEmpty, move, apply}
+use Rattle.book.specs.Draft.{Verdict, goes, accepts, refuses, check, tagged, isEmpty, noState, move, apply}
 use Rattle.book.specs.Valid.{ValidRule, Distinct, ValidRules, Valid}
 use Rattle.book.specs.Contracts.{Below, OpenRule, Fine, standsInside}
 
--- the operands of a command are bytes
+-- the operands of a command that are not checked fit their bytes
 abbrev pub InRange : Command → Type 0
 InRange (RULE tag kind) = tag < 65536
-InRange (Start s) = s < 256
-InRange (Error s) = s < 256
-InRange (Final s) = s < 256
-InRange (Step from byte to) = (from < 256) × (byte < 256) × (to < 256)
-InRange (Span from low high to) = (from < 256) × (high < 256) × (to < 256)
+InRange (Start s) = Unit {0}
+InRange (Error s) = Unit {0}
+InRange (Final s) = Unit {0}
+InRange (Step from byte to) = byte < 256
+InRange (Span from low high to) = high < 256
 InRange Close = Unit {0}
 InRange End = Unit {0}
 
@@ -70,14 +70,17 @@ inside-fine f i start error finals ranged few =
       idle-transitions = λ e. clash i e;
     }
 
-pub move-good : (d : Draft) (at from low high to : ℕ) → Fine d → d.inside ≡ true → from < 256 → high < 256 → to < 256
+pub move-good : (d : Draft) (at from low high to : ℕ) → Fine d → d.inside ≡ true → high < 256
     → Good (move d at from low high to)
 unfolding move
-move-good d at from low high to f i a b c =
-    check-good (leb maxTransitions (length d.transitions)) _ _ _ (λ few. check-good (ltb high low) _ _ _ (λ order.
+move-good d at from low high to f i b =
+    check-good (leb maxTransitions (length d.transitions)) _ _ _ (λ few.
+    check-good (ltb high low || (noState from || noState to)) _ _ _ (λ range.
+    let p = or-false (ltb high low) (noState from || noState to) range in
+    let q = or-false (noState from) (noState to) (p .1) in
     let h : length d.transitions < maxTransitions = leb-false _ _ few in
     let t : Ranged stateCount (record { from = from; low = low; high = high; to = to }) =
-    record { from-below = a; to-below = c; ordered = ltb-false high low order; byte = b } in
+    record { from-below = leb-false _ _ (q .0); to-below = leb-false _ _ (q .1); ordered = ltb-false high low (p .0); byte = b } in
     inside-fine f i (f .start) (f .error) (f .finals) (t, f .ranged) (omega arith)))
 
 pub state-below : (o : Option ℕ) → Below stateCount o → stateOf o < stateCount
@@ -142,12 +145,15 @@ apply-good d (RULE tag kind) at len f r i =
     let l : length d.rules < maxRules = leb-false _ _ few in
     bare-fine (f .closed) (λ e. record { tag-some = omega arith; tag-below = r; tag-new = new; kind-known = k; room = l }))))
 apply-good d (Start s) at len f r i =
-    check-good (isSet d.start) _ _ _ (λ e. inside-fine f (sym i) r (f .error) (f .finals) (f .ranged) (f .few))
+    check-good (noState s) _ _ _ (λ l. check-good (isSet d.start) _ _ _ (λ e.
+    inside-fine f (sym i) (leb-false _ _ l) (f .error) (f .finals) (f .ranged) (f .few)))
 apply-good d (Error s) at len f r i =
-    check-good (isSet d.error) _ _ _ (λ e. inside-fine f (sym i) (f .start) r (f .finals) (f .ranged) (f .few))
-apply-good d (Final s) at len f r i = inside-fine f (sym i) (f .start) (f .error) (r, f .finals) (f .ranged) (f .few)
-apply-good d (Step from byte to) at len f (a, b, c) i = move-good d at from byte byte to f (sym i) a b c
-apply-good d (Span from low high to) at len f (a, b, c) i = move-good d at from low high to f (sym i) a b c
+    check-good (noState s) _ _ _ (λ l. check-good (isSet d.error) _ _ _ (λ e.
+    inside-fine f (sym i) (f .start) (leb-false _ _ l) (f .finals) (f .ranged) (f .few)))
+apply-good d (Final s) at len f r i =
+    check-good (noState s) _ _ _ (λ l. inside-fine f (sym i) (f .start) (f .error) (leb-false _ _ l, f .finals) (f .ranged) (f .few))
+apply-good d (Step from byte to) at len f r i = move-good d at from byte byte to f (sym i) r
+apply-good d (Span from low high to) at len f r i = move-good d at from low high to f (sym i) r
 apply-good d Close at len f r i =
     check-good (isUnset d.start || isUnset d.error) _ _ _ (λ set. check-good (overlaps d.transitions) _ _ _ (λ apart.
     check-good (any (λ (t : Transition). eqb t.from (stateOf d.error)) d.transitions) _ _ _ (λ stays.

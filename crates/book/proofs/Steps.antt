@@ -6,21 +6,22 @@ use mathlib.Core.Option.{Option, none, some}
 use Prim.Native.Nat.{ℕ, suc, _+_, _-_, _%_, _<_, _≤_}
 use native.Mathlib.Nat.{add-zero}
 use native.Mathlib.Omega.{arith}
-use lib.Dec.{leb, eqb}
+use lib.Dec.{leb, ltb, eqb}
 use lib.ListN.{length, set, length-append}
-use borrow.Author.Tests.{eq-eqb, ne-eqb, le-leb, lt-leb, lt-ltb, le-ltb}
+use borrow.Author.Tests.{eq-eqb, ne-eqb, leb-false, ltb-false, le-leb, lt-leb, lt-ltb, le-ltb}
 use Rattle.automaton.specs.Choice.{if, any, among}
 use Rattle.automaton.specs.Rule.{Transition, Rule, meets, overlaps, stateCount}
 use Rattle.automaton.proofs.Built.{head-none, head-some, meets-shares, built-order, listed-length, listed-below}
 use Rattle.automaton.specs.Contracts.{edgeWord, bareSpot, rowWord, cellAt, headIn, finalIn, leaving, shares, Chain, Built, Held}
-use Rattle.automaton.proofs.Tests.{or-true}
+use Rattle.automaton.proofs.Tests.{or-true, or-false}
 use Rattle.command.specs.declared.Command.{Command}
 use Rattle.command.specs.declared.Command.the-variants.{Rule as RULE, Final, Close, End}
 use Rattle.book.specs.declared.Book.{Book}
 use Rattle.book.specs.declared.Progress.{Progress}
 use Rattle.book.specs.declared.Progress.the-variants.{On, Done, Refused}
 use Rattle.book.specs.Limits.{maxRules, maxTransitions}
-use Rattle.book.specs.Draft.{Draft, opened, isSet, isUnset, stateOf, ruleOf, goes, check, tagged, isEmpty, move, apply}
+use Rattle.book.specs.Draft.{Draft, opened, isSet, isUnset, stateOf, ruleOf}
+use Rattle.book.specs.Draft.{Verdict, goes, check, tagged, isEmpty, noState, move, apply}
 use Rattle.book.specs.Contracts.{Fine, bookOf, idle, edgeLimit, Stored, Represents, Represented, Inside, Closes, Follows}
 use Rattle.book.specs.Contracts.{standsInside}
 use Rattle.book.proofs.Fine.{Good, apply-good, move-good, state-below, closed-rule}
@@ -28,6 +29,12 @@ use Rattle.book.proofs.Filling.{stored-final, stored-edge, stored-close
 
 abbrev pub refusal : ℕ → ℕ → Progress
 refusal number place = Refused (record { number = number; place = place })
+
+either-way : (a b : Bool) → if a true b ≡ if b true a
+either-way true true = refl
+either-way true false = refl
+either-way false true = refl
+either-way false false = refl
 
 -- reading goes on with a draft that is fine and stored
 on : {b : Book} {tb rows : List ℕ} (d : Draft) {f m n : ℕ} → Fine d → Stored f m tb rows d.rules d.finals d.transitions
@@ -67,17 +74,25 @@ module _ {b : Book} {tb rows : List ℕ} {d : Draft} (h : Represents b tb rows d
   error-small : b .error < stateCount
   error-small = rw error-is at (state-below d.error (h .fine .error))
 
--- ---- START and ERROR: a state that is given once. The code's t tells, as s does, whether it was given before.
+-- ---- START and ERROR: a state that is given once. The code's t and u tell, as noState and v do, that there is no such state and that one
+-- was given before.
 
-module _ (tb rows : List ℕ) (at n : ℕ) (d : Draft) {t s : Bool} (seen : t ≡ s) where
-  pub given-again : t ≡ true → Follows (check s 8 at (goes d)) (refusal 8 at) tb rows n
+module _ (tb rows : List ℕ) (at n s : ℕ) (w : Verdict) {t : Bool} (seen : t ≡ noState s) where
+  pub no-state : t ≡ true → Follows (check (noState s) 6 at w) (refusal 6 at) tb rows n
   unfolding check
-  given-again e = rw (sym seen ∙ e)
+  no-state e = rw (sym seen ∙ e)
 
-  pub given : {b : Book} {f m : ℕ} → t ≡ false → Good (check s 8 at (goes d)) → Stored f m tb rows d.rules d.finals d.transitions
-      → b ≡ bookOf d f m → m ≤ n → Follows (check s 8 at (goes d)) (On b) tb rows n
+module _ (tb rows : List ℕ) (at n s : ℕ) (d : Draft) {t u v : Bool} (seen : t ≡ noState s) (state : t ≡ false) (given-before : u ≡ v) where
+  pub given-again : u ≡ true → Follows (check (noState s) 6 at (check v 8 at (goes d))) (refusal 8 at) tb rows n
   unfolding check
-  given e g st q l = rw (sym seen ∙ e) (on d (rw (sym seen ∙ e) at g) st q l)
+  given-again e = rw (sym seen ∙ state, sym given-before ∙ e)
+
+  pub given : {b : Book} {f m : ℕ} → u ≡ false → Good (check (noState s) 6 at (check v 8 at (goes d)))
+      → Stored f m tb rows d.rules d.finals d.transitions → b ≡ bookOf d f m → m ≤ n
+      → Follows (check (noState s) 6 at (check v 8 at (goes d))) (On b) tb rows n
+  unfolding check
+  given e g st q l =
+      rw (sym seen ∙ state, sym given-before ∙ e) (on d (rw (sym seen ∙ state, sym given-before ∙ e) at g) st q l)
 
 -- ---- END
 
@@ -139,6 +154,16 @@ module _ {b : Book} {tb rows : List ℕ} {d : Draft} (h : Represents b tb rows d
             let z = rw (h .fine .idle-finals i, h .fine .idle-transitions i, c) at (h .stored) in
             rw (few-closed, ne-eqb _ _ some, le-ltb _ _ known, sym seen ∙ e) (on _ f z q m)
 
+-- ---- what the commands inside a rule ask
+
+-- the states of a move in range
+pub move-below : (from low high to : ℕ) {t : Bool} → t ≡ ltb high low || (noState from || noState to) → t ≡ false
+    → (from < stateCount) × (to < stateCount)
+move-below from low high to seen inside-range =
+    let states : noState from || noState to ≡ false = or-false (ltb high low) (noState from || noState to) (sym seen ∙ inside-range) .1 in
+    let both = or-false (noState from) (noState to) states in
+    (leb-false _ _ (both .0), leb-false _ _ (both .1))
+
 -- ---- FINAL
 
 -- inside a rule there is room for it
@@ -146,13 +171,14 @@ pub open-room : {b : Book} {tb rows : List ℕ} {d : Draft} → Represents b tb 
 open-room h i = rw (rules-are h) (h .fine .current i .room)
 
 module _ {b : Book} {tb rows : List ℕ} {d : Draft} (h : Represents b tb rows d) (i : d.inside ≡ true) where
-  pub final-added : (s at len n : ℕ) {rows₁ : List ℕ} → s < 256 → b .edges ≤ n
+  pub final-added : (s at len n : ℕ) {rows₁ : List ℕ} {t : Bool} → t ≡ noState s → t ≡ false → s < length rows → b .edges ≤ n
       → rows₁ ≡ set rows s (rowWord (b .rules + 1) (headIn rows (b .rules + 1) s) 1)
       → Follows (apply d (Final s) at len) (On b) tb rows₁ n
-  unfolding apply
-  final-added s at len n l m e =
-      let f = apply-good d (Final s) at len (h .fine) l (sym i) in
-      rw (e, h .same) (on _ f (stored-final (h .stored) s l) refl m)
+  unfolding apply check
+  final-added s at len n seen state c m e =
+      let z : noState s ≡ false = sym seen ∙ state in
+      let f = rw z at (apply-good d (Final s) at len (h .fine) tt (sym i)) in
+      rw (z, e, h .same) (on _ f (stored-final (h .stored) s c (leb-false _ _ z)) refl m)
 
   -- ---- STEP and SPAN
 
@@ -165,40 +191,53 @@ module _ {b : Book} {tb rows : List ℕ} {d : Draft} (h : Represents b tb rows d
       few-moves : leb maxTransitions (length d.transitions) ≡ false
       few-moves = lt-leb maxTransitions (length d.transitions) (omega (arith, count-is h))
 
-      pub move-disorder : high < low → Follows (move d at from low high to) (refusal 6 at) tb rows n
-      unfolding check move
-      move-disorder l = rw (few-moves, lt-ltb _ _ l)
+      module _ {t : Bool} (seen : t ≡ ltb high low || (noState from || noState to)) where
+        pub move-outside : t ≡ true → Follows (move d at from low high to) (refusal 6 at) tb rows n
+        unfolding check move
+        move-outside e = rw (few-moves, sym seen ∙ e)
 
-      pub move-added : {tb₁ rows₁ : List ℕ} {shared both : Bool} → low ≤ high → from < 256 → high < 256 → to < 256
-          → b .edges < length tb → b .edges < edgeLimit → b .edges + 1 ≤ n
-          → ((first : ℕ) (ts : List Transition) → Chain tb first (headIn rows (b .rules + 1) from) ts → shared ≡ any (shares low high) ts)
-          → both ≡ if shared true (b .overlap)
-          → tb₁ ≡ set tb (b .edges) (edgeWord low high (headIn rows (b .rules + 1) from) (bareSpot to))
-          → rows₁ ≡ set rows from (rowWord (b .rules + 1) (b .edges) (cellAt rows (b .rules + 1) from % 2))
-          → Follows (move d at from low high to)
-          (On (record {
-            rules = b .rules;
-            first = b .first;
-            edges = b .edges + 1;
-            inside = b .inside;
-            tag = b .tag;
-            kind = b .kind;
-            started = b .started;
-            start = b .start;
-            erring = b .erring;
-            error = b .error;
-            overlap = both;
-          }))
-          tb₁ rows₁ n
-      unfolding check move overlaps
-      move-added {shared = shared} order f hi t more short m seen joined e₁ e₂ =
-          let u : Transition = record { from = from; low = low; high = high; to = to } in
-          let fine = rw (few-moves, le-ltb _ _ order) at (move-good d at from low high to (h .fine) i f hi t) in
-          let c = h .stored .built .chains from f in
-          let z : shared ≡ any (meets u) d.transitions =
-          seen (b .first) (leaving from d.transitions) (rw (rules-are h) c) ∙ meets-shares u d.transitions in
-          let st = stored-edge (h .stored) u more (omega arith) f (omega arith) hi t in
-          rw (few-moves, le-ltb _ _ order, e₁, e₂, joined, z, h .same) (on _ fine st refl m)
+        module _ (inside-range : t ≡ false) where
+          range : ltb high low || (noState from || noState to) ≡ false
+          range = sym seen ∙ inside-range
+
+          order : low ≤ high
+          order = ltb-false high low (or-false (ltb high low) (noState from || noState to) range .0)
+
+          below : (from < stateCount) × (to < stateCount)
+          below = move-below from low high to seen inside-range
+
+          pub move-added : {tb₁ rows₁ : List ℕ} {both : Bool} → high < 256 → from < length rows
+              → b .edges < length tb → b .edges < edgeLimit → b .edges + 1 ≤ n
+              → ((first : ℕ) (ts : List Transition) → Chain tb first (headIn rows (b .rules + 1) from) ts
+              → both ≡ if (b .overlap) true (any (shares low high) ts))
+              → tb₁ ≡ set tb (b .edges) (edgeWord low high (headIn rows (b .rules + 1) from) (bareSpot to))
+              → rows₁ ≡ set rows from (rowWord (b .rules + 1) (b .edges) (cellAt rows (b .rules + 1) from % 2))
+              → Follows (move d at from low high to)
+              (On (record {
+                rules = b .rules;
+                first = b .first;
+                edges = b .edges + 1;
+                inside = b .inside;
+                tag = b .tag;
+                kind = b .kind;
+                started = b .started;
+                start = b .start;
+                erring = b .erring;
+                error = b .error;
+                overlap = both;
+              }))
+              tb₁ rows₁ n
+          unfolding check move overlaps
+          move-added {both = both} hi c more short m joined e₁ e₂ =
+              let u : Transition = record { from = from; low = low; high = high; to = to } in
+              let fine = rw (few-moves, range) at (move-good d at from low high to (h .fine) i hi) in
+              let k = h .stored .built .chains from (below .0) in
+              let z : both ≡ if (any (meets u) d.transitions) true (overlaps d.transitions) =
+              joined (b .first) (leaving from d.transitions) (rw (rules-are h) k)
+              ∙ rw (meets-shares u d.transitions, overlap-is h) (either-way (overlaps d.transitions) (any (meets u) d.transitions)) in
+              let l = order in
+              let st = stored-edge (h .stored) u more (omega arith) c (below .0) (omega arith) hi (below .1) in
+              rw (few-moves, range, e₁, e₂, z, h .same) (on _ fine st refl m)
 
 -- ---- CLOSE
 
@@ -299,7 +338,6 @@ inside-room {b} {tb} {rows} k e f z =
     record {
       few = open-room h i;
       head = h .stored .holds .room;
-      cells = st .cells;
       start = st .start;
       order = built-order st;
       room = st .room;
@@ -307,4 +345,5 @@ inside-room {b} {tb} {rows} k e f z =
       chains = λ s l. record { first = b .first; transitions = leaving s (k .draft .transitions); chain = st .chains s l };
       tops = st .tops;
       below = listed-below tb (b .first) (b .edges) (k .draft .transitions) (h .fine .ranged) (st .listed);
+      start-below = start-small h;
     }

@@ -13,7 +13,7 @@ use Rattle.command.specs.declared.Command.{Command}
 use Rattle.command.specs.declared.Command.the-variants.{Rule as RULE, Start, Error, Final, Step, Span, Close, End}
 use Rattle.book.specs.declared.Book.{Book}
 use Rattle.book.specs.declared.Progress.{Progress}
-use Rattle.book.specs.declared.Progress.the-variants.{On, Done, Refused}
+use Rattle.book.specs.declared.Progress.the-variants.{On, Done, Refused, Narrow}
 use Rattle.book.specs.Limits.{maxRules, maxTransitions}
 use Rattle.book.specs.Draft.{Draft, isSet, stateOf, tagged, Verdict, goes, accepts, refuses, apply}
 use Rattle.book.specs.Valid.{ValidRules}
@@ -48,13 +48,12 @@ pub record Fine (d : Draft) : Type 0 where
 
 -- transitions stand before this place: a book has room for a quarter as many as it has bytes
 abbrev pub edgeLimit : ℕ
-edgeLimit = 8258
+edgeLimit = 16450
 
--- as they are lent: no rule in the table, and all cells zero
+-- as they are lent: no rule in the table, and every cell zero
 pub record Fresh (tb rows : List ℕ) : Type 0 where
   pub head : edgeStart ≤ length tb
   pub empty : countAt tb ≡ 0
-  pub cells : length rows ≡ stateCount
   pub zeros : (s : ℕ) → s < stateCount → getD rows s 0 ≡ 0
 
 -- they hold these closed rules and what the open rule has so far, whose transitions stand from first to before end
@@ -115,7 +114,6 @@ pub record Represented (b : Book) (tb rows : List ℕ) : Type 0 where
 pub record Inside (b : Book) (tb rows : List ℕ) : Type 0 where
   pub few : b .rules < maxRules
   pub head : edgeStart ≤ length tb
-  pub cells : length rows ≡ stateCount
   pub start : edgeStart ≤ b .first
   pub order : b .first ≤ b .edges
   pub room : b .edges ≤ length tb
@@ -123,6 +121,7 @@ pub record Inside (b : Book) (tb rows : List ℕ) : Type 0 where
   pub chains : (s : ℕ) → s < stateCount → Chained tb (headIn rows (b .rules + 1) s)
   pub tops : (s : ℕ) → s < stateCount → headIn rows (b .rules + 1) s < b .edges
   pub below : (i : ℕ) → b .first ≤ i → i < b .edges → toOf (edgeAt tb i) < stateCount
+  pub start-below : b .start < stateCount
 
 -- the table with the open rule as its next one: its transitions settled, its name and body stored, and the rules counted
 pub record Closes (b : Book) (rows tb tb₁ : List ℕ) : Type 0 where
@@ -166,15 +165,26 @@ abbrev pub Follows : Verdict → Progress → List ℕ → List ℕ → ℕ → 
 Follows (goes d) (On b) tb rows n = Represents b tb rows d × (b .edges ≤ n)
 Follows (goes d) (Done k) tb rows n = ⊥
 Follows (goes d) (Refused f) tb rows n = ⊥
+Follows (goes d) Narrow tb rows n = ⊥
 Follows (accepts rules) (On b) tb rows n = ⊥
 Follows (accepts rules) (Done k) tb rows n = (k ≡ length rules) × Holds tb rules
 Follows (accepts rules) (Refused f) tb rows n = ⊥
+Follows (accepts rules) Narrow tb rows n = ⊥
 Follows (refuses number place) (On b) tb rows n = ⊥
 Follows (refuses number place) (Done k) tb rows n = ⊥
 Follows (refuses number place) (Refused f) tb rows n = f ≡ record { number = number; place = place }
+Follows (refuses number place) Narrow tb rows n = ⊥
+
+-- or it has changed nothing yet, since there is no cell for a state of the command
+abbrev pub Makes : Verdict → Progress → List ℕ → List ℕ → List ℕ → List ℕ → ℕ → Type 0
+Makes v (On b) tb rows tb₁ rows₁ n = Follows v (On b) tb₁ rows₁ n
+Makes v (Done k) tb rows tb₁ rows₁ n = Follows v (Done k) tb₁ rows₁ n
+Makes v (Refused f) tb rows tb₁ rows₁ n = Follows v (Refused f) tb₁ rows₁ n
+Makes v Narrow tb rows tb₁ rows₁ n = (tb₁ ≡ tb) × (rows₁ ≡ rows) × (length rows < stateCount)
 
 -- Of every draft that b, the table and the cells hold, the code made of the command what `apply` says, and added no more transitions
 -- than the command has. The command stands where it may.
 abbrev pub Takes : Book → Command → ℕ → ℕ → Progress → List ℕ → List ℕ → List ℕ → List ℕ → Type 0
 Takes b c at len r tb rows tb₁ rows₁ =
-    (d : Draft) → Represents b tb rows d → d.inside ≡ standsInside c → Follows (apply d c at len) r tb₁ rows₁ (b .edges + adds c)
+    (d : Draft) → Represents b tb rows d → d.inside ≡ standsInside c
+    → Makes (apply d c at len) r tb rows tb₁ rows₁ (b .edges + adds c)

@@ -6,7 +6,7 @@ use Prim.Native.Nat.{ℕ, _+_}
 use lib.Dec.{leb, ltb, eqb}
 use lib.ListN.{length}
 use Rattle.automaton.specs.Choice.{any, among}
-use Rattle.automaton.specs.Rule.{Transition, Rule, overlaps}
+use Rattle.automaton.specs.Rule.{Transition, Rule, overlaps, stateCount}
 use Rattle.command.specs.declared.Command.{Command}
 use Rattle.command.specs.declared.Command.the-variants.{Rule as RULE, Start, Error, Final, Step, Span, Close, End}
 use Rattle.book.specs.Limits.{maxRules, maxTransitions}
@@ -96,11 +96,14 @@ abbrev pub isEmpty : List Rule → Bool
 isEmpty [] = true
 isEmpty (r ∷ rs) = false
 
+-- no state has this number
+abbrev pub noState : ℕ → Bool
+noState s = leb stateCount s
+
 -- a move, as STEP and SPAN give it
 unfoldable pub move : Draft → ℕ → ℕ → ℕ → ℕ → ℕ → Verdict
 move d at from low high to =
-    check (leb maxTransitions (length d.transitions)) 5 at
-    (check (ltb high low) 6 at
+    check (leb maxTransitions (length d.transitions)) 5 at (check (ltb high low || (noState from || noState to)) 6 at
     (goes (withTransition d (record { from = from; low = low; high = high; to = to }))))
 
 -- the command at `at` of a book of `len` bytes, in the order of checks of document 01
@@ -110,9 +113,9 @@ apply d (RULE tag kind) at len =
     (check (eqb tag 0 || ltb 1 kind) 6 at
     (check (tagged tag d.rules) 7 at
     (goes (opened d tag kind))))
-apply d (Start s) at len = check (isSet d.start) 8 at (goes (withStart d s))
-apply d (Error s) at len = check (isSet d.error) 8 at (goes (withError d s))
-apply d (Final s) at len = goes (withFinal d s)
+apply d (Start s) at len = check (noState s) 6 at (check (isSet d.start) 8 at (goes (withStart d s)))
+apply d (Error s) at len = check (noState s) 6 at (check (isSet d.error) 8 at (goes (withError d s)))
+apply d (Final s) at len = check (noState s) 6 at (goes (withFinal d s))
 apply d (Step from byte to) at len = move d at from byte byte to
 apply d (Span from low high to) at len = move d at from low high to
 apply d Close at len =

@@ -25,7 +25,7 @@ pub fn apply(
         Command::Rule { tag, kind } => crate::opening::open_rule(state, table, tag, kind, at),
         Command::Start(s) => state.set_start(s, at),
         Command::Error(s) => state.set_error(s, at),
-        Command::Final(s) => state.add_final(rows, s),
+        Command::Final(s) => state.add_final(rows, s, at),
         Command::Step { from, byte, to } => crate::moving::add_transition(
             state,
             table,

@@ -12,9 +12,9 @@ ghost use mathlib.Core.Path.{_≡_};
 ghost use mathlib.Core.List.{List};
 ghost use Prim.Native.Nat.{ℕ, _+_, _<_};
 ghost use lib.ListN.{length};
-ghost use Rattle.automaton.specs.Rule.{stateCount};
 ghost use Rattle.automaton.specs.Contracts.{edgeStart};
 ghost use Rattle.book.specs.Limits.{maxRules};
+ghost use Rattle.book.specs.Draft.{noState};
 ghost use Rattle.book.specs.Contracts.{idle, Takes};
 
 // A book that is being read: how many rules are closed, where the transitions of the open rule begin in the table and the next one
@@ -23,22 +23,23 @@ pub struct Book {
     pub rules: usize,
     pub first: usize,
     pub edges: usize,
-    pub inside: bool,
+    pub start: u16,
+    pub error: u16,
     pub tag: u16,
     pub kind: u8,
+    pub inside: bool,
     pub started: bool,
-    pub start: u8,
     pub erring: bool,
-    pub error: u8,
     // whether two of its transitions leave one state at one byte
     pub overlap: bool,
 }
 
-// What a command comes to.
+// What a command comes to. `Narrow`: nothing yet, since the cells that are lent do not reach a state of the command.
 pub enum Progress {
     On(Book),
     Done(usize),
     Refused(Refusal),
+    Narrow,
 }
 
 impl Progress {
@@ -51,23 +52,23 @@ impl Progress {
 
 impl Book {
     // The limits of a book.
-    pub const BYTES: usize = 32768;
+    pub const BYTES: usize = 65536;
 
     pub const RULES: usize = 32;
     // transitions of one rule
-    pub const TRANSITIONS: usize = 512;
+    pub const TRANSITIONS: usize = 4096;
+    // states of one rule, numbered from 0
+    pub const STATES: usize = automaton::STATES;
 
     // Bytes of a text, tokens of a list, bytes that a printer writes.
     pub const TEXT: usize = 65536;
 
     pub const TOKENS: usize = 65536;
 
-    // A small book, and the words of a table that it and any book may need.
+    // Bytes of a scratch for short lists, and words of a table for any book.
     pub const SMALL: usize = 2048;
 
-    pub const SMALL_TABLE: usize = 578;
-
-    pub const TABLE: usize = 8258;
+    pub const TABLE: usize = 16450;
 
     // Nothing read yet.
     pub fn new() -> Book
@@ -96,9 +97,12 @@ impl Book {
     }
 
     // START.
-    pub fn set_start(mut self, s: u8, at: usize) -> Progress
+    pub fn set_start(mut self, s: u16, at: usize) -> Progress
         ensures { λ r. ⌜ ((tb rows : List ℕ) (len : ℕ) → Takes self (Command.Start s) at len r tb rows tb rows) ⌝ }
     {
+        if is_no_state(s) {
+            return Progress::refused(Refusal::OUT_OF_RANGE, at);
+        }
         if self.started {
             return Progress::refused(Refusal::TWICE_OR_MISSING, at);
         }
@@ -108,9 +112,12 @@ impl Book {
     }
 
     // ERROR.
-    pub fn set_error(mut self, s: u8, at: usize) -> Progress
+    pub fn set_error(mut self, s: u16, at: usize) -> Progress
         ensures { λ r. ⌜ ((tb rows : List ℕ) (len : ℕ) → Takes self (Command.Error s) at len r tb rows tb rows) ⌝ }
     {
+        if is_no_state(s) {
+            return Progress::refused(Refusal::OUT_OF_RANGE, at);
+        }
         if self.erring {
             return Progress::refused(Refusal::TWICE_OR_MISSING, at);
         }
@@ -128,11 +135,17 @@ impl Book {
     }
 
     // FINAL.
-    pub fn add_final(self, rows: &mut [u32], s: u8) -> Progress
-        requires { ⌜ (self .rules < maxRules) × (length (now rows) ≡ stateCount) ⌝ }
-        ensures { λ r. ⌜ ((tb : List ℕ) (at len : ℕ)
+    pub fn add_final(self, rows: &mut [u32], s: u16, at: usize) -> Progress
+        requires { ⌜ self .rules < maxRules ⌝ }
+        ensures { λ r. ⌜ ((tb : List ℕ) (len : ℕ)
             → Takes self (Command.Final s) at len r tb (now (rows .entry)) tb (now (rows .exit))) ⌝ }
     {
+        if is_no_state(s) {
+            return Progress::refused(Refusal::OUT_OF_RANGE, at);
+        }
+        if rows.len() <= s as usize {
+            return Progress::Narrow;
+        }
         automaton::building::mark_final(rows, self.stamp(), s as usize);
         Progress::On(self)
     }
@@ -150,4 +163,11 @@ impl Book {
         }
         Progress::Done(self.rules)
     }
+}
+
+// Whether `s` is above the highest state that a rule may have.
+pub fn is_no_state(s: u16) -> bool
+    ensures { λ r. ⌜ r ≡ noState s ⌝ }
+{
+    Book::STATES <= s as usize
 }

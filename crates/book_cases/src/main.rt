@@ -5,11 +5,11 @@ use libc::STDIN_FILENO;
 use libc::STDOUT_FILENO;
 
 fn main() {
-    let mut room = [0u8; 40000];
+    let mut room = [0u8; 80000];
     run(&mut room);
 }
 
-fn run(room: &mut [u8; 40000]) {
+fn run(room: &mut [u8; 80000]) {
     let text = read(room);
     cases(room, text);
 }
@@ -172,14 +172,14 @@ fn book_byte(command: u8, i: u64, left: u64) -> u8 {
     if i % 2 == 0 { command } else { 1 }
 }
 
-// RULE number `rule`, START 0, ERROR 9, CLOSE.
+// RULE number `rule`, START 0, ERROR 99, CLOSE.
 fn rule_byte(i: u64, rule: u64) -> u8 {
     match i {
         0 => 1,
         2 => (rule % 64) as u8 + 1,
         4 => 2,
         6 => 3,
-        7 => 9,
+        7 => 99,
         8 => 7,
         _ => 0,
     }

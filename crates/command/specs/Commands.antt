@@ -14,14 +14,15 @@ use Rattle.command.specs.declared.Decoded.the-variants as decoded
 abbrev pub byteAt : List ℕ → ℕ → ℕ
 byteAt bytes i = getD bytes i 0
 
--- RULE (1) and END (8) stand only outside a rule, 2 to 7 only inside one; nothing else is a command
+-- RULE (1) and END (8) stand only outside a rule, 2 to 7 and 9 to 12 only inside one; nothing else is a command
 unfoldable pub placed : ℕ → Bool → Bool
-placed code inside = if (eqb code 1 || eqb code 8) (not inside) (if (leb 2 code && leb code 7) inside false)
+placed code inside = if (eqb code 1 || eqb code 8) (not inside) (if (leb 2 code && leb code 12) inside false)
 
--- operand bytes
+-- operand bytes; 9 to 12 have states of two bytes (document 02, wish 13)
 unfoldable pub operandsOf : ℕ → ℕ
 operandsOf code =
-    if (eqb code 1) 3 (if (eqb code 2 || (eqb code 3 || eqb code 4)) 1 (if (eqb code 5) 3 (if (eqb code 6) 4 0)))
+    if (eqb code 1) 3 (if (eqb code 2 || (eqb code 3 || eqb code 4)) 1 (if (eqb code 5) 3 (if (eqb code 6) 4
+    (if (eqb code 9 || (eqb code 10 || eqb code 11)) 2 (if (eqb code 12) 6 0)))))
 
 -- the command that stands at `at`, with its operands behind it
 unfoldable pub decode : List ℕ → ℕ → ℕ → Command
@@ -32,7 +33,12 @@ decode bytes at code =
     (if (eqb code 4) (command.Final (byteAt bytes (at + 1)))
     (if (eqb code 5) (command.Step (byteAt bytes (at + 1)) (byteAt bytes (at + 2)) (byteAt bytes (at + 3)))
     (if (eqb code 6) (command.Span (byteAt bytes (at + 1)) (byteAt bytes (at + 2)) (byteAt bytes (at + 3)) (byteAt bytes (at + 4)))
-    (if (eqb code 7) command.Close command.End))))))
+    (if (eqb code 7) command.Close
+    (if (eqb code 9) (command.Start (twoAt bytes (at + 1)))
+    (if (eqb code 10) (command.Error (twoAt bytes (at + 1)))
+    (if (eqb code 11) (command.Final (twoAt bytes (at + 1)))
+    (if (eqb code 12) (command.Span (twoAt bytes (at + 1)) (byteAt bytes (at + 3)) (byteAt bytes (at + 4)) (twoAt bytes (at + 5)))
+    command.End))))))))))
 
 -- STEP (5) is retired: the stricter reading does not take it (document 02, wish 10)
 unfoldable pub retired : Bool → ℕ → Bool

@@ -2,16 +2,16 @@
 ghost use mathlib.Core.Path.{_≡_};
 ghost use Prim.Native.Nat.{_+_, _≤_, _<_};
 ghost use lib.ListN.{length};
-ghost use Rattle.command.specs.Commands.{placed, operandsOf, decode, retired, commandAt};
+ghost use Rattle.command.specs.Commands.{byteAt, placed, operandsOf, decode, retired, commandAt};
 
-// A command with its operands, under the names of document 01.
+// A command with its operands, under the names of document 01. A state is given in one byte or in two: the command is the same.
 pub enum Command {
     Rule { tag: u16, kind: u8 },
-    Start(u8),
-    Error(u8),
-    Final(u8),
-    Step { from: u8, byte: u8, to: u8 },
-    Span { from: u8, low: u8, high: u8, to: u8 },
+    Start(u16),
+    Error(u16),
+    Final(u16),
+    Step { from: u16, byte: u8, to: u16 },
+    Span { from: u16, low: u8, high: u8, to: u16 },
     Close,
     End,
 }
@@ -78,7 +78,7 @@ fn is_placed(code: u8, inside: bool) -> bool
     if code < 2 {
         return false;
     }
-    if 7 < code {
+    if 12 < code {
         return false;
     }
     inside
@@ -105,8 +105,20 @@ pub fn operands(code: u8) -> usize
         4 => 1,
         5 => 3,
         6 => 4,
+        9 => 2,
+        10 => 2,
+        11 => 2,
+        12 => 6,
         _ => 0,
     }
+}
+
+// The state of one byte at `at`.
+fn state(book: &[u8], at: usize) -> u16
+    requires { ⌜ at < length (now book) ⌝ }
+    ensures { λ r. ⌜ r ≡ byteAt (now (book .entry)) at ⌝ }
+{
+    book[at] as u16
 }
 
 // The command `code` whose operands begin after `at`.
@@ -119,21 +131,30 @@ fn command_of(book: &[u8], at: usize, code: u8) -> Command
             tag: big_endian::read_two(book, at + 1),
             kind: book[at + 3],
         },
-        2 => Command::Start(book[at + 1]),
-        3 => Command::Error(book[at + 1]),
-        4 => Command::Final(book[at + 1]),
+        2 => Command::Start(state(book, at + 1)),
+        3 => Command::Error(state(book, at + 1)),
+        4 => Command::Final(state(book, at + 1)),
         5 => Command::Step {
-            from: book[at + 1],
+            from: state(book, at + 1),
             byte: book[at + 2],
-            to: book[at + 3],
+            to: state(book, at + 3),
         },
         6 => Command::Span {
-            from: book[at + 1],
+            from: state(book, at + 1),
             low: book[at + 2],
             high: book[at + 3],
-            to: book[at + 4],
+            to: state(book, at + 4),
         },
         7 => Command::Close,
+        9 => Command::Start(big_endian::read_two(book, at + 1)),
+        10 => Command::Error(big_endian::read_two(book, at + 1)),
+        11 => Command::Final(big_endian::read_two(book, at + 1)),
+        12 => Command::Span {
+            from: big_endian::read_two(book, at + 1),
+            low: book[at + 3],
+            high: book[at + 4],
+            to: big_endian::read_two(book, at + 5),
+        },
         _ => Command::End,
     }
 }

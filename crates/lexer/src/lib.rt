@@ -7,11 +7,9 @@ pub mod sizes;
 
 use answer::BookAnswer;
 use answer::LexAnswer;
-use book::Book;
 ghost use mathlib.Core.Path.{_≡_};
-ghost use Prim.Native.Nat.{_≤_};
 ghost use lib.ListN.{length};
-ghost use Rattle.reader.specs.Contracts.{smallBook, Lent};
+ghost use Rattle.reader.specs.Contracts.{Lent};
 ghost use Rattle.lexer.specs.Outcome.{lexOutcome, restOf};
 ghost use Rattle.lexer.specs.Contracts.{LexAnswered, RestAt};
 
@@ -40,34 +38,8 @@ pub fn lex_with(book: &[u8], table: &mut [u64], text: &[u8], records: &mut [u8])
 pub fn rest<'a>(book: &[u8], text: &'a [u8]) -> &'a [u8]
     ensures { λ r. ⌜ now r ≡ restOf (now (book .entry)) (now (text .entry)) ⌝ }
 {
-    let at = rest_place(book, text);
+    let at = crate::sizes::rest_place(book, text);
     &text[at..]
-}
-
-// The place of the rest.
-fn rest_place(book: &[u8], text: &[u8]) -> usize
-    ensures { λ r. ⌜ RestAt (now (text .entry)) r (restOf (now (book .entry)) (now (text .entry))) ⌝ }
-{
-    if book.len() <= Book::SMALL {
-        rest_small(book, text)
-    } else {
-        rest_large(book, text)
-    }
-}
-
-fn rest_small(book: &[u8], text: &[u8]) -> usize
-    requires { ⌜ length (now book) ≤ smallBook ⌝ }
-    ensures { λ r. ⌜ RestAt (now (text .entry)) r (restOf (now (book .entry)) (now (text .entry))) ⌝ }
-{
-    let mut table = [0u64; Book::SMALL_TABLE];
-    rest_with(book, &mut table, text)
-}
-
-fn rest_large(book: &[u8], text: &[u8]) -> usize
-    ensures { λ r. ⌜ RestAt (now (text .entry)) r (restOf (now (book .entry)) (now (text .entry))) ⌝ }
-{
-    let mut table = [0u64; Book::TABLE];
-    rest_with(book, &mut table, text)
 }
 
 fn rest_with(book: &[u8], table: &mut [u64], text: &[u8]) -> usize

@@ -1,8 +1,9 @@
 // Printing a list of tokens, the paper's plain writing: their bytes one behind the other, if lexing them again gives the list back.
 // The bytes are joined in a scratch of the call's own, so that the output stands as it was where the list is refused. `by_rules` prints by
-// the rules that a lent table holds, `rehearsal` reads a list back before it is printed.
+// the rules that a lent table holds, `rehearsal` reads a list back before it is printed, `sizes` has tables for books of every length.
 pub mod by_rules;
 pub mod rehearsal;
+pub mod sizes;
 
 use answer::BookAnswer;
 use answer::PrintAnswer;
@@ -10,9 +11,8 @@ use book::Book;
 use token_list::readback::Extent;
 ghost use mathlib.Core.Path.{_≡_};
 ghost use mathlib.Core.Bool.{true};
-ghost use Prim.Native.Nat.{_≤_};
 ghost use lib.ListN.{length};
-ghost use Rattle.reader.specs.Contracts.{smallBook, Lent};
+ghost use Rattle.reader.specs.Contracts.{Lent};
 ghost use Rattle.printer.specs.Outcome.{printOutcome};
 ghost use Rattle.output.specs.Contracts.{PrintAnswered};
 ghost use Rattle.printer.specs.Contracts.{Roomy, Short};
@@ -24,12 +24,10 @@ pub fn print(book: &[u8], records: &[u8], pool: &[u8], out: &mut [u8]) -> PrintA
     ensures { λ r. ⌜ now (out .exit)
         ≡ (printOutcome (now (book .entry)) (now (records .entry)) (now (pool .entry)) (now (out .entry))) .out ⌝ }
 {
-    if book.len() <= Book::SMALL {
-        if is_short(records, pool) {
-            return print_small(book, records, pool, out);
-        }
+    if is_short(records, pool) {
+        return print_short(book, records, pool, out);
     }
-    print_large(book, records, pool, out)
+    print_long(book, records, pool, out)
 }
 
 // Whether the tokens of a list lie in the pool and have so few bytes that a small scratch has room for them.
@@ -45,23 +43,21 @@ fn is_short(records: &[u8], pool: &[u8]) -> bool
     }
 }
 
-fn print_small(book: &[u8], records: &[u8], pool: &[u8], out: &mut [u8]) -> PrintAnswer
-    requires { ⌜ (length (now book) ≤ smallBook) × Short (now records) (now pool) ⌝ }
+fn print_short(book: &[u8], records: &[u8], pool: &[u8], out: &mut [u8]) -> PrintAnswer
+    requires { ⌜ Short (now records) (now pool) ⌝ }
     ensures { λ r. ⌜ PrintAnswered (printOutcome (now (book .entry)) (now (records .entry)) (now (pool .entry)) (now (out .entry)))
         r (now (out .exit)) ⌝ }
 {
-    let mut table = [0u64; Book::SMALL_TABLE];
     let mut scratch = [0u8; Book::SMALL];
-    print_with(book, &mut table, records, pool, &mut scratch, out)
+    crate::sizes::print_sized(book, records, pool, &mut scratch, out)
 }
 
-fn print_large(book: &[u8], records: &[u8], pool: &[u8], out: &mut [u8]) -> PrintAnswer
+fn print_long(book: &[u8], records: &[u8], pool: &[u8], out: &mut [u8]) -> PrintAnswer
     ensures { λ r. ⌜ PrintAnswered (printOutcome (now (book .entry)) (now (records .entry)) (now (pool .entry)) (now (out .entry)))
         r (now (out .exit)) ⌝ }
 {
-    let mut table = [0u64; Book::TABLE];
     let mut scratch = [0u8; Book::TEXT];
-    print_with(book, &mut table, records, pool, &mut scratch, out)
+    crate::sizes::print_sized(book, records, pool, &mut scratch, out)
 }
 
 // With a table for the book's rules and a scratch for the list's bytes.

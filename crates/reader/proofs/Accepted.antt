@@ -42,27 +42,29 @@ up l ne = omega arith
 past : {k n : ℕ} → suc k ≤ n → n ≤ k → ⊥
 past a b = omega arith
 
--- a code from 1 to 8, or another
+-- a code from 1 to 12, or another
 module _ (P : ℕ → Type 0) (code : ℕ) where
   at-code : (k : ℕ) (t : Bool) → eqb code k ≡ t → P k → ((code ≡ k → ⊥) → P code) → P code
   at-code k true e p other = subst P (sym (eqb-true code k e)) p
   at-code k false e p other = other (eqb-false code k e)
 
-  pub by-code : P 1 → P 2 → P 3 → P 4 → P 5 → P 6 → P 7 → P 8 → ((1 ≤ code → code ≤ 8 → ⊥) → P code) → P code
-  by-code p1 p2 p3 p4 p5 p6 p7 p8 other =
+  pub by-code : P 1 → P 2 → P 3 → P 4 → P 5 → P 6 → P 7 → P 8 → P 9 → P 10 → P 11 → P 12 → ((1 ≤ code → code ≤ 12 → ⊥) → P code)
+      → P code
+  by-code p1 p2 p3 p4 p5 p6 p7 p8 p9 p10 p11 p12 other =
       at-code 1 (eqb code 1) refl p1 (λ n1. at-code 2 (eqb code 2) refl p2 (λ n2. at-code 3 (eqb code 3) refl p3 (λ n3.
       at-code 4 (eqb code 4) refl p4 (λ n4. at-code 5 (eqb code 5) refl p5 (λ n5. at-code 6 (eqb code 6) refl p6 (λ n6.
-      at-code 7 (eqb code 7) refl p7 (λ n7. at-code 8 (eqb code 8) refl p8 (λ n8.
-      other (λ l h. past (up (up (up (up (up (up (up (up l n1) n2) n3) n4) n5) n6) n7) n8) h)))))))))
+      at-code 7 (eqb code 7) refl p7 (λ n7. at-code 8 (eqb code 8) refl p8 (λ n8. at-code 9 (eqb code 9) refl p9 (λ n9.
+      at-code 10 (eqb code 10) refl p10 (λ n10. at-code 11 (eqb code 11) refl p11 (λ n11. at-code 12 (eqb code 12) refl p12 (λ n12.
+      other (λ l h. past (up (up (up (up (up (up (up (up (up (up (up (up l n1) n2) n3) n4) n5) n6) n7) n8) n9) n10) n11) n12) h)))))))))))))
 
-pub not-placed : (code : ℕ) (inside : Bool) → (1 ≤ code → code ≤ 8 → ⊥) → placed code inside ≡ false
+pub not-placed : (code : ℕ) (inside : Bool) → (1 ≤ code → code ≤ 12 → ⊥) → placed code inside ≡ false
 unfolding placed
 not-placed code inside out =
     rw (ne-eqb code 1 (λ e. out (omega arith) (omega arith)), ne-eqb code 8 (λ e. out (omega arith) (omega arith)))
-    (go (leb 2 code) refl (leb code 7) refl)
+    (go (leb 2 code) refl (leb code 12) refl)
   where
-    go : (a : Bool) → leb 2 code ≡ a → (b : Bool) → leb code 7 ≡ b → if (a && b) inside false ≡ false
-    go true e true f = let l : 2 ≤ code = leb-true _ _ e in let h : code ≤ 7 = leb-true _ _ f in absurd (out (omega arith) (omega arith))
+    go : (a : Bool) → leb 2 code ≡ a → (b : Bool) → leb code 12 ≡ b → if (a && b) inside false ≡ false
+    go true e true f = let l : 2 ≤ code = leb-true _ _ e in let h : code ≤ 12 = leb-true _ _ f in absurd (out (omega arith) (omega arith))
     go true e false f = refl
     go false e b f = refl
 
@@ -84,14 +86,18 @@ module _ (bytes : List ℕ) (at : ℕ) (inside : Bool) (byte : (i : ℕ) → byt
   decoded-found code =
       by-code Decodes code
       (λ e. found _ (closed-place inside e) (pair-below (at + 1)) (omega arith) (omega arith))
-      (λ e. found _ (sym e) (byte (at + 1)) (omega arith) (omega arith))
-      (λ e. found _ (sym e) (byte (at + 1)) (omega arith) (omega arith))
-      (λ e. found _ (sym e) (byte (at + 1)) (omega arith) (omega arith))
-      (λ e. found _ (sym e) (byte (at + 1), byte (at + 2), byte (at + 3)) (omega arith) (omega arith))
-      (λ e. found _ (sym e) (byte (at + 1), byte (at + 3), byte (at + 4)) (omega arith) (omega arith))
+      (λ e. found _ (sym e) tt (omega arith) (omega arith))
+      (λ e. found _ (sym e) tt (omega arith) (omega arith))
+      (λ e. found _ (sym e) tt (omega arith) (omega arith))
+      (λ e. found _ (sym e) (byte (at + 2)) (omega arith) (omega arith))
+      (λ e. found _ (sym e) (byte (at + 3)) (omega arith) (omega arith))
       (λ e. found _ (sym e) tt (omega arith) (omega arith))
       (λ e. found _ (closed-place inside e) tt (omega arith) (omega arith))
-      (λ out e l. clash e (not-placed code inside out))
+      (λ e. found _ (sym e) tt (omega arith) (omega arith))
+      (λ e. found _ (sym e) tt (omega arith) (omega arith))
+      (λ e. found _ (sym e) tt (omega arith) (omega arith))
+      (λ e. found _ (sym e) (byte (at + 4)) (omega arith) (omega arith))
+      (λ out e. clash e (not-placed code inside out))
     where
       found : (c : Command) {next : ℕ} → standsInside c ≡ inside → InRange c → at < next → at + 4 * adds c ≤ next → next ≤ length bytes
           → Commanded bytes at inside c next

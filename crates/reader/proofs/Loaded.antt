@@ -1,5 +1,6 @@
 -- What the answer of loading says of the book, and of the table. Assumes nothing.
 use mathlib.Core.Path.{_≡_, refl, sym, _∙_}
+use mathlib.Core.Bool.{Bool}
 use mathlib.Core.List.{List}
 use Prim.Native.Nat.{ℕ}
 use native.Mathlib.Omega.{arith}
@@ -7,8 +8,8 @@ use Rattle.answer.specs.declared.Refusal.{Refusal}
 use Rattle.answer.specs.declared.BookAnswer.{BookAnswer}
 use Rattle.automaton.specs.Rule.{Rule}
 use Rattle.automaton.specs.Contracts.{Holds, Held}
-use Rattle.reader.specs.Reading.{Reading, accepted, refused, readBook, answer}
-use Rattle.reader.specs.Contracts.{Loaded}
+use Rattle.reader.specs.Reading.{Reading, accepted, refused, readBy, answer}
+use Rattle.reader.specs.Contracts.{LoadedBy}
 use Rattle.answer.specs.declared.BookAnswer.the-variants as book
 
 -- ---- what an answer says of the reading
@@ -23,17 +24,17 @@ answer-refused (refused number place) {f} e = let y : f ≡ record { number = nu
 
 -- ---- and of the table
 
-module _ {bytes tb : List ℕ} {b : BookAnswer} {n : ℕ} (l : Loaded bytes b tb) (a : b ≡ book.Accepted n) where
+module _ {strict : Bool} {bytes tb : List ℕ} {b : BookAnswer} {n : ℕ} (l : LoadedBy strict bytes b tb) (a : b ≡ book.Accepted n) where
   -- the rules of an accepted book are in the table
-  pub loaded-rules : (rules : List Rule) × ((readBook bytes ≡ accepted rules) × Holds tb rules)
+  pub loaded-rules : (rules : List Rule) × ((readBy strict bytes ≡ accepted rules) × Holds tb rules)
   loaded-rules =
-      let k = answer-accepted (readBook bytes) (sym a ∙ l .answered) in
+      let k = answer-accepted (readBy strict bytes) (sym a ∙ l .answered) in
       (k .0, (k .1, l .holds (k .0) (k .1)))
 
   pub loaded-held : Held tb
   loaded-held = record { rules = loaded-rules .0; holds = loaded-rules .1 .1 }
 
 -- a book whose reading answers a refusal is refused so
-pub loaded-refusal : {bytes tb : List ℕ} {b : BookAnswer} {f : Refusal} → Loaded bytes b tb → b ≡ book.Refused f
-    → readBook bytes ≡ refused (f .number) (f .place)
-loaded-refusal {bytes} l a = answer-refused (readBook bytes) (sym a ∙ l .answered)
+pub loaded-refusal : {strict : Bool} {bytes tb : List ℕ} {b : BookAnswer} {f : Refusal} → LoadedBy strict bytes b tb → b ≡ book.Refused f
+    → readBy strict bytes ≡ refused (f .number) (f .place)
+loaded-refusal {strict} {bytes} l a = answer-refused (readBy strict bytes) (sym a ∙ l .answered)

@@ -1,11 +1,14 @@
 -- The loop of `load`: the rest of the book decides as the whole does. Assumes nothing.
 use mathlib.Core.Path.{_≡_, refl, sym, _∙_, ap, subst}
-use mathlib.Core.Bool.{Bool}
+use mathlib.Core.Bool.{Bool, true, false}
 use mathlib.Core.List.{List, []}
 use Prim.Native.Nat.{ℕ, zero, suc, _+_, _*_, _/_, _<_, _≤_}
 use native.Mathlib.Omega.{arith}
-use lib.ListN.{replicate, length-replicate, getD-replicate, length}
-use borrow.Author.Tests.{lt-ltb, le-ltb}
+use lib.Dec.{leb}
+use lib.ListN.{replicate, length-replicate, getD-replicate, length, getD, set, length-set, List·getD-eq-default}
+use lib.Seq.{getD-set-same, getD-set-other}
+use borrow.Author.Count.{below-more}
+use borrow.Author.Tests.{lt-ltb, le-ltb, leb-true, leb-false}
 use Rattle.answer.specs.declared.BookAnswer.{BookAnswer}
 use Rattle.automaton.specs.Rule.{Rule, overlaps, stateCount}
 use Rattle.automaton.specs.Contracts.{edgeStart, Holds}
@@ -15,15 +18,15 @@ use Rattle.command.specs.declared.Decoded.{Decoded}
 use Rattle.command.specs.Commands.{byteAt, commandAt}
 use Rattle.book.specs.declared.Book.{Book}
 use Rattle.book.specs.declared.Progress.{Progress}
-use Rattle.book.specs.declared.Progress.the-variants.{On, Done, Refused}
+use Rattle.book.specs.declared.Progress.the-variants.{On, Done, Refused, Narrow}
 use Rattle.book.specs.Limits.{maxBytes}
 use Rattle.book.specs.Draft.{Draft, between, Verdict, goes, accepts, refuses, apply}
-use Rattle.book.specs.Contracts.{idle, edgeLimit, Represents, Follows, Takes, adds, Fresh}
+use Rattle.book.specs.Contracts.{idle, edgeLimit, Represents, Makes, Takes, adds, Fresh}
 use Rattle.book.proofs.Fine.{fine-start}
-use Rattle.book.proofs.Filling.{stored-fresh}
+use Rattle.book.proofs.Filling.{stored-fresh, stored-cells}
 use Rattle.book.proofs.Steps.{inside-is}
 use Rattle.reader.specs.Reading.{accepted, refused, goOn, takeIn, readFrom, readBy, answer}
-use Rattle.reader.specs.Contracts.{smallBook, smallTable, largeTable, Lent, LoadedBy}
+use Rattle.reader.specs.Contracts.{largeTable, Lent, LoadedBy, Going, Copied}
 use Rattle.reader.proofs.Accepted.{Commanded, Found, command-found}
 use Rattle.reader.proofs.Walking.{not-accepted}
 use Rattle.command.specs.declared.Decoded.the-variants as decoded
@@ -52,17 +55,6 @@ unfolding readBy
 read-too-long strict bytes l = rw (lt-ltb _ _ l)
 
 -- ---- the loop
-
--- the book's bytes up to `at` have made the draft that the state, the table and the cells hold, and reading from there on decides
-pub record Going (strict : Bool) (bytes tb rows : List ℕ) (at : ℕ) (b : Book) : Type 0 where
-  pub draft : Draft
-  pub steps : ℕ
-  pub holds : Represents b tb rows draft
-  pub enough : length bytes ≤ at + steps
-  pub same : readBy strict bytes ≡ readFrom strict steps bytes at draft
-  pub few : 4 * b .edges ≤ 4 * edgeStart + at
-  pub short : length bytes ≤ maxBytes
-  pub room : edgeStart + length bytes / 4 < length tb
 
 pub going-start : {strict : Bool} {bytes tb rows : List ℕ} {b : Book} {at : ℕ} → Lent (length bytes) tb → Fresh tb rows
     → length bytes ≤ maxBytes → b ≡ idle 0 edgeStart → at ≡ 0 → Going strict bytes tb rows at b
@@ -118,11 +110,12 @@ pub record Here (strict : Bool) (bytes tb rows : List ℕ) (at : ℕ) (b : Book)
   pub byte : (i : ℕ) → byteAt bytes i < 256
   pub found : decoded.Command c cursor ≡ commandAt strict bytes at (b .inside)
 
--- what its outcome says of the book: reading goes on, or the book is answered
-abbrev pub Leaves : Bool → List ℕ → List ℕ → List ℕ → ℕ → Progress → Type 0
-Leaves strict bytes tb rows at (On b) = Going strict bytes tb rows at b
-Leaves strict bytes tb rows at (Done k) = LoadedBy strict bytes (answers.Accepted k) tb
-Leaves strict bytes tb rows at (Refused f) = LoadedBy strict bytes (answers.Refused f) tb
+-- what its outcome says of the book: reading goes on behind it, the book is answered, or it still stands there and cells are too few
+abbrev pub Leaves : Bool → List ℕ → List ℕ → List ℕ → ℕ → Book → ℕ → Progress → Type 0
+Leaves strict bytes tb rows at b next (On b₁) = Going strict bytes tb rows next b₁
+Leaves strict bytes tb rows at b next (Done k) = LoadedBy strict bytes (answers.Accepted k) tb
+Leaves strict bytes tb rows at b next (Refused f) = LoadedBy strict bytes (answers.Refused f) tb
+Leaves strict bytes tb rows at b next Narrow = Going strict bytes tb rows at b × (length rows < stateCount)
 
 module _ {strict : Bool} {bytes tb rows : List ℕ} {at : ℕ} {b : Book} {c : Command} {cursor : Cursor}
     (k : Here strict bytes tb rows at b c cursor) where
@@ -139,13 +132,16 @@ module _ {strict : Bool} {bytes tb rows : List ℕ} {at : ℕ} {b : Book} {c : C
   taking = going-takes (k .going) (k .more) (decoded.Command c cursor) (k .found)
 
   pub taken-in : {r s : Progress} (tb₁ rows₁ : List ℕ) → length tb₁ ≡ length tb → Takes b c at (length bytes) r tb rows tb₁ rows₁ → r ≡ s
-      → Leaves strict bytes tb₁ rows₁ (cursor .at) s
+      → Leaves strict bytes tb₁ rows₁ at b (cursor .at) s
   taken-in {s = s} tb₁ rows₁ kept taken e =
       go (apply (k .going .draft) c at (length bytes)) s (taking .same)
       (rw e at (taken (k .going .draft) (k .going .holds) (sym (inside-is (k .going .holds)) ∙ sym (commanded .stands))))
     where
+      still : (tb₁ ≡ tb) × (rows₁ ≡ rows) × (length rows < stateCount) → Leaves strict bytes tb₁ rows₁ at b (cursor .at) Narrow
+      still (t, u, l) = rw (t, u) (k .going, l)
+
       go : (v : Verdict) (p : Progress) → readBy strict bytes ≡ goOn v (readFrom strict (taking .steps) bytes (cursor .at))
-          → Follows v p tb₁ rows₁ (b .edges + adds c) → Leaves strict bytes tb₁ rows₁ (cursor .at) p
+          → Makes v p tb rows tb₁ rows₁ (b .edges + adds c) → Leaves strict bytes tb₁ rows₁ at b (cursor .at) p
       go (goes d) (On b₁) q (h, n) =
           let f = commanded .further in
           let w = commanded .wide in
@@ -163,31 +159,73 @@ module _ {strict : Bool} {bytes tb rows : List ℕ} {at : ℕ} {b : Book} {c : C
           }
       go (goes d) (Done n) q h = absurd h
       go (goes d) (Refused f) q h = absurd h
+      go (goes d) Narrow q h = still h
       go (accepts rules) (On b₁) q h = absurd h
       go (accepts rules) (Done n) q (h, t) = loaded-accepted q h t
       go (accepts rules) (Refused f) q h = absurd h
+      go (accepts rules) Narrow q h = still h
       go (refuses number place) (On b₁) q h = absurd h
       go (refuses number place) (Done n) q h = absurd h
       go (refuses number place) (Refused f) q h = loaded-refused q (ap answers.Refused h)
+      go (refuses number place) Narrow q h = still h
 
 -- ---- tables of zeros
 
-zeros-lent : (n m : ℕ) → edgeStart ≤ m → (n ≤ maxBytes → edgeStart + n / 4 < m) → Lent n (replicate m 0)
+pub zeros-lent : (n m : ℕ) → edgeStart ≤ m → (n ≤ maxBytes → edgeStart + n / 4 < m) → Lent n (replicate m 0)
 zeros-lent n m l r =
     let q = length-replicate {A = ℕ} m 0 in
     record { head = rw q l; room = λ h. rw q (r h); empty = getD-replicate {A = ℕ} m 0 0 0 (omega arith) }
 
-pub lent-small : (n : ℕ) → n ≤ smallBook → Lent n (replicate smallTable 0)
-lent-small n l = zeros-lent n smallTable (omega arith) (λ h. omega arith)
-
 pub lent-large : (n : ℕ) → Lent n (replicate largeTable 0)
 lent-large n = zeros-lent n largeTable (omega arith) (λ h. omega arith)
 
-pub rows-fresh : {n : ℕ} {tb : List ℕ} → Lent n tb → Fresh tb (replicate stateCount 0)
-rows-fresh h =
+zeros-zero : (m s : ℕ) → _≡_ {A = ℕ} (getD (replicate m 0) s 0) 0
+zeros-zero m s = go (leb (suc s) m) refl
+  where
+    go : (t : Bool) → leb (suc s) m ≡ t → _≡_ {A = ℕ} (getD (replicate m 0) s 0) 0
+    go true e = getD-replicate {A = ℕ} m s 0 0 (leb-true _ _ e)
+    go false e = List·getD-eq-default (replicate m 0) 0 (omega (arith, leb-false (suc s) m e, length-replicate {A = ℕ} m 0))
+
+pub rows-fresh : (m : ℕ) {n : ℕ} {tb : List ℕ} → Lent n tb → Fresh tb (replicate m 0)
+rows-fresh m h = record { head = h .head; empty = h .empty; zeros = λ s l. zeros-zero m s }
+
+-- ---- more cells
+
+pub copied-start : (from to : List ℕ) → Copied from to to 0
+copied-start from to = record { size = refl; copied = λ i l. absurd (omega arith); kept = λ i l. refl }
+
+pub copied-next : {from to to₁ : List ℕ} {n : ℕ} → Copied from to to₁ n → n < length to
+    → Copied from to (set to₁ n (getD from n 0)) (n + 1)
+copied-next {from} {to} {to₁} {n} c l =
     record {
-      head = h .head;
-      empty = h .empty;
-      cells = length-replicate {A = ℕ} stateCount 0;
-      zeros = λ s l. getD-replicate {A = ℕ} stateCount s 0 0 l;
+      size = simp length-set (c .size);
+      copied = below-more (λ i. getD (set to₁ n (getD from n 0)) i 0 ≡ getD from i 0) n
+          (λ i b. getD-set-other to₁ n i (getD from n 0) 0 (λ z. omega arith) ∙ c .copied i b)
+          (getD-set-same to₁ n (getD from n 0) 0 (omega (arith, c .size)));
+      kept = λ i b. getD-set-other to₁ n i (getD from n 0) 0 (λ z. omega arith) ∙ c .kept i (omega arith);
     }
+
+-- the cells that were there are copied into a row of more, all zero before: all states have the cells that they had
+pub going-wide : (m : ℕ) {strict : Bool} {bytes tb rows rows₁ : List ℕ} {at : ℕ} {b : Book} → Going strict bytes tb rows at b
+    → Copied rows (replicate m 0) rows₁ (length rows) → Going strict bytes tb rows₁ at b
+going-wide m {rows = rows} {rows₁ = rows₁} g c =
+    record {
+      draft = g .draft;
+      steps = g .steps;
+      holds = record {
+        fine = g .holds .fine;
+        stored = stored-cells (λ s l. same s (leb (suc s) (length rows)) refl) (g .holds .stored);
+        same = g .holds .same;
+      };
+      enough = g .enough;
+      same = g .same;
+      few = g .few;
+      short = g .short;
+      room = g .room;
+    }
+  where
+    same : (s : ℕ) (t : Bool) → leb (suc s) (length rows) ≡ t → getD rows₁ s 0 ≡ getD rows s 0
+    same s true e = c .copied s (leb-true _ _ e)
+    same s false e =
+        let l : length rows ≤ s = omega (arith, leb-false (suc s) (length rows) e) in
+        c .kept s l ∙ zeros-zero m s ∙ sym (List·getD-eq-default rows 0 l)

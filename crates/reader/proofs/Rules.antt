@@ -1,5 +1,6 @@
 -- The answer of `rule`. Assumes nothing.
-use mathlib.Core.Path.{_≡_, refl}
+use mathlib.Core.Path.{_≡_, refl, sym, _∙_}
+use mathlib.Core.Bool.{Bool}
 use mathlib.Core.Option.{none, some}
 use mathlib.Core.List.{List, [], _∷_}
 use Prim.Native.Nat.{ℕ, zero, suc, _<_, _≤_}
@@ -10,8 +11,8 @@ use Rattle.answer.specs.declared.BookAnswer.{BookAnswer}
 use Rattle.answer.specs.declared.RuleAnswer.{RuleAnswer}
 use Rattle.automaton.specs.Rule.{Rule}
 use Rattle.automaton.specs.Contracts.{ruleAt, Holds}
-use Rattle.reader.specs.Rules.{numbered, ruleAnswer, ruleOutcome}
-use Rattle.reader.specs.Contracts.{Loaded}
+use Rattle.reader.specs.Rules.{numbered, ruleAnswer}
+use Rattle.reader.specs.Contracts.{LoadedBy, Inspects}
 use Rattle.reader.proofs.Loaded.{loaded-rules, loaded-refusal}
 use Rattle.answer.specs.declared.BookAnswer.the-variants as book
 use Rattle.answer.specs.declared.RuleAnswer.the-variants as rule
@@ -41,12 +42,14 @@ module _ (rules : List Rule) {index count : ℕ} (all : count ≡ length rules) 
 
 -- ---- by what was loaded
 
-pub rule-accepted : {bytes tb : List ℕ} {b : BookAnswer} {n : ℕ} → Loaded bytes b tb → b ≡ book.Accepted n → (index : ℕ) (r : RuleAnswer)
-    → ((rules : List Rule) → Holds tb rules → r ≡ ruleAnswer (numbered rules index) (length rules)) → r ≡ ruleOutcome bytes index
-unfolding ruleOutcome
-rule-accepted l a index r h = let k = loaded-rules l a in rw (k .1 .0) (h (k .0) (k .1 .1))
+pub inspects-accepted : {strict : Bool} {bytes tb : List ℕ} {b : BookAnswer} {n : ℕ} → LoadedBy strict bytes b tb → b ≡ book.Accepted n
+    → (index : ℕ) (r : RuleAnswer)
+    → ((rules : List Rule) → Holds tb rules → r ≡ ruleAnswer (numbered rules index) (length rules))
+    → Inspects strict bytes index (record { rules = book.Accepted n; rule = r })
+inspects-accepted l a index r h =
+    let k = loaded-rules l a in
+    record { rules = sym a ∙ l .answered; rule = rw (k .1 .0) (h (k .0) (k .1 .1)) }
 
-pub rule-refused : {bytes tb : List ℕ} {b : BookAnswer} {f : Refusal} → Loaded bytes b tb → b ≡ book.Refused f → (index : ℕ)
-    → rule.Refused f ≡ ruleOutcome bytes index
-unfolding ruleOutcome
-rule-refused l a index = rw (loaded-refusal l a)
+pub inspects-refused : {strict : Bool} {bytes tb : List ℕ} {b : BookAnswer} {f : Refusal} → LoadedBy strict bytes b tb → b ≡ book.Refused f
+    → (index : ℕ) → Inspects strict bytes index (record { rules = book.Refused f; rule = rule.Refused f })
+inspects-refused l a index = record { rules = sym a ∙ l .answered; rule = rw (loaded-refusal l a) }

@@ -1,5 +1,8 @@
 // The reader of rule books: `read` answers the number of rules or the refusal, `read_strict` the same but that it refuses STEP, `rule` the
 // tag and kind of one rule; `load` fills a lent table, for the crates that use the rules. All go by one loop, to which `strict` is a value.
+// `sizes` has tables for books of every length.
+pub mod sizes;
+
 use answer::BookAnswer;
 use answer::Refusal;
 use answer::RuleAnswer;
@@ -10,14 +13,17 @@ use command::Cursor;
 use command::Decoded;
 ghost use mathlib.Core.Path.{_≡_};
 ghost use mathlib.Core.List.{List};
-ghost use Prim.Native.Nat.{_≤_};
+ghost use Prim.Native.Nat.{_<_, _≤_};
 ghost use lib.ListN.{length};
-ghost use Rattle.automaton.specs.Rule.{Rule};
+ghost use Rattle.automaton.specs.Rule.{Rule, stateCount};
 ghost use Rattle.automaton.specs.Contracts.{Holds, Held};
 ghost use Rattle.book.specs.Contracts.{Fresh};
 ghost use Rattle.reader.specs.Reading.{readBy, readBook, readStrict, answer};
 ghost use Rattle.reader.specs.Rules.{numbered, ruleAnswer, ruleOutcome};
-ghost use Rattle.reader.specs.Contracts.{smallBook, Lent, LoadedBy, Loaded};
+ghost use Rattle.reader.specs.Contracts.{Lent, LoadedBy, Loaded, Going, Copied, Stops, Inspects};
+
+// The states for which a call has cells at once: those of one byte.
+const NARROW: usize = 256;
 
 // Checks a book and fills the table with its rules; where the book is refused, what it holds is of no account.
 pub fn load(book: &[u8], table: &mut [u64]) -> BookAnswer
@@ -32,28 +38,46 @@ fn load_by(strict: bool, book: &[u8], table: &mut [u64]) -> BookAnswer
     requires { ⌜ Lent (length (now book)) (now table) ⌝ }
     ensures { λ r. ⌜ LoadedBy strict (now (book .entry)) r (now (table .exit)) ⌝ }
 {
-    let mut rows = [0u32; STATES];
+    let mut rows = [0u32; NARROW];
     load_rows(strict, book, table, &mut rows)
 }
 
-// The same with the cells of the open rule's states, all zero.
+// The same with the cells of the open rule's states, all zero. Most books have no state past them; one that has is read on with a cell for
+// every state.
 fn load_rows(strict: bool, book: &[u8], table: &mut [u64], rows: &mut [u32]) -> BookAnswer
     requires { ⌜ Lent (length (now book)) (now table) ⌝ }
     requires { ⌜ Fresh (now table) (now rows) ⌝ }
     ensures { λ r. ⌜ LoadedBy strict (now (book .entry)) r (now (table .exit)) ⌝ }
 {
-    let len = book.len();
-    if Book::BYTES < len {
+    if Book::BYTES < book.len() {
         return BookAnswer::refused(Refusal::BOOK_TOO_LONG, 0);
     }
-    let mut cursor = Cursor::new();
-    let mut state = Book::new();
+    match read_on(strict, book, table, rows, Cursor::new(), Book::new()) {
+        Stop::Answered(answer) => answer,
+        Stop::Narrow(cursor, state) => load_wide(strict, book, table, rows, cursor, state),
+    }
+}
+
+// Why `read_on` stops: the book is answered, or the command at the cursor needs a cell that is not there.
+enum Stop {
+    Answered(BookAnswer),
+    Narrow(Cursor, Book),
+}
+
+// Takes in command by command from the cursor on.
+fn read_on(strict: bool, book: &[u8], table: &mut [u64], rows: &mut [u32], start: Cursor, begun: Book) -> Stop
+    requires { ⌜ Going strict (now book) (now table) (now rows) (start .at) begun ⌝ }
+    ensures { λ r. ⌜ Stops strict (now (book .entry)) (now (table .exit)) (now (rows .exit)) r ⌝ }
+{
+    let len = book.len();
+    let mut cursor = start;
+    let mut state = begun;
     while cursor.at < len {
         let at = cursor.at;
         match cursor.command(strict, book, state.inside) {
-            Decoded::Misplaced => return BookAnswer::refused(Refusal::MISPLACED, at),
-            Decoded::Retired => return BookAnswer::refused(Refusal::RETIRED, at),
-            Decoded::CutOff => return BookAnswer::refused(Refusal::CUT_OFF, at),
+            Decoded::Misplaced => return Stop::Answered(BookAnswer::refused(Refusal::MISPLACED, at)),
+            Decoded::Retired => return Stop::Answered(BookAnswer::refused(Refusal::RETIRED, at)),
+            Decoded::CutOff => return Stop::Answered(BookAnswer::refused(Refusal::CUT_OFF, at)),
             Decoded::Command(command, next) => match book::applying::apply(
                 state,
                 command,
@@ -66,12 +90,38 @@ fn load_rows(strict: bool, book: &[u8], table: &mut [u64], rows: &mut [u32]) -> 
                     state = on;
                     cursor = next;
                 }
-                Progress::Done(rules) => return BookAnswer::Accepted(rules),
-                Progress::Refused(refusal) => return BookAnswer::Refused(refusal),
+                Progress::Done(rules) => return Stop::Answered(BookAnswer::Accepted(rules)),
+                Progress::Refused(refusal) => return Stop::Answered(BookAnswer::Refused(refusal)),
+                Progress::Narrow => return Stop::Narrow(cursor, state),
             },
         }
     }
-    BookAnswer::refused(Refusal::CUT_OFF, len)
+    Stop::Answered(BookAnswer::refused(Refusal::CUT_OFF, len))
+}
+
+// Reads on with a cell for each state that a rule may have, the first of them as they stand in `rows`.
+fn load_wide(strict: bool, book: &[u8], table: &mut [u64], rows: &[u32], cursor: Cursor, state: Book) -> BookAnswer
+    requires { ⌜ Going strict (now book) (now table) (now rows) (cursor .at) state × (length (now rows) < stateCount) ⌝ }
+    ensures { λ r. ⌜ LoadedBy strict (now (book .entry)) r (now (table .exit)) ⌝ }
+{
+    let mut wide = [0u32; STATES];
+    copy_cells(rows, &mut wide);
+    match read_on(strict, book, table, &mut wide, cursor, state) {
+        Stop::Answered(answer) => answer,
+        // never: there is a cell for each state
+        Stop::Narrow(_, _) => BookAnswer::Accepted(0),
+    }
+}
+
+fn copy_cells(from: &[u32], to: &mut [u32])
+    requires { ⌜ length (now from) ≤ length (now to) ⌝ }
+    ensures { λ r. ⌜ Copied (now (from .entry)) (now (to .entry)) (now (to .exit)) (length (now (from .entry))) ⌝ }
+{
+    let mut i = 0;
+    while i < from.len() {
+        to[i] = from[i];
+        i += 1;
+    }
 }
 
 // Reads a book: the number of its rules, or the refusal of document 01.
@@ -91,61 +141,39 @@ pub fn read_strict(book: &[u8]) -> BookAnswer
 fn read_by(strict: bool, book: &[u8]) -> BookAnswer
     ensures { λ r. ⌜ r ≡ answer (readBy strict (now (book .entry))) ⌝ }
 {
-    if book.len() <= Book::SMALL {
-        read_small(strict, book)
-    } else {
-        read_large(strict, book)
-    }
-}
-
-fn read_small(strict: bool, book: &[u8]) -> BookAnswer
-    requires { ⌜ length (now book) ≤ smallBook ⌝ }
-    ensures { λ r. ⌜ r ≡ answer (readBy strict (now (book .entry))) ⌝ }
-{
-    let mut table = [0u64; Book::SMALL_TABLE];
-    load_by(strict, book, &mut table)
-}
-
-fn read_large(strict: bool, book: &[u8]) -> BookAnswer
-    ensures { λ r. ⌜ r ≡ answer (readBy strict (now (book .entry))) ⌝ }
-{
-    let mut table = [0u64; Book::TABLE];
-    load_by(strict, book, &mut table)
+    let inspected = crate::sizes::inspect(strict, book, 0);
+    let rules = inspected.rules;
+    rules
 }
 
 // The tag and the kind of rule number `index`, from 0, or the refusal: the book's, or 18 past the last rule, its place the number of rules.
 pub fn rule(book: &[u8], index: usize) -> RuleAnswer
     ensures { λ r. ⌜ r ≡ ruleOutcome (now (book .entry)) index ⌝ }
 {
-    if book.len() <= Book::SMALL {
-        rule_small(book, index)
-    } else {
-        rule_large(book, index)
-    }
+    let inspected = crate::sizes::inspect(false, book, index);
+    let rule = inspected.rule;
+    rule
 }
 
-fn rule_small(book: &[u8], index: usize) -> RuleAnswer
-    requires { ⌜ length (now book) ≤ smallBook ⌝ }
-    ensures { λ r. ⌜ r ≡ ruleOutcome (now (book .entry)) index ⌝ }
-{
-    let mut table = [0u64; Book::SMALL_TABLE];
-    rule_with(book, &mut table, index)
+// What is read off a book: the answer of reading it, and what is said of one of its rules.
+pub struct Inspected {
+    pub rules: BookAnswer,
+    pub rule: RuleAnswer,
 }
 
-fn rule_large(book: &[u8], index: usize) -> RuleAnswer
-    ensures { λ r. ⌜ r ≡ ruleOutcome (now (book .entry)) index ⌝ }
-{
-    let mut table = [0u64; Book::TABLE];
-    rule_with(book, &mut table, index)
-}
-
-fn rule_with(book: &[u8], table: &mut [u64], index: usize) -> RuleAnswer
+fn inspect_with(strict: bool, book: &[u8], table: &mut [u64], index: usize) -> Inspected
     requires { ⌜ Lent (length (now book)) (now table) ⌝ }
-    ensures { λ r. ⌜ r ≡ ruleOutcome (now (book .entry)) index ⌝ }
+    ensures { λ r. ⌜ Inspects strict (now (book .entry)) index r ⌝ }
 {
-    match load(book, table) {
-        BookAnswer::Accepted(_) => rule_in(table, index),
-        BookAnswer::Refused(refusal) => RuleAnswer::Refused(refusal),
+    match load_by(strict, book, table) {
+        BookAnswer::Accepted(count) => {
+            let rule = rule_in(table, index);
+            Inspected { rules: BookAnswer::Accepted(count), rule }
+        }
+        BookAnswer::Refused(refusal) => Inspected {
+            rules: BookAnswer::Refused(refusal),
+            rule: RuleAnswer::Refused(refusal),
+        },
     }
 }
 

@@ -12,6 +12,7 @@ use borrow.Author.Tests.{ltb-false, le-ltb, eqb-true}
 use Rattle.automaton.specs.Choice.{if, All, any}
 use Rattle.automaton.specs.Rule.{Rule}
 use Rattle.automaton.proofs.Tests.{clash, all-map, and-false-right}
+use Rattle.big_endian.specs.Numbers.{twoAt}
 use Rattle.command.specs.declared.Command.{Command}
 use Rattle.command.specs.Commands.{byteAt, placed, retired, operandsOf, decode}
 use Rattle.book.specs.Limits.{maxBytes}
@@ -99,6 +100,9 @@ module _ (pre p after : List ℕ) (w : Whole p) where
   amid-byte : (i : ℕ) → i < length p → byteAt amid (length pre + i) ≡ byteAt p i
   amid-byte i l = getD-append-add pre (p ++ after) i 0 ∙ List·getD-append p after 0 i l
 
+  amid-two : (i : ℕ) → i + 1 < length p → twoAt amid (length pre + i) ≡ twoAt p i
+  amid-two i l = let q : length pre + i + 1 ≡ length pre + (i + 1) = omega arith in rw (q, amid-byte i (omega arith), amid-byte (i + 1) l)
+
   amid-code : byteAt amid (length pre) ≡ byteAt p 0
   amid-code = ap (byteAt amid) (sym (add-zero (length pre))) ∙ amid-byte 0 (omega (arith, w .operands))
 
@@ -108,14 +112,18 @@ module _ (pre p after : List ℕ) (w : Whole p) where
   unfolding decode operandsOf
   amid-decoded inside stands =
       by-code Alike (byteAt p 0)
-      (λ e l. let q : length pre + 1 + 1 ≡ length pre + 2 = omega arith in
-          rw (q, amid-byte 1 (omega arith), amid-byte 2 (omega arith), amid-byte 3 (omega arith)))
+      (λ e l. rw (amid-two 1 (omega arith), amid-byte 3 (omega arith)))
       (λ e l. rw (amid-byte 1 (omega arith)))
       (λ e l. rw (amid-byte 1 (omega arith)))
       (λ e l. rw (amid-byte 1 (omega arith)))
       (λ e l. rw (amid-byte 1 (omega arith), amid-byte 2 (omega arith), amid-byte 3 (omega arith)))
       (λ e l. rw (amid-byte 1 (omega arith), amid-byte 2 (omega arith), amid-byte 3 (omega arith), amid-byte 4 (omega arith)))
-      (λ e l. refl) (λ e l. refl) (λ out e l. clash e (not-placed (byteAt p 0) inside out)) stands (w .operands)
+      (λ e l. refl) (λ e l. refl)
+      (λ e l. rw (amid-two 1 (omega arith)))
+      (λ e l. rw (amid-two 1 (omega arith)))
+      (λ e l. rw (amid-two 1 (omega arith)))
+      (λ e l. rw (amid-two 1 (omega arith), amid-byte 3 (omega arith), amid-byte 4 (omega arith), amid-two 5 (omega arith)))
+      (λ out e l. clash e (not-placed (byteAt p 0) inside out)) stands (w .operands)
     where
       Alike : ℕ → Type 0
       Alike code = placed code inside ≡ true → length p ≡ 1 + operandsOf code → decode amid (length pre) code ≡ decode p 0 code

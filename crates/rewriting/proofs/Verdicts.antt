@@ -11,7 +11,7 @@ use Rattle.automaton.specs.Rule.{Transition, overlaps}
 use Rattle.command.specs.declared.Command.{Command}
 use Rattle.command.specs.declared.Command.the-variants.{Rule as RULE, Start, Error, Final, Step, Span, Close, End}
 use Rattle.book.specs.Limits.{maxRules, maxTransitions}
-use Rattle.book.specs.Draft.{Draft, isSet, isUnset, stateOf, tagged, isEmpty, Verdict, goes, accepts, refuses, check, move, apply}
+use Rattle.book.specs.Draft.{Draft, isSet, isUnset, stateOf, tagged, isEmpty, noState, Verdict, goes, accepts, refuses, check, move, apply}
 
 module _ (R : Verdict → Verdict → Type 0) (refusing : (number place : ℕ) (v : Verdict) → R (refuses number place) v)
     (going : (d : Draft) → R (goes d) (goes d)) where
@@ -25,7 +25,8 @@ module _ (R : Verdict → Verdict → Type 0) (refusing : (number place : ℕ) (
     pub move-both : (from low high to : ℕ) → R (move d at from low high to) (move d at₁ from low high to)
     unfolding move
     move-both from low high to =
-        check-both (leb maxTransitions (length d.transitions)) _ _ _ _ _ (λ _. check-both (ltb high low) _ _ _ _ _ (λ _. going _))
+        check-both (leb maxTransitions (length d.transitions)) _ _ _ _ _ (λ _.
+        check-both (ltb high low || (noState from || noState to)) _ _ _ _ _ (λ _. going _))
 
     pub apply-both : (c : Command) {len len₁ : ℕ} → (len ≤ at + 1 → (len₁ ≤ at₁ + 1) × R (accepts d.rules) (accepts d.rules))
         → R (apply d c at len) (apply d c at₁ len₁)
@@ -33,9 +34,9 @@ module _ (R : Verdict → Verdict → Type 0) (refusing : (number place : ℕ) (
     apply-both (RULE tag kind) h =
         check-both (leb maxRules (length d.rules)) _ _ _ _ _ (λ _. check-both (eqb tag 0 || ltb 1 kind) _ _ _ _ _ (λ _.
         check-both (tagged tag d.rules) _ _ _ _ _ (λ _. going _)))
-    apply-both (Start s) h = check-both (isSet d.start) _ _ _ _ _ (λ _. going _)
-    apply-both (Error s) h = check-both (isSet d.error) _ _ _ _ _ (λ _. going _)
-    apply-both (Final s) h = going _
+    apply-both (Start s) h = check-both (noState s) _ _ _ _ _ (λ _. check-both (isSet d.start) _ _ _ _ _ (λ _. going _))
+    apply-both (Error s) h = check-both (noState s) _ _ _ _ _ (λ _. check-both (isSet d.error) _ _ _ _ _ (λ _. going _))
+    apply-both (Final s) h = check-both (noState s) _ _ _ _ _ (λ _. going _)
     apply-both (Step from byte to) h = move-both from byte byte to
     apply-both (Span from low high to) h = move-both from low high to
     apply-both Close h =

@@ -1,6 +1,8 @@
 // Printing a list of plain tokens with separators between them, the paper's spacing writing. Tokens and separators are put together in
-// a scratch of the call's own, so that the output stands as it was where the list is refused. `checks` has what is refused before that.
+// a scratch of the call's own, so that the output stands as it was where the list is refused. `checks` has what is refused before that,
+// `sizes` tables for books of every length.
 pub mod checks;
+pub mod sizes;
 
 use answer::BookAnswer;
 use answer::PrintAnswer;
@@ -18,7 +20,7 @@ ghost use lib.ListN.{length, drop};
 ghost use Rattle.automaton.specs.Rule.{Rule};
 ghost use Rattle.automaton.specs.Contracts.{Holds, Held};
 ghost use Rattle.book.specs.Limits.{maxText};
-ghost use Rattle.reader.specs.Contracts.{smallBook, Lent};
+ghost use Rattle.reader.specs.Contracts.{Lent};
 ghost use Rattle.output.specs.Contracts.{PrintAnswered};
 ghost use Rattle.spacing.specs.Separators.{spelled};
 ghost use Rattle.separated.specs.Outcome.{writing, separatedRules, separatedOutcome};
@@ -40,12 +42,10 @@ pub fn print_separated(
     ensures { λ r. ⌜ now (out .exit)
         ≡ (separatedOutcome (now (book .entry)) separator mode (now (records .entry)) (now (pool .entry)) (now (out .entry))) .out ⌝ }
 {
-    if book.len() <= Book::SMALL {
-        if is_short(separator, records, pool) {
-            return print_small(book, separator, mode, records, pool, out);
-        }
+    if is_short(separator, records, pool) {
+        return print_short(book, separator, mode, records, pool, out);
     }
-    print_large(book, separator, mode, records, pool, out)
+    print_long(book, separator, mode, records, pool, out)
 }
 
 // Whether the tokens of a list lie in the pool and a small scratch has room for them with a separator each.
@@ -62,7 +62,7 @@ fn is_short(separator: TokenRecord, records: &[u8], pool: &[u8]) -> bool
     }
 }
 
-fn print_small(
+fn print_short(
     book: &[u8],
     separator: TokenRecord,
     mode: u32,
@@ -70,26 +70,16 @@ fn print_small(
     pool: &[u8],
     out: &mut [u8],
 ) -> PrintAnswer
-    requires { ⌜ (length (now book) ≤ smallBook) × Short separator (now records) (now pool) ⌝ }
+    requires { ⌜ Short separator (now records) (now pool) ⌝ }
     ensures { λ r. ⌜ PrintAnswered
         (separatedOutcome (now (book .entry)) separator mode (now (records .entry)) (now (pool .entry)) (now (out .entry)))
         r (now (out .exit)) ⌝ }
 {
-    let mut table = [0u64; Book::SMALL_TABLE];
     let mut scratch = [0u8; Book::SMALL];
-    print_with(
-        book,
-        &mut table,
-        separator,
-        mode,
-        records,
-        pool,
-        &mut scratch,
-        out,
-    )
+    crate::sizes::print_sized(book, separator, mode, records, pool, &mut scratch, out)
 }
 
-fn print_large(
+fn print_long(
     book: &[u8],
     separator: TokenRecord,
     mode: u32,
@@ -101,18 +91,8 @@ fn print_large(
         (separatedOutcome (now (book .entry)) separator mode (now (records .entry)) (now (pool .entry)) (now (out .entry)))
         r (now (out .exit)) ⌝ }
 {
-    let mut table = [0u64; Book::TABLE];
     let mut scratch = [0u8; Book::TEXT];
-    print_with(
-        book,
-        &mut table,
-        separator,
-        mode,
-        records,
-        pool,
-        &mut scratch,
-        out,
-    )
+    crate::sizes::print_sized(book, separator, mode, records, pool, &mut scratch, out)
 }
 
 // With a table for the book's rules and a scratch for what is put together.

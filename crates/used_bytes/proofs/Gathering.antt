@@ -13,49 +13,59 @@ use borrow.Author.Count.{below-more}
 use borrow.Author.Tests.{eqb-true}
 use Rattle.automaton.specs.Choice.{any}
 use Rattle.automaton.specs.Rule.{Transition, Rule, covers, used}
-use Rattle.automaton.specs.Contracts.{lowOf, highOf, edgeAt, bodyAt, firstOf, endOf, Listed, Table, blank, ruleAt}
+use Rattle.automaton.specs.Contracts.{lowOf, highOf, edgeAt, bodyAt, firstOf, endOf, Edge, Listed, Table, blank, ruleAt}
 use Rattle.automaton.proofs.Tests.{clash, or-true, or-none, and-true, all-of, any-some, any-map}
 use Rattle.used_bytes.specs.Kinds.{plainKind, separatorKind}
 use Rattle.used_bytes.specs.Contracts.{Ranged, someBelow, MarksAll, Covers}
 use Rattle.used_bytes.specs.Bytes.{lowestFrom, usedByKind, shared, sharedByte}
-use Rattle.used_bytes.proofs.Marking.{not-from, some-not, Together, together-start, together-next, together-end}
+use Rattle.used_bytes.proofs.Marking.{not-from, some-not, Together, together-start, together-next}
 
--- ---- covered bytes
+-- ---- the transitions of a rule, from the last to the first
 
--- the transitions left are those from `first` to before `at`
-pub record Covering (tb : List ℕ) (first : ℕ) (ts : List Transition) (before : List Bool) (at : ℕ) (set : List Bool) : Type 0 where
+-- those left are the ones from `first` to before `at`, and P holds of them
+pub record Left (tb : List ℕ) (first at : ℕ) (P : List Transition → Type 0) : Type 0 where
   pub left : List Transition
   pub listed : Listed tb first at left
-  pub marked : Together ts before left set
+  pub holds : P left
 
-pub covering-start : {tb : List ℕ} {k first at : ℕ} {r : Rule} → Table tb k r → first ≡ firstOf (bodyAt tb k) → at ≡ endOf (bodyAt tb k)
-    → {set : List Bool} → length set ≡ 256 → Covering tb first r.transitions set at set
-covering-start {r = r} t f e z =
-    record { left = r.transitions; listed = rw (f, e) (t .body .listed); marked = together-start r.transitions z }
-
-module _ {tb : List ℕ} {first : ℕ} {ts : List Transition} {before : List Bool} {at : ℕ} {set : List Bool}
-    (w : Covering tb first ts before at set) where
-  pub covering-room : first < at → at - 1 < length tb
-  covering-room l = go (w .left) (w .listed)
+module _ {tb : List ℕ} {first at : ℕ} {P : List Transition → Type 0} (w : Left tb first at P) where
+  pub left-room : first < at → at - 1 < length tb
+  left-room l = go (w .left) (w .listed)
     where
       go : (us : List Transition) → Listed tb first at us → at - 1 < length tb
       go [] c = absurd (omega arith)
       go (u ∷ us) (p, e, c) = e .room
 
-  pub covering-next : {low high : ℕ} {next : List Bool} → first < at → low ≡ lowOf (edgeAt tb (at - 1)) → high ≡ highOf (edgeAt tb (at - 1))
-      → Ranged low high set next → Covering tb first ts before (at - 1) next
-  covering-next {next = next} l p q m = go (w .left) (w .listed) (w .marked)
+  pub left-next : (Q : List Transition → Type 0) → first < at
+      → ((u : Transition) (us : List Transition) → Edge tb (at - 1) u → P (u ∷ us) → Q us) → Left tb first (at - 1) Q
+  left-next Q l f = go (w .left) (w .listed) (w .holds)
     where
-      go : (us : List Transition) → Listed tb first at us → Together ts before us set → Covering tb first ts before (at - 1) next
-      go [] c k = absurd (omega arith)
-      go (u ∷ us) (i, e, c) k = record { left = us; listed = c; marked = together-next k (p ∙ e .low) (q ∙ e .high) m }
+      go : (us : List Transition) → Listed tb first at us → P us → Left tb first (at - 1) Q
+      go [] c h = absurd (omega arith)
+      go (u ∷ us) (p, e, c) h = record { left = us; listed = c; holds = f u us e h }
 
-  pub covering-end : at ≤ first → MarksAll ts before set
-  covering-end l = go (w .left) (w .listed) (w .marked)
+  pub left-end : at ≤ first → P []
+  left-end l = go (w .left) (w .listed) (w .holds)
     where
-      go : (us : List Transition) → Listed tb first at us → Together ts before us set → MarksAll ts before set
-      go [] c k = together-end k
-      go (u ∷ us) (i, e, c) k = absurd (omega arith)
+      go : (us : List Transition) → Listed tb first at us → P us → P []
+      go [] c h = h
+      go (u ∷ us) (p, e, c) h = absurd (omega arith)
+
+-- ---- covered bytes
+
+abbrev pub Covering : List ℕ → ℕ → List Transition → List Bool → ℕ → List Bool → Type 0
+Covering tb first ts before at set = Left tb first at (λ left. Together ts before left set)
+
+pub covering-start : {tb : List ℕ} {k first at : ℕ} {r : Rule} → Table tb k r → first ≡ firstOf (bodyAt tb k) → at ≡ endOf (bodyAt tb k)
+    → {set : List Bool} → length set ≡ 256 → Covering tb first r.transitions set at set
+covering-start {r = r} t f e z =
+    record { left = r.transitions; listed = rw (f, e) (t .body .listed); holds = together-start r.transitions z }
+
+pub covering-next : {tb : List ℕ} {first : ℕ} {ts : List Transition} {before : List Bool} {at : ℕ} {set : List Bool}
+    → Covering tb first ts before at set → {low high : ℕ} {next : List Bool} → first < at → low ≡ lowOf (edgeAt tb (at - 1))
+    → high ≡ highOf (edgeAt tb (at - 1)) → Ranged low high set next → Covering tb first ts before (at - 1) next
+covering-next {ts = ts} {before} w {next = next} l p q m =
+    left-next w (λ left. Together ts before left next) l (λ u us e k. together-next k (p ∙ e .low) (q ∙ e .high) m)
 
 -- what a rule uses it covers
 used-covered : (r : Rule) (b : ℕ) → used r b ≡ true → any (λ (t : Transition). covers t b) r.transitions ≡ true

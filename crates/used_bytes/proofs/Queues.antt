@@ -125,28 +125,21 @@ queued-new queue n p base l =
     rw (add-one, getD-set-same queue n p 0 l, queued-set queue n p base n (omega arith))
 
 -- a queue has room for every state
-pub worklist-most : {marks : List ℕ} {stamp : ℕ} {queue : List ℕ} {n : ℕ} {base : List ℕ} → Worklist marks stamp queue n base
-    → n ≤ stateCount
-worklist-most {queue = queue} {n} {base} w =
-    omega (arith, list-most (queued queue n base) stateCount (w .below) (w .once), queued-length queue n base)
+pub worklist-most : {bound : ℕ} {marks : List ℕ} {stamp : ℕ} {queue : List ℕ} {n : ℕ} {base : List ℕ}
+    → Worklist bound marks stamp queue n base → (n ≤ length queue) × (length queue ≤ stateCount)
+worklist-most {bound} {queue = queue} {n} {base} w = (
+  omega (arith, list-most (queued queue n base) bound (w .below) (w .once), queued-length queue n base, w .slots),
+  omega (arith, w .slots, w .within),
+)
 
-module _ {marks : List ℕ} {stamp : ℕ} {queue : List ℕ} {n : ℕ} {base : List ℕ} (w : Worklist marks stamp queue n base)
-    (spot s : ℕ) (state : s ≡ stateOf spot) (below : stateOf spot < stateCount) where
+module _ {bound : ℕ} {marks : List ℕ} {stamp : ℕ} {queue : List ℕ} {n : ℕ} {base : List ℕ} (w : Worklist bound marks stamp queue n base)
+    (spot s : ℕ) (state : s ≡ stateOf spot) where
   abbrev fs : List ℕ
   fs = queued queue n base
 
-  inside : s < stateCount
-  inside = omega arith
-
-  pub notes-room : (getD marks s 0 ≡ stamp → ⊥) → n < stateCount
-  notes-room ne =
-      let e : among s fs ≡ false = sym (w .same s inside) ∙ ne-eqb _ _ ne in
-      let l = room-left fs s stateCount inside (w .below) (w .once) e in
-      omega (arith, queued-length queue n base)
-
-  pub notes-old : getD marks s 0 ≡ stamp → Notes stamp base spot marks queue n marks queue n
+  pub notes-old : getD marks s 0 ≡ stamp → Notes bound stamp base spot marks queue n marks queue n
   notes-old q =
-      let e : among s fs ≡ true = sym (w .same s inside) ∙ eq-eqb _ _ q in
+      let e : among s fs ≡ true = sym (w .same s) ∙ eq-eqb _ _ q in
       record {
         worklist = w;
         states = rw (← state, e);
@@ -155,66 +148,75 @@ module _ {marks : List ℕ} {stamp : ℕ} {queue : List ℕ} {n : ℕ} {base : L
         new = λ k l m. absurd (omega arith);
       }
 
-  pub notes-new : (getD marks s 0 ≡ stamp → ⊥) → Notes stamp base spot marks queue n (set marks s stamp) (set queue n spot) (n + 1)
-  notes-new ne =
-      let e : among s fs ≡ false = sym (w .same s inside) ∙ ne-eqb _ _ ne in
-      let l : n < length queue = omega (arith, notes-room ne, w .slots) in
-      let q : queued (set queue n spot) (n + 1) base ≡ s ∷ fs = rw state (queued-new queue n spot base l) in
-      record {
-        worklist = record {
-          cells = simp length-set (w .cells);
-          slots = simp length-set (w .slots);
-          below = rw q (inside, w .below);
-          same = λ x m. rw q (same₁ x m (eqb x s) refl);
-          once = λ x. rw q (hits-new fs s e (w .once) x);
-          stamps = λ x m. stamps₁ x m (eqb x s) refl;
-        };
-        states = rw (← state, e) q;
-        more = omega arith;
-        kept = λ k m. getD-set-other queue n k spot 0 (λ z. omega arith);
-        new = λ k m j. let z : k ≡ n = omega arith in rw z (getD-set-same queue n spot 0 l);
-      }
-    where
-      here : getD (set marks s stamp) s 0 ≡ stamp
-      here = getD-set-same marks s stamp 0 (omega (arith, w .cells))
+  module _ (below : stateOf spot < bound) (ne : getD marks s 0 ≡ stamp → ⊥) where
+    inside : s < bound
+    inside = omega arith
 
-      same₁ : (x : ℕ) → x < stateCount → (c : Bool) → eqb x s ≡ c → eqb (getD (set marks s stamp) x 0) stamp ≡ c || among x fs
-      same₁ x m true z = let y : x ≡ s = eqb-true x s z in rw (y, here, eq-eqb stamp stamp refl)
-      same₁ x m false z = rw (getD-set-other marks s x stamp 0 (eqb-false x s z)) (w .same x m)
+    new : among s fs ≡ false
+    new = sym (w .same s) ∙ ne-eqb _ _ ne
 
-      stamps₁ : (x : ℕ) → x < stateCount → (c : Bool) → eqb x s ≡ c → getD (set marks s stamp) x 0 ≤ stamp
-      stamps₁ x m true z = let y : x ≡ s = eqb-true x s z in rw (y, here) (omega arith)
-      stamps₁ x m false z = rw (getD-set-other marks s x stamp 0 (eqb-false x s z)) (w .stamps x m)
+    pub notes-room : n < length queue
+    notes-room = omega (arith, room-left fs s bound inside (w .below) (w .once) new, queued-length queue n base, w .slots)
+
+    pub notes-new : Notes bound stamp base spot marks queue n (set marks s stamp) (set queue n spot) (n + 1)
+    notes-new =
+        let q : queued (set queue n spot) (n + 1) base ≡ s ∷ fs = rw state (queued-new queue n spot base notes-room) in
+        record {
+          worklist = record {
+            within = w .within;
+            cells = simp length-set (w .cells);
+            slots = simp length-set (w .slots);
+            below = rw q (inside, w .below);
+            same = λ x. rw q (same₁ x (eqb x s) refl);
+            once = λ x. rw q (hits-new fs s new (w .once) x);
+            stamps = λ x. stamps₁ x (eqb x s) refl;
+          };
+          states = rw (← state, new) q;
+          more = omega arith;
+          kept = λ k m. getD-set-other queue n k spot 0 (λ z. omega arith);
+          new = λ k m j. let z : k ≡ n = omega arith in rw z (getD-set-same queue n spot 0 notes-room);
+        }
+      where
+        here : getD (set marks s stamp) s 0 ≡ stamp
+        here = getD-set-same marks s stamp 0 (omega (arith, w .cells))
+
+        same₁ : (x : ℕ) (c : Bool) → eqb x s ≡ c → eqb (getD (set marks s stamp) x 0) stamp ≡ c || among x fs
+        same₁ x true z = let y : x ≡ s = eqb-true x s z in rw (y, here, eq-eqb stamp stamp refl)
+        same₁ x false z = rw (getD-set-other marks s x stamp 0 (eqb-false x s z)) (w .same x)
+
+        stamps₁ : (x : ℕ) (c : Bool) → eqb x s ≡ c → getD (set marks s stamp) x 0 ≤ stamp
+        stamps₁ x true z = let y : x ≡ s = eqb-true x s z in rw (y, here) (omega arith)
+        stamps₁ x false z = rw (getD-set-other marks s x stamp 0 (eqb-false x s z)) (w .stamps x)
 
 -- ---- the states to which a chain leads
 
 -- a link whose transition leads to a state
-pub record Standing (tb : List ℕ) (h : ℕ) : Type 0 where
+pub record Standing (bound : ℕ) (tb : List ℕ) (h : ℕ) : Type 0 where
   pub room : h < length tb
   pub back : nextOf (edgeAt tb h) < h
-  pub to : toOf (edgeAt tb h) < stateCount
+  pub to : toOf (edgeAt tb h) < bound
 
-pub standing : (tb : List ℕ) (first h : ℕ) (us : List Transition) → 0 < h → Chain tb first h us
-    → All (λ (t : Transition). t.to < stateCount) us → Standing tb h
+pub standing : {bound : ℕ} (tb : List ℕ) (first h : ℕ) (us : List Transition) → 0 < h → Chain tb first h us
+    → All (λ (t : Transition). t.to < bound) us → Standing bound tb h
 standing tb first h [] pos c b = absurd (omega arith)
 standing tb first h (t ∷ us) pos (l, c) (b, bs) = record { room = l .edge .room; back = l .back; to = rw (l .edge .to) b }
 
 -- the walk along the chain `ts` from `head` stands at h: what is left leads to the states that are still to be noted
-pub record Following (tb : List ℕ) (first head : ℕ) (ts : List Transition) (stamp : ℕ) (base queue : List ℕ) (n : ℕ)
+pub record Following (bound : ℕ) (tb : List ℕ) (first head : ℕ) (ts : List Transition) (stamp : ℕ) (base queue : List ℕ) (n : ℕ)
     (marks₁ queue₁ : List ℕ) (h n₁ : ℕ) : Type 0 where
   pub left : List Transition
   pub chain : Chain tb first h left
   pub under : h ≤ head
-  pub below : All (λ (t : Transition). t.to < stateCount) ts → All (λ (t : Transition). t.to < stateCount) left
-  pub worklist : Worklist marks₁ stamp queue₁ n₁ base
+  pub below : All (λ (t : Transition). t.to < bound) ts → All (λ (t : Transition). t.to < bound) left
+  pub worklist : Worklist bound marks₁ stamp queue₁ n₁ base
   pub states : notedAll (queued queue₁ n₁ base) left ≡ notedAll (queued queue n base) ts
   pub more : n ≤ n₁
   pub kept : (k : ℕ) → k < n → getD queue₁ k 0 ≡ getD queue k 0
   pub new : (k : ℕ) → n ≤ k → k < n₁ → Linked tb first head (getD queue₁ k 0)
 
-pub following-start : {tb : List ℕ} {first head : ℕ} {ts : List Transition} {marks : List ℕ} {stamp : ℕ} {queue : List ℕ} {n : ℕ}
-    {base : List ℕ} → Worklist marks stamp queue n base → Chain tb first head ts
-    → Following tb first head ts stamp base queue n marks queue head n
+pub following-start : {bound : ℕ} {tb : List ℕ} {first head : ℕ} {ts : List Transition} {marks : List ℕ} {stamp : ℕ} {queue : List ℕ}
+    {n : ℕ} {base : List ℕ} → Worklist bound marks stamp queue n base → Chain tb first head ts
+    → Following bound tb first head ts stamp base queue n marks queue head n
 following-start {ts = ts} w c =
     record {
       left = ts;
@@ -228,21 +230,21 @@ following-start {ts = ts} w c =
       new = λ k l m. absurd (omega arith);
     }
 
-module _ {tb : List ℕ} {first head : ℕ} {ts : List Transition} {stamp : ℕ} {base queue : List ℕ} {n : ℕ} {marks₁ queue₁ : List ℕ}
-    {h n₁ : ℕ} (w : Following tb first head ts stamp base queue n marks₁ queue₁ h n₁) (pos : 0 < h) where
-  pub following-here : All (λ (t : Transition). t.to < stateCount) ts → Standing tb h
+module _ {bound : ℕ} {tb : List ℕ} {first head : ℕ} {ts : List Transition} {stamp : ℕ} {base queue : List ℕ} {n : ℕ}
+    {marks₁ queue₁ : List ℕ} {h n₁ : ℕ} (w : Following bound tb first head ts stamp base queue n marks₁ queue₁ h n₁) (pos : 0 < h) where
+  pub following-here : All (λ (t : Transition). t.to < bound) ts → Standing bound tb h
   following-here a = standing tb first h (w .left) pos (w .chain) (w .below a)
 
   -- past it
   pub following-next : {next : ℕ} {marks₂ queue₂ : List ℕ} {n₂ : ℕ} → next ≡ nextOf (edgeAt tb h)
-      → Notes stamp base (spotOf (edgeAt tb h)) marks₁ queue₁ n₁ marks₂ queue₂ n₂
-      → Following tb first head ts stamp base queue n marks₂ queue₂ next n₂
+      → Notes bound stamp base (spotOf (edgeAt tb h)) marks₁ queue₁ n₁ marks₂ queue₂ n₂
+      → Following bound tb first head ts stamp base queue n marks₂ queue₂ next n₂
   following-next {next} {marks₂} {queue₂} {n₂} e v = go (w .left) (w .chain) (w .below) (w .states)
     where
       go : (us : List Transition) → Chain tb first h us
-          → (All (λ (t : Transition). t.to < stateCount) ts → All (λ (t : Transition). t.to < stateCount) us)
+          → (All (λ (t : Transition). t.to < bound) ts → All (λ (t : Transition). t.to < bound) us)
           → notedAll (queued queue₁ n₁ base) us ≡ notedAll (queued queue n base) ts
-          → Following tb first head ts stamp base queue n marks₂ queue₂ next n₂
+          → Following bound tb first head ts stamp base queue n marks₂ queue₂ next n₂
       go [] c b s = absurd (omega arith)
       go (t ∷ us) (l, c) b s =
           let p : queued queue₂ n₂ base ≡ noted (queued queue₁ n₁ base) t.to = rw (← (l .edge .to)) (v .states) in
@@ -265,12 +267,13 @@ module _ {tb : List ℕ} {first head : ℕ} {ts : List Transition} {stamp : ℕ}
               let q : k < n₁ = leb-false n₁ k z in
               rw (v .kept k q) (w .new k m q)
 
-pub following-end : {tb : List ℕ} {first head : ℕ} {ts : List Transition} {stamp : ℕ} {base queue : List ℕ} {n : ℕ} {marks₁ queue₁ : List ℕ}
-    {h n₁ : ℕ} → Following tb first head ts stamp base queue n marks₁ queue₁ h n₁ → h ≡ 0
-    → Follows tb first head ts stamp base queue n marks₁ queue₁ n₁
-following-end {tb} {first} {head} {ts} {stamp} {base} {queue} {n} {marks₁} {queue₁} {h} {n₁} w z = go (w .left) (w .chain) (w .states)
+pub following-end : {bound : ℕ} {tb : List ℕ} {first head : ℕ} {ts : List Transition} {stamp : ℕ} {base queue : List ℕ} {n : ℕ}
+    {marks₁ queue₁ : List ℕ} {h n₁ : ℕ} → Following bound tb first head ts stamp base queue n marks₁ queue₁ h n₁ → h ≡ 0
+    → Follows bound tb first head ts stamp base queue n marks₁ queue₁ n₁
+following-end {bound} {tb} {first} {head} {ts} {stamp} {base} {queue} {n} {marks₁} {queue₁} {h} {n₁} w z =
+    go (w .left) (w .chain) (w .states)
   where
     go : (us : List Transition) → Chain tb first h us → notedAll (queued queue₁ n₁ base) us ≡ notedAll (queued queue n base) ts
-        → Follows tb first head ts stamp base queue n marks₁ queue₁ n₁
+        → Follows bound tb first head ts stamp base queue n marks₁ queue₁ n₁
     go [] c s = record { worklist = w .worklist; states = s; more = w .more; kept = w .kept; new = w .new }
     go (t ∷ us) (l, c) s = let q = l .some in absurd (omega arith)

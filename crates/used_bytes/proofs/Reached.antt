@@ -2,39 +2,40 @@
 use mathlib.Core.Path.{_≡_, refl, _∙_}
 use mathlib.Core.Bool.{Bool, true, false}
 use mathlib.Core.List.{List, [], _∷_}
-use Prim.Native.Nat.{ℕ, _+_, _-_, _≤_, _<_}
+use Prim.Native.Nat.{ℕ, _+_, _≤_, _<_}
 use native.Mathlib.Omega.{arith}
 use lib.Dec.{leb}
 use lib.ListN.{length, getD}
 use borrow.Author.Count.{below-more}
 use borrow.Author.Tests.{eq-eqb, ne-eqb, leb-true, leb-false}
 use Rattle.automaton.specs.Choice.{All, among}
-use Rattle.automaton.specs.Rule.{Transition, Rule, Ranged, stateCount, leads}
+use Rattle.automaton.specs.Rule.{Transition, Rule, leads}
 use Rattle.automaton.specs.Contracts.{stateOf, headOf, firstOf, endOf, bodyAt, leaving, Chain, Spot, Table}
 use Rattle.automaton.proofs.Tests.{all-map, among-all}
 use Rattle.automaton.proofs.Ways.{leads-here, leads-on, leads-each, leads-keeps}
 use Rattle.used_bytes.specs.Contracts.{queued, Worklist, notedAll, Notes, Leading, Follows, Unmarked, Reaches}
-use Rattle.used_bytes.proofs.States.{all-noted, all-noted-all, all-noted-kept, either-way, leaving-each, leaving-of, queued-all}
-use Rattle.used_bytes.proofs.States.{queued-at}
+use Rattle.used_bytes.proofs.States.{all-noted, all-noted-all, all-noted-kept, either-way, leaving-all, leaving-each, leaving-of}
+use Rattle.used_bytes.proofs.States.{queued-all, queued-at}
 
-pub unmarked-worklist : {marks : List ℕ} {stamp : ℕ} (queue : List ℕ) → Unmarked marks stamp → length queue ≡ stateCount
-    → Worklist marks stamp queue 0 []
+pub unmarked-worklist : {bound : ℕ} {marks : List ℕ} {stamp : ℕ} (queue : List ℕ) → Unmarked bound marks stamp
+    → length queue ≡ bound → Worklist bound marks stamp queue 0 []
 unfolding queued
-unmarked-worklist {marks} {stamp} queue u q =
+unmarked-worklist {marks = marks} {stamp} queue u q =
     record {
+      within = u .within;
       cells = u .cells;
       slots = q;
       below = tt;
-      same = λ s l. ne-eqb (getD marks s 0) stamp (λ z. omega (arith, u .earlier s l));
+      same = λ s. ne-eqb (getD marks s 0) stamp (λ z. omega (arith, u .earlier s));
       once = λ s. omega arith;
-      stamps = λ s l. omega (arith, u .earlier s l);
+      stamps = λ s. omega (arith, u .earlier s);
     }
 
 -- ---- the loop of `reach`
 
 -- n states are reached, and what leaves the first `next` of them leads to such
-pub record Reaching (tb : List ℕ) (k : ℕ) (r : Rule) (stamp : ℕ) (marks queue : List ℕ) (n next : ℕ) : Type 0 where
-  pub worklist : Worklist marks stamp queue n []
+pub record Reaching (bound : ℕ) (tb : List ℕ) (k : ℕ) (r : Rule) (stamp : ℕ) (marks queue : List ℕ) (n next : ℕ) : Type 0 where
+  pub worklist : Worklist bound marks stamp queue n []
   pub spots : (i : ℕ) → i < n → Spot tb (firstOf (bodyAt tb k)) (endOf (bodyAt tb k)) r.finals r.transitions
       (stateOf (getD queue i 0)) (getD queue i 0)
   pub start : among r.start (queued queue n []) ≡ true
@@ -50,10 +51,11 @@ module _ {tb : List ℕ} {k : ℕ} {r : Rule} (table : Table tb k r) where
   abbrev end : ℕ
   end = endOf (bodyAt tb k)
 
-  pub reaching-start : {stamp : ℕ} {marks queue marks₁ queue₁ : List ℕ} {n spot : ℕ} → Spot tb first end r.finals r.transitions r.start spot
-      → Notes stamp [] spot marks queue 0 marks₁ queue₁ n → Reaching tb k r stamp marks₁ queue₁ n 0
+  pub reaching-start : {bound stamp : ℕ} {marks queue marks₁ queue₁ : List ℕ} {n spot : ℕ}
+      → Spot tb first end r.finals r.transitions r.start spot → Notes bound stamp [] spot marks queue 0 marks₁ queue₁ n
+      → Reaching bound tb k r stamp marks₁ queue₁ n 0
   unfolding queued
-  reaching-start {stamp} {marks} {queue} {marks₁} {queue₁} {n} {spot} p v =
+  reaching-start {stamp = stamp} {marks} {queue} {marks₁} {queue₁} {n} {spot} p v =
       let e : queued queue₁ n [] ≡ r.start ∷ [] = v .states ∙ rw (p .state) in
       record {
         worklist = v .worklist;
@@ -64,34 +66,33 @@ module _ {tb : List ℕ} {k : ℕ} {r : Rule} (table : Table tb k r) where
         within = omega arith;
       }
 
-  module _ {stamp : ℕ} {marks queue : List ℕ} {n next : ℕ} (w : Reaching tb k r stamp marks queue n next) where
+  module _ {bound stamp : ℕ} {marks queue : List ℕ} {n next : ℕ} (w : Reaching bound tb k r stamp marks queue n next) where
     -- the next spot of the queue
     module _ (more : next < n) where
       abbrev p : ℕ
       p = getD queue next 0
 
-      pub reaching-leading : {head : ℕ} → head ≡ headOf (getD queue next 0) → Leading tb head
-      reaching-leading {head} e =
+      pub reaching-leading : {head : ℕ} → head ≡ headOf (getD queue next 0) → All (λ (t : Transition). t.to < bound) r.transitions
+          → Leading bound tb head
+      reaching-leading {head} e a =
           record {
             first = first;
             transitions = leaving (stateOf p) r.transitions;
             chain = rw e (w .spots next more .chain);
-            below = all-map (λ (t : Transition). Ranged stateCount t × (t.from ≡ stateOf p)) (λ (t : Transition). t.to < stateCount)
-                (λ t h. h .0 .to-below) (leaving (stateOf p) r.transitions) (leaving-of (Ranged stateCount) (stateOf p) r.transitions
-                    (table .sound .ranged));
+            below = leaving-all (λ (t : Transition). t.to < bound) (stateOf p) r.transitions a;
           }
 
       module _ {head : ℕ} {marks₁ queue₁ : List ℕ} {n₁ : ℕ} (e : head ≡ headOf (getD queue next 0))
-          (h : (base : List ℕ) → Worklist marks stamp queue n base → (first : ℕ) (ts : List Transition) → Chain tb first head ts
-          → Follows tb first head ts stamp base queue n marks₁ queue₁ n₁) where
+          (h : (bound : ℕ) (base : List ℕ) → Worklist bound marks stamp queue n base → (first : ℕ) (ts : List Transition)
+          → Chain tb first head ts → Follows bound tb first head ts stamp base queue n marks₁ queue₁ n₁) where
         abbrev fs : List ℕ
         fs = queued queue n []
 
         abbrev us : List Transition
         us = leaving (stateOf p) r.transitions
 
-        f : Follows tb first head us stamp [] queue n marks₁ queue₁ n₁
-        f = h [] (w .worklist) first us (rw e (w .spots next more .chain))
+        f : Follows bound tb first head us stamp [] queue n marks₁ queue₁ n₁
+        f = h bound [] (w .worklist) first us (rw e (w .spots next more .chain))
 
         here : leads r.transitions r.start (stateOf p) ≡ true
         here = queued-at (λ s. leads r.transitions r.start s ≡ true) queue n [] (w .led) next more
@@ -120,7 +121,7 @@ module _ {tb : List ℕ} {k : ℕ} {r : Rule} (table : Table tb k r) where
         new : Done next
         new = rw (f .kept next more, f .states) (all-noted fs us)
 
-        pub reaching-next : Reaching tb k r stamp marks₁ queue₁ n₁ (next + 1)
+        pub reaching-next : Reaching bound tb k r stamp marks₁ queue₁ n₁ (next + 1)
         reaching-next =
             record {
               worklist = f .worklist;
@@ -131,7 +132,7 @@ module _ {tb : List ℕ} {k : ℕ} {r : Rule} (table : Table tb k r) where
               within = omega (arith, f .more);
             }
 
-    pub reaching-end : n ≤ next → Reaches tb k r stamp marks queue n
+    pub reaching-end : n ≤ next → Reaches bound tb k r stamp marks queue n
     reaching-end l =
         record {
           worklist = w .worklist;

@@ -4,18 +4,18 @@ use mathlib.Core.Path.{_≡_, refl, sym, ap, subst, _∙_}
 use mathlib.Core.Bool.{Bool, true, false, _&&_, _||_}
 use mathlib.Core.Logic.{_⊎_, inl, inr}
 use mathlib.Core.List.{List, [], _∷_}
-use Prim.Native.Nat.{ℕ, _+_, _-_, _≤_, _<_}
+use Prim.Native.Nat.{ℕ, zero, suc, _+_, _-_, _≤_, _<_}
 use native.Mathlib.Omega.{arith}
 use lib.Dec.{eqb}
-use lib.ListN.{length, getD, replicate, length-replicate, getD-replicate}
+use lib.ListN.{length, getD, replicate, length-replicate}
 use borrow.Author.Tests.{eqb-true, eqb-false, eq-eqb, ne-eqb}
 use Rattle.automaton.specs.Choice.{if, All, any, among}
-use Rattle.automaton.specs.Rule.{Transition, Rule, Ranged, stateCount, covers, leads, ends, carries, used}
-use Rattle.automaton.specs.Contracts.{ruleRoom, edgeStart, edgeRoom, stateOf, headOf, firstOf, bodyAt, leaving, Chain, Table}
+use Rattle.automaton.specs.Rule.{Transition, Rule, stateCount, covers, leads, ends, carries, used}
+use Rattle.automaton.specs.Contracts.{ruleRoom, edgeStart, stateOf, headOf, firstOf, bodyAt, leaving, Chain, Table}
 use Rattle.automaton.proofs.Tests.{clash, or-true, or-none, and-true, all-map, all-with, any-each, any-some, any-map, all-among, among-all}
 use Rattle.automaton.proofs.Ways.{leads-here, leads-on, leads-each, leads-back}
 use Rattle.automaton.proofs.Built.{built-blank}
-use Rattle.used_bytes.specs.Contracts.{queued, Worklist, Passing, Led, CanGain, Reaches, Storage, Room}
+use Rattle.used_bytes.specs.Contracts.{queued, Worklist, Unmarked, Passing, Led, CanGain, Reaches, Storage, Room}
 use Rattle.used_bytes.specs.Contracts.{noted, turned, Marked, Free, Releases, waits, Passes, Has, Sweep, Sweeping, Settled, Gone}
 use Rattle.used_bytes.specs.Contracts.{Later, Gains, Goes}
 use Rattle.used_bytes.proofs.States.{Passed, either-way, leaving-all, leaving-each, leaving-from, leaving-of, noted-all, noted-here}
@@ -161,7 +161,8 @@ noted-cases gs s x e = go (among s gs) e
         head false q z = inr z
 
 module _ {r : Rule} {gs : List ℕ} {us : List Transition} {set : List Bool} (w : Sweep r gs us set) where
-  module _ {s stamp : ℕ} {good₁ queue₁ : List ℕ} {set₁ : List Bool} (k : Releases us s stamp (noted gs s) set good₁ queue₁ set₁) where
+  module _ {bound s stamp : ℕ} {good₁ queue₁ : List ℕ} {set₁ : List Bool} (k : Releases bound us s stamp (noted gs s) set good₁ queue₁ set₁)
+      where
     pub gain-later : Later gs (k .states) us us set set₁
     gain-later = record { kept = λ x e. k .kept x (noted-kept gs s x e); still = λ u h. h; grown = k .grown }
 
@@ -203,8 +204,8 @@ module _ {r : Rule} {gs : List ℕ} {us : List Transition} {set : List Bool} (w 
 
   -- ---- transitions that are gone through
 
-  module _ {stamp : ℕ} {ts : List Transition} {end : ℕ} {words₁ rows₁ : List ℕ} {set₁ : List Bool} {some₁ : Bool} {end₁ : ℕ}
-      (k : Passes stamp gs ts us end set words₁ rows₁ set₁ some₁ end₁) where
+  module _ {bound stamp : ℕ} {ts : List Transition} {end : ℕ} {words₁ rows₁ : List ℕ} {set₁ : List Bool} {some₁ : Bool} {end₁ : ℕ}
+      (k : Passes bound stamp gs ts us end set words₁ rows₁ set₁ some₁ end₁) where
     pub pass-later : Later gs gs us (waits gs ts us) set set₁
     pass-later = record { kept = λ x e. e; still = waits-still gs ts us; grown = λ b l e. k .marks b l ∙ rw (e, or-true) }
 
@@ -286,13 +287,13 @@ module _ {r : Rule} {gs : List ℕ} {us : List Transition} {set : List Bool} (w 
 
 -- ---- one step and one state
 
-module _ {r : Rule} {stamp : ℕ} {good queue words rows : List ℕ} {end : ℕ} {set : List Bool} {gs : List ℕ} {us : List Transition}
-    (w : Sweeping r stamp good queue words rows end set gs us) (s : ℕ) where
-  pub gains-not : {said : Bool} → said ≡ false → Gains r s said stamp words rows end gs us set good queue set
+module _ {bound : ℕ} {r : Rule} {stamp : ℕ} {good queue words rows : List ℕ} {end : ℕ} {set : List Bool} {gs : List ℕ}
+    {us : List Transition} (w : Sweeping bound r stamp good queue words rows end set gs us) (s : ℕ) where
+  pub gains-not : {said : Bool} → said ≡ false → Gains bound r s said stamp words rows end gs us set good queue set
   gains-not q = record { states = gs; sweeping = w; later = later-none gs us set; here = λ z. clash z q }
 
   pub gains-said : {said : Bool} {good₁ queue₁ : List ℕ} {set₁ : List Bool} → ends r s ≡ true
-      → Releases us s stamp (noted gs s) set good₁ queue₁ set₁ → Gains r s said stamp words rows end gs us set good₁ queue₁ set₁
+      → Releases bound us s stamp (noted gs s) set good₁ queue₁ set₁ → Gains bound r s said stamp words rows end gs us set good₁ queue₁ set₁
   gains-said e k =
       record {
         states = k .states;
@@ -306,8 +307,9 @@ pub ends-final : (r : Rule) (s : ℕ) → among s r.finals ≡ true → ends r s
 ends-final r s e = any-map (eqb s) (leads r.transitions s)
     (λ f q. let y : s ≡ f = eqb-true s f q in subst (λ (x : ℕ). leads r.transitions s x ≡ true) y (leads-here r.transitions s)) r.finals e
 
-module _ {r : Rule} {stamp : ℕ} {good queue words rows : List ℕ} {end : ℕ} {set : List Bool} {gs : List ℕ} {us : List Transition} (p : ℕ)
-    (w : Sweeping r stamp good queue words rows end set gs us) (led : leads r.transitions r.start (stateOf p) ≡ true)
+module _ {bound : ℕ} {r : Rule} {stamp : ℕ} {good queue words rows : List ℕ} {end : ℕ} {set : List Bool} {gs : List ℕ}
+    {us : List Transition} (p : ℕ) (w : Sweeping bound r stamp good queue words rows end set gs us)
+    (led : leads r.transitions r.start (stateOf p) ≡ true)
     {final : Bool} (e : final ≡ among (stateOf p) r.finals) {s : ℕ} (state : s ≡ stateOf p) where
   abbrev ts : List Transition
   ts = leaving (stateOf p) r.transitions
@@ -315,10 +317,10 @@ module _ {r : Rule} {stamp : ℕ} {good queue words rows : List ℕ} {end : ℕ}
   pub final-ends : final ≡ true → ends r s ≡ true
   final-ends z = rw state (ends-final r (stateOf p) (sym e ∙ z))
 
-  module _ {good₁ queue₁ : List ℕ} {set₁ : List Bool} (g : Gains r s final stamp words rows end gs us set good₁ queue₁ set₁)
+  module _ {good₁ queue₁ : List ℕ} {set₁ : List Bool} (g : Gains bound r s final stamp words rows end gs us set good₁ queue₁ set₁)
       {words₂ rows₂ : List ℕ} {set₂ : List Bool} {some₂ : Bool} {end₂ : ℕ}
-      (k : Passes stamp (g .states) ts us end set₁ words₂ rows₂ set₂ some₂ end₂) where
-    pub passed-sweeping : Sweeping r stamp good₁ queue₁ words₂ rows₂ end₂ set₂ (g .states) (waits (g .states) ts us)
+      (k : Passes bound stamp (g .states) ts us end set₁ words₂ rows₂ set₂ some₂ end₂) where
+    pub passed-sweeping : Sweeping bound r stamp good₁ queue₁ words₂ rows₂ end₂ set₂ (g .states) (waits (g .states) ts us)
     passed-sweeping =
         record {
           worklist = g .sweeping .worklist;
@@ -337,8 +339,8 @@ module _ {r : Rule} {stamp : ℕ} {good queue words rows : List ℕ} {end : ℕ}
         (way-leaving r (stateOf p) led) (leaving-from (stateOf p) r.transitions)) (sym (k .some) ∙ z))
 
     pub goes : {good₃ queue₃ : List ℕ} {set₃ : List Bool}
-        → Gains r s some₂ stamp words₂ rows₂ end₂ (g .states) (waits (g .states) ts us) set₂ good₃ queue₃ set₃
-        → Goes r p stamp end gs us set good₃ queue₃ words₂ rows₂ end₂ set₃
+        → Gains bound r s some₂ stamp words₂ rows₂ end₂ (g .states) (waits (g .states) ts us) set₂ good₃ queue₃ set₃
+        → Goes bound r p stamp end gs us set good₃ queue₃ words₂ rows₂ end₂ set₃
     goes {set₃ = set₃} h =
         record {
           states = h .states;
@@ -366,12 +368,12 @@ module _ {r : Rule} {stamp : ℕ} {good queue words rows : List ℕ} {end : ℕ}
 
 -- ---- the chain of a spot
 
-pub worklist-same : {good : List ℕ} {stamp : ℕ} {queue gs : List ℕ} → Worklist good stamp queue 0 gs
-    → (x : ℕ) → x < stateCount → eqb (getD good x 0) stamp ≡ among x gs
+pub worklist-same : {bound : ℕ} {good : List ℕ} {stamp : ℕ} {queue gs : List ℕ} → Worklist bound good stamp queue 0 gs
+    → (x : ℕ) → eqb (getD good x 0) stamp ≡ among x gs
 unfolding queued
 worklist-same w = w .same
 
-module _ {tb : List ℕ} {k : ℕ} {r : Rule} {p : ℕ} (l : Led tb k r p) where
+module _ {bound : ℕ} {tb : List ℕ} {k : ℕ} {r : Rule} {p : ℕ} (l : Led bound tb k r p) where
   pub led-chain : {head : ℕ} → head ≡ headOf p → Chain tb (firstOf (bodyAt tb k)) head (leaving (stateOf p) r.transitions)
   led-chain e = rw e (l .spot .chain)
 
@@ -379,20 +381,20 @@ module _ {tb : List ℕ} {k : ℕ} {r : Rule} {p : ℕ} (l : Led tb k r p) where
   led-froms e = rw e (leaving-from (stateOf p) r.transitions)
 
   pub led-passing : {head s stamp : ℕ} {good queue words rows : List ℕ} {end : ℕ} {set : List Bool} {gs : List ℕ} {us : List Transition}
-      → head ≡ headOf p → s ≡ stateOf p → Sweeping r stamp good queue words rows end set gs us
-      → end + length (leaving (stateOf p) r.transitions) ≤ length words → length words < 65536 → stamp ≤ ruleRoom
-      → Passing tb head s good stamp words rows end
-  led-passing {gs = gs} {us} e f w room short most =
+      → head ≡ headOf p → s ≡ stateOf p → All (λ (t : Transition). t.to < bound) r.transitions
+      → Sweeping bound r stamp good queue words rows end set gs us → end + length (leaving (stateOf p) r.transitions) ≤ length words
+      → length words < 65536 → stamp ≤ ruleRoom → Passing tb head s good stamp words rows end
+  led-passing {gs = gs} {us} e f a w room short most =
       record {
+        bound = bound;
         leading = record {
           first = firstOf (bodyAt tb k);
           transitions = leaving (stateOf p) r.transitions;
           chain = led-chain e;
-          below = leaving-all (λ (t : Transition). t.to < stateCount) (stateOf p) r.transitions
-              (all-map (Ranged stateCount) (λ (t : Transition). t.to < stateCount) (λ t q. q .to-below) r.transitions
-                  (l .table .sound .ranged));
+          below = leaving-all (λ (t : Transition). t.to < bound) (stateOf p) r.transitions a;
         };
         froms = led-froms f;
+        from-below = rw f (l .below);
         cells = w .worklist .cells;
         states = gs;
         same = worklist-same (w .worklist);
@@ -405,39 +407,47 @@ module _ {tb : List ℕ} {k : ℕ} {r : Rule} {p : ℕ} (l : Led tb k r p) where
 
   -- what is known before and after its chain
   pub led-gain : {s stamp : ℕ} {good queue words rows : List ℕ} {end : ℕ} {set : List Bool} {gs : List ℕ} {us : List Transition}
-      → s ≡ stateOf p → Sweeping r stamp good queue words rows end set gs us → CanGain s stamp good queue words rows set
+      → s ≡ stateOf p → Sweeping bound r stamp good queue words rows end set gs us → CanGain s stamp good queue words rows set
   led-gain {gs = gs} e w =
       record {
+        bound = bound;
         waits = waiting-waits (w .waiting);
         below = rw e (l .below);
         working = record { base = gs; worklist = w .worklist };
         size = w .size;
       }
 
+-- no mark has the next stamp
+worklist-unmarked : {bound : ℕ} {marks : List ℕ} {stamp : ℕ} {queue : List ℕ} {n : ℕ} {base : List ℕ}
+    → Worklist bound marks stamp queue n base → Unmarked bound marks (stamp + 1)
+worklist-unmarked w = record { within = w .within; cells = w .cells; earlier = λ s. omega (arith, w .stamps s) }
+
 -- ---- the loop of `sweep`
 
 -- the states from the k-th of the n spots on have been gone through
-pub record Over (tb : List ℕ) (number : ℕ) (r : Rule) (stamp : ℕ) (spots : List ℕ) (n : ℕ) (good queue words rows : List ℕ) (end : ℕ)
-    (set : List Bool) (k : ℕ) : Type 0 where
+pub record Over (bound : ℕ) (tb : List ℕ) (number : ℕ) (r : Rule) (stamp : ℕ) (spots : List ℕ) (n : ℕ) (good queue words rows : List ℕ)
+    (end : ℕ) (set : List Bool) (k : ℕ) : Type 0 where
   pub states : List ℕ
   pub transitions : List Transition
-  pub sweeping : Sweeping r stamp good queue words rows end set states transitions
+  pub sweeping : Sweeping bound r stamp good queue words rows end set states transitions
   pub gone : (i : ℕ) → k ≤ i → i < n → Gone r states transitions set (stateOf (getD spots i 0))
   pub within : k ≤ n
   pub room : end + outgoing (queued spots k []) r.transitions ≤ edgeStart + length r.transitions
 
-module _ {tb : List ℕ} {number : ℕ} {r : Rule} (table : Table tb number r) {stamp : ℕ} {seen spots : List ℕ} {n : ℕ}
-    (reaches : Reaches tb number r stamp seen spots n) where
-  pub over-start : {good queue words rows : List ℕ} {set : List Bool} → Storage stamp good queue words rows → length set ≡ 256
-      → ((b : ℕ) → getD set b false ≡ false) → Over tb number r stamp spots n good queue words rows edgeStart set n
-  over-start {good} {queue} {words} {rows} {set} s z f =
+module _ {bound : ℕ} {tb : List ℕ} {number : ℕ} {r : Rule} (table : Table tb number r) {stamp : ℕ} {seen spots : List ℕ} {n : ℕ}
+    (reaches : Reaches bound tb number r stamp seen spots n) where
+  pub over-start : {edges : ℕ} {good queue words rows : List ℕ} {set : List Bool} → Storage bound edges stamp good queue words rows
+      → length set ≡ 256 → ((b : ℕ) → getD set b false ≡ false) → Over bound tb number r stamp spots n good queue words rows edgeStart set n
+  over-start {good = good} {queue} {words} {rows} {set} s z f =
       record {
         states = [];
         transitions = [];
         sweeping = record {
           worklist = unmarked-worklist queue (s .unmarked) (s .slots);
           waiting = record {
-            built = built-blank words rows stamp edgeStart (omega arith) (omega (arith, s .room)) (omega arith) (s .unstamped .cells)
+            within = s .unmarked .within;
+            cells = s .unstamped .cells;
+            built = built-blank words rows stamp edgeStart (omega arith) (omega (arith, s .room)) (omega arith)
                 (λ x l e. omega (arith, s .unstamped .earlier x l));
             below = tt;
             stamps = λ x l. omega (arith, s .unstamped .earlier x l);
@@ -451,17 +461,17 @@ module _ {tb : List ℕ} {number : ℕ} {r : Rule} (table : Table tb number r) {
       }
 
   module _ {good queue words rows : List ℕ} {end : ℕ} {set : List Bool} {k : ℕ}
-      (w : Over tb number r stamp spots n good queue words rows end set k) where
+      (w : Over bound tb number r stamp spots n good queue words rows end set k) where
     module _ (more : 0 < k) where
       abbrev p : ℕ
       p = getD spots (k - 1) 0
 
-      pub over-led : Led tb number r (getD spots (k - 1) 0)
+      pub over-led : Led bound tb number r (getD spots (k - 1) 0)
       over-led =
           record {
             table = table;
             spot = reaches .spots (k - 1) (omega (arith, w .within));
-            below = queued-at (λ s. s < stateCount) spots n [] (reaches .worklist .below) (k - 1) (omega (arith, w .within));
+            below = queued-at (λ s. s < bound) spots n [] (reaches .worklist .below) (k - 1) (omega (arith, w .within));
             led = queued-at (λ s. leads r.transitions r.start s ≡ true) spots n []
                 (all-map (λ (s : ℕ). among s (queued spots n []) ≡ true) (λ (s : ℕ). leads r.transitions r.start s ≡ true)
                 (λ s e. sym (reaches .reached s) ∙ e) (queued spots n []) (all-among (queued spots n [])))
@@ -476,8 +486,8 @@ module _ {tb : List ℕ} {number : ℕ} {r : Rule} (table : Table tb number r) {
       over-room = omega (arith, w .room, last)
 
       pub over-next : {good₁ queue₁ words₁ rows₁ : List ℕ} {end₁ : ℕ} {set₁ : List Bool}
-          → Goes r (getD spots (k - 1) 0) stamp end (w .states) (w .transitions) set good₁ queue₁ words₁ rows₁ end₁ set₁
-          → Over tb number r stamp spots n good₁ queue₁ words₁ rows₁ end₁ set₁ (k - 1)
+          → Goes bound r (getD spots (k - 1) 0) stamp end (w .states) (w .transitions) set good₁ queue₁ words₁ rows₁ end₁ set₁
+          → Over bound tb number r stamp spots n good₁ queue₁ words₁ rows₁ end₁ set₁ (k - 1)
       over-next {set₁ = set₁} g =
           record {
             states = g .states;
@@ -497,45 +507,56 @@ module _ {tb : List ℕ} {number : ℕ} {r : Rule} (table : Table tb number r) {
     over-end z = swept-used (w .sweeping .sweep) (queued spots n []) (reaches .reached)
         (queued-all (Gone r (w .states) (w .transitions) set) spots n [] tt (λ i l. w .gone i (omega arith) l))
 
-    pub over-storage : (words₀ : List ℕ) → length words ≡ length words₀ → edgeStart + edgeRoom ≤ length words₀ → length words₀ < 65536
-        → Storage (stamp + 1) good queue words rows
-    over-storage words₀ e room short =
+    pub over-storage : {edges : ℕ} {good₀ queue₀ words₀ rows₀ : List ℕ} → Storage bound edges stamp good₀ queue₀ words₀ rows₀
+        → length words ≡ length words₀ → Storage bound edges (stamp + 1) good queue words rows
+    over-storage o e =
         record {
-          unmarked = record { cells = w .sweeping .worklist .cells; earlier = λ s l. omega (arith, w .sweeping .worklist .stamps s l) };
+          unmarked = worklist-unmarked (w .sweeping .worklist);
           slots = w .sweeping .worklist .slots;
-          unstamped = record { cells = w .sweeping .waiting .built .cells; earlier = λ s l. omega (arith, w .sweeping .waiting .stamps s l)
+          unstamped = record { cells = w .sweeping .waiting .cells; earlier = λ s l. omega (arith, w .sweeping .waiting .stamps s l)
               };
-          room = omega arith;
-          short = omega arith;
+          room = omega (arith, o .room);
+          short = omega (arith, o .short);
         }
 
 -- ---- working storage for the next rule
 
-pub reaches-room : {tb : List ℕ} {k : ℕ} {r : Rule} {seen spots : List ℕ} {n : ℕ} {good queue words rows : List ℕ} (rule : ℕ)
-    → Reaches tb k r (rule + 1) seen spots n → Storage (rule + 1 + 1) good queue words rows
-    → Room (rule + 2) seen spots good queue words rows
+pub storage-same : {bound bound₁ edges stamp : ℕ} {good queue words rows : List ℕ} → bound ≡ bound₁
+    → Storage bound edges stamp good queue words rows → Storage bound₁ edges stamp good queue words rows
+storage-same {edges = edges} {stamp} {good} {queue} {words} {rows} e o =
+    subst (λ (x : ℕ). Storage x edges stamp good queue words rows) e o
+
+pub reaches-room : {bound edges : ℕ} {tb : List ℕ} {k : ℕ} {r : Rule} {seen spots : List ℕ} {n : ℕ} {good queue words rows : List ℕ}
+    (rule : ℕ) → Reaches bound tb k r (rule + 1) seen spots n → Storage bound edges (rule + 1 + 1) good queue words rows
+    → Room bound edges (rule + 2) seen spots good queue words rows
 reaches-room rule w s =
     let e : rule + 1 + 1 ≡ rule + 2 = omega arith in
     record {
-      unseen = record { cells = w .worklist .cells; earlier = λ x l. omega (arith, w .worklist .stamps x l) };
+      unseen = rw e at (worklist-unmarked (w .worklist));
       slots = w .worklist .slots;
       storage = rw e at s;
     }
 
-pub room-fresh : (states words : ℕ) → states ≡ stateCount → edgeStart + edgeRoom ≤ words → words < 65536
-    → Room 1 (replicate states 0) (replicate states 0) (replicate states 0) (replicate states 0) (replicate words 0) (replicate states 0)
-room-fresh states words e l m =
-    let n : length (replicate {A = ℕ} states 0) ≡ stateCount = length-replicate {A = ℕ} states 0 ∙ e in
-    let z : (s : ℕ) → s < stateCount → getD (replicate {A = ℕ} states 0) s 0 ≡ 0 = λ s k. getD-replicate {A = ℕ} states s 0 0 (omega arith)
-        in
+blank-at : (n s : ℕ) → getD (replicate {A = ℕ} n 0) s 0 ≡ 0
+blank-at zero s = refl
+blank-at (suc n) zero = refl
+blank-at (suc n) (suc s) = blank-at n s
+
+pub room-fresh : (bound edges words : ℕ) → bound ≤ stateCount → edgeStart + edges ≤ words → words < 65536
+    → Room bound edges 1 (replicate bound 0) (replicate bound 0) (replicate bound 0) (replicate bound 0) (replicate words 0)
+    (replicate bound 0)
+room-fresh bound edges words w l m =
+    let n : length (replicate {A = ℕ} bound 0) ≡ bound = length-replicate {A = ℕ} bound 0 in
+    let u : Unmarked bound (replicate bound 0) 1 =
+        record { within = w; cells = n; earlier = λ s. rw (blank-at bound s) (omega arith) } in
     let q = length-replicate {A = ℕ} words 0 in
     record {
-      unseen = record { cells = n; earlier = λ s k. rw (z s k) (omega arith) };
+      unseen = u;
       slots = n;
       storage = record {
-        unmarked = record { cells = n; earlier = λ s k. rw (z s k) (omega arith) };
+        unmarked = u;
         slots = n;
-        unstamped = record { cells = n; earlier = λ s k. rw (z s k) (omega arith) };
+        unstamped = record { cells = n; earlier = λ s k. rw (blank-at bound s) (omega arith) };
         room = rw q l;
         short = rw q m;
       };

@@ -63,15 +63,16 @@ unfolding queued
 queued-none queue base = refl
 
 -- and all marked states, those of the queue too, for a new queue
-queue-done : {marks : List ℕ} {stamp : ℕ} {queue : List ℕ} {n : ℕ} {base : List ℕ} → Worklist marks stamp queue n base
-    → Worklist marks stamp queue 0 (queued queue n base)
+queue-done : {bound : ℕ} {marks : List ℕ} {stamp : ℕ} {queue : List ℕ} {n : ℕ} {base : List ℕ} → Worklist bound marks stamp queue n base
+    → Worklist bound marks stamp queue 0 (queued queue n base)
 queue-done {queue = queue} {n = n} {base = base} w =
     let e : queued queue 0 (queued queue n base) ≡ queued queue n base = queued-none queue (queued queue n base) in
     record {
+      within = w .within;
       cells = w .cells;
       slots = w .slots;
       below = rw e (w .below);
-      same = λ s l. rw e (w .same s l);
+      same = λ s. rw e (w .same s);
       once = λ s. rw e (w .once s);
       stamps = w .stamps;
     }
@@ -171,17 +172,17 @@ module _ (us : List Transition) (x : ℕ) (gs gs₁ : List ℕ) (set set₁ : Li
 -- ---- the queue of states at which what waits is let go
 
 -- from the states `gs` and the marks `set` on: n are queued, and what waits at the first `next` of them is let go
-pub record Releasing (us : List Transition) (stamp : ℕ) (base gs : List ℕ) (set : List Bool) (good₁ queue₁ : List ℕ) (set₁ : List Bool)
-    (n next : ℕ) : Type 0 where
-  pub worklist : Worklist good₁ stamp queue₁ n base
+pub record Releasing (bound : ℕ) (us : List Transition) (stamp : ℕ) (base gs : List ℕ) (set : List Bool) (good₁ queue₁ : List ℕ)
+    (set₁ : List Bool) (n next : ℕ) : Type 0 where
+  pub worklist : Worklist bound good₁ stamp queue₁ n base
   pub done : next ≤ n
   pub free : (k : ℕ) → k < next → Free us (queued queue₁ n base) set₁ (stateOf (getD queue₁ k 0))
   pub size : length set₁ ≡ 256
   pub grows : Grows us gs (queued queue₁ n base) set set₁
 
-pub releasing-start : {us : List Transition} {stamp : ℕ} {base good queue : List ℕ} {set : List Bool} {n : ℕ}
-    → Worklist good stamp queue n base → length set ≡ 256 → Releasing us stamp base (queued queue n base) set good queue set n 0
-releasing-start {us} {base = base} {queue = queue} {set = set} {n = n} w z =
+pub releasing-start : {bound : ℕ} {us : List Transition} {stamp : ℕ} {base good queue : List ℕ} {set : List Bool} {n : ℕ}
+    → Worklist bound good stamp queue n base → length set ≡ 256 → Releasing bound us stamp base (queued queue n base) set good queue set n 0
+releasing-start {us = us} {base = base} {queue = queue} {set = set} {n = n} w z =
     record {
       worklist = w;
       done = omega arith;
@@ -190,18 +191,19 @@ releasing-start {us} {base = base} {queue = queue} {set = set} {n = n} w z =
       grows = grows-none us (queued queue n base) set;
     }
 
-module _ {us : List Transition} {stamp : ℕ} {base gs : List ℕ} {set : List Bool} {good₁ queue₁ : List ℕ} {set₁ : List Bool} {n next : ℕ}
-    (w : Releasing us stamp base gs set good₁ queue₁ set₁ n next) where
+module _ {bound : ℕ} {us : List Transition} {stamp : ℕ} {base gs : List ℕ} {set : List Bool} {good₁ queue₁ : List ℕ}
+    {set₁ : List Bool} {n next : ℕ} (w : Releasing bound us stamp base gs set good₁ queue₁ set₁ n next) where
   abbrev gs₁ : List ℕ
   gs₁ = queued queue₁ n base
 
-  pub releasing-below : next < n → stateOf (getD queue₁ next 0) < stateCount
-  releasing-below l = queued-at (λ (x : ℕ). x < stateCount) queue₁ n base (w .worklist .below) next l
+  pub releasing-below : next < n → stateOf (getD queue₁ next 0) < bound
+  releasing-below l = queued-at (λ (x : ℕ). x < bound) queue₁ n base (w .worklist .below) next l
 
   -- what waits at the next one is let go
   pub releasing-next : {tb : List ℕ} {first head x : ℕ} {good₂ queue₂ : List ℕ} {n₂ : ℕ} {set₂ : List Bool}
-      → next < n → x ≡ stateOf (getD queue₁ next 0) → Lets tb first head (leaving x us) stamp base queue₁ n set₁ good₂ queue₂ n₂ set₂
-      → Releasing us stamp base gs set good₂ queue₂ set₂ n₂ (next + 1)
+      → next < n → x ≡ stateOf (getD queue₁ next 0)
+      → Lets bound tb first head (leaving x us) stamp base queue₁ n set₁ good₂ queue₂ n₂ set₂
+      → Releasing bound us stamp base gs set good₂ queue₂ set₂ n₂ (next + 1)
   releasing-next {x = x} {good₂ = good₂} {queue₂} {n₂} {set₂} l e v =
       record {
         worklist = v .follows .worklist;
@@ -226,11 +228,11 @@ module _ {us : List Transition} {stamp : ℕ} {base gs : List ℕ} {set : List B
           rw (v .follows .kept k (omega (arith, w .done))) (free-grows p (stateOf (getD queue₁ k 0)) (w .free k (omega arith)))
 
 -- what waits at s had been let go first, and now none is left
-pub releasing-end : {tb : List ℕ} {first head : ℕ} {us : List Transition} {s stamp : ℕ} {base queue : List ℕ} {set : List Bool}
-    {good₁ queue₁ : List ℕ} {n₁ : ℕ} {set₁ : List Bool} {good₂ queue₂ : List ℕ} {set₂ : List Bool} {n next : ℕ}
-    → Lets tb first head (leaving s us) stamp base queue 0 set good₁ queue₁ n₁ set₁
-    → Releasing us stamp base (queued queue₁ n₁ base) set₁ good₂ queue₂ set₂ n next → n ≤ next → among s base ≡ true
-    → Releases us s stamp base set good₂ queue₂ set₂
+pub releasing-end : {bound : ℕ} {tb : List ℕ} {first head : ℕ} {us : List Transition} {s stamp : ℕ} {base queue : List ℕ}
+    {set : List Bool} {good₁ queue₁ : List ℕ} {n₁ : ℕ} {set₁ : List Bool} {good₂ queue₂ : List ℕ} {set₂ : List Bool} {n next : ℕ}
+    → Lets bound tb first head (leaving s us) stamp base queue 0 set good₁ queue₁ n₁ set₁
+    → Releasing bound us stamp base (queued queue₁ n₁ base) set₁ good₂ queue₂ set₂ n next → n ≤ next → among s base ≡ true
+    → Releases bound us s stamp base set good₂ queue₂ set₂
 releasing-end {us = us} {s} {stamp} {base} {queue} {set} {good₁} {queue₁} {n₁} {set₁} {good₂} {queue₂} {set₂} {n} {next} v w end a =
     let e : queued queue₁ n₁ base ≡ notedAll base (leaving s us) =
         v .follows .states ∙ ap (λ (fs : List ℕ). notedAll fs (leaving s us)) (queued-none queue base) in
@@ -256,11 +258,12 @@ pub waits-chain : {tb rows : List ℕ} {stamp end : ℕ} {us : List Transition} 
     → s < stateCount → h ≡ headIn rows stamp s → Chain tb edgeStart h (leaving s us)
 waits-chain {s = s} k l e = rw e (k .chains s l)
 
-pub waits-leading : {tb rows : List ℕ} {stamp s h : ℕ} → Waits tb rows stamp → s < stateCount → h ≡ headIn rows stamp s → Leading tb h
-waits-leading {s = s} k l e =
+pub waits-leading : {bound : ℕ} {tb rows : List ℕ} {stamp s h : ℕ} → Waits bound tb rows stamp → s < bound → h ≡ headIn rows stamp s
+    → Leading bound tb h
+waits-leading {bound} {s = s} k l e =
     record {
       first = edgeStart;
       transitions = leaving s (k .transitions);
-      chain = waits-chain (k .built) l e;
-      below = leaving-all (λ (u : Transition). u.to < stateCount) s (k .transitions) (k .below);
+      chain = waits-chain (k .built) (omega (arith, k .within)) e;
+      below = leaving-all (λ (u : Transition). u.to < bound) s (k .transitions) (k .below);
     }

@@ -9,8 +9,9 @@ use lib.Dec.{leb, eqb}
 use lib.ListN.{length, getD}
 use Rattle.automaton.specs.Choice.{if, All, any, among}
 use Rattle.automaton.specs.Rule.{Transition, Rule, stateCount, covers, leads, ends, used}
-use Rattle.automaton.specs.Contracts.{ruleRoom, edgeStart, edgeRoom, stampAt, stateOf, spotOf, edgeAt, firstOf, endOf, bodyAt, leaving}
-use Rattle.automaton.specs.Contracts.{Chain, Spot, Table, Built, ruleAt}
+use Rattle.automaton.specs.Contracts.{ruleRoom, edgeStart, stampAt, stateOf, spotOf, edgeAt, firstOf, endOf, bodyAt, leaving}
+use Rattle.automaton.specs.Contracts.{Chain, Spot, Table, Holds, Built, ruleAt}
+use Rattle.used_bytes.specs.Bytes.{sharedByte}
 use Rattle.used_bytes.specs.declared.byteset.ByteSet.{ByteSet}
 use Rattle.used_bytes.specs.declared.byteset.Lowest.{Lowest}
 use Rattle.used_bytes.specs.declared.byteset.Lowest.the-variants as lowest
@@ -37,6 +38,43 @@ abbrev pub lowestOf : Option ℕ → Lowest
 lowestOf none = lowest.Nothing
 lowestOf (some b) = lowest.Byte b
 
+-- ---- rules that working storage has room for
+-- There are `bound` marks, places of a queue and cells of states, and room for `edges` transitions to wait.
+
+-- the start and all that transitions lead to are states below `bound`, and there are at most `edges` transitions
+pub record Fits (bound edges : ℕ) (r : Rule) : Type 0 where
+  pub start : r.start < bound
+  pub tos : All (λ (t : Transition). t.to < bound) r.transitions
+  pub few : length r.transitions ≤ edges
+
+-- rule number k of the table fits
+pub record Fitted (bound edges : ℕ) (tb : List ℕ) (k : ℕ) : Type 0 where
+  pub rule : Rule
+  pub table : Table tb k rule
+  pub fits : Fits bound edges rule
+
+-- the first n rules fit
+abbrev pub FirstFit : ℕ → ℕ → List Rule → ℕ → Type 0
+FirstFit bound edges rules n = (k : ℕ) → k < n → Fits bound edges (ruleAt rules k)
+
+-- all rules of the table do
+pub record Fitting (bound edges : ℕ) (tb : List ℕ) : Type 0 where
+  pub rules : List Rule
+  pub holds : Holds tb rules
+  pub each : FirstFit bound edges rules (length rules)
+
+-- a narrow rule fits these
+abbrev pub narrowStates : ℕ
+narrowStates = 256
+
+abbrev pub narrowEdges : ℕ
+narrowEdges = 512
+
+-- the first n rules are narrow, or else the lowest shared byte is found
+pub record Looks (rules : List Rule) (n : ℕ) (narrow : Bool) (lowest : Lowest) : Type 0 where
+  pub all : narrow ≡ true → FirstFit narrowStates narrowEdges rules n
+  pub found : narrow ≡ false → lowest ≡ lowestOf (sharedByte rules)
+
 -- ---- queues of states
 
 -- how often s stands among xs
@@ -50,17 +88,18 @@ queued queue zero base = base
 queued queue (suc n) base = stateOf (getD queue n 0) ∷ queued queue n base
 
 -- the marks with this stamp are those of the queue's states and of `base`, and none stands there twice
-pub record Worklist (marks : List ℕ) (stamp : ℕ) (queue : List ℕ) (n : ℕ) (base : List ℕ) : Type 0 where
-  pub cells : length marks ≡ stateCount
-  pub slots : length queue ≡ stateCount
-  pub below : All (λ (s : ℕ). s < stateCount) (queued queue n base)
-  pub same : (s : ℕ) → s < stateCount → eqb (getD marks s 0) stamp ≡ among s (queued queue n base)
+pub record Worklist (bound : ℕ) (marks : List ℕ) (stamp : ℕ) (queue : List ℕ) (n : ℕ) (base : List ℕ) : Type 0 where
+  pub within : bound ≤ stateCount
+  pub cells : length marks ≡ bound
+  pub slots : length queue ≡ bound
+  pub below : All (λ (s : ℕ). s < bound) (queued queue n base)
+  pub same : (s : ℕ) → eqb (getD marks s 0) stamp ≡ among s (queued queue n base)
   pub once : (s : ℕ) → hits (queued queue n base) s ≤ 1
-  pub stamps : (s : ℕ) → s < stateCount → getD marks s 0 ≤ stamp
+  pub stamps : (s : ℕ) → getD marks s 0 ≤ stamp
 
-pub record Working (marks : List ℕ) (stamp : ℕ) (queue : List ℕ) (n : ℕ) : Type 0 where
+pub record Working (bound : ℕ) (marks : List ℕ) (stamp : ℕ) (queue : List ℕ) (n : ℕ) : Type 0 where
   pub base : List ℕ
-  pub worklist : Worklist marks stamp queue n base
+  pub worklist : Worklist bound marks stamp queue n base
 
 -- one state more
 abbrev pub noted : List ℕ → ℕ → List ℕ
@@ -72,19 +111,20 @@ notedAll fs [] = fs
 notedAll fs (t ∷ ts) = notedAll (noted fs t.to) ts
 
 -- the spot is noted
-pub record Notes (stamp : ℕ) (base : List ℕ) (spot : ℕ) (marks queue : List ℕ) (n : ℕ) (marks₁ queue₁ : List ℕ) (n₁ : ℕ) : Type 0 where
-  pub worklist : Worklist marks₁ stamp queue₁ n₁ base
+pub record Notes (bound stamp : ℕ) (base : List ℕ) (spot : ℕ) (marks queue : List ℕ) (n : ℕ) (marks₁ queue₁ : List ℕ) (n₁ : ℕ)
+    : Type 0 where
+  pub worklist : Worklist bound marks₁ stamp queue₁ n₁ base
   pub states : queued queue₁ n₁ base ≡ noted (queued queue n base) (stateOf spot)
   pub more : n ≤ n₁
   pub kept : (k : ℕ) → k < n → getD queue₁ k 0 ≡ getD queue k 0
   pub new : (k : ℕ) → n ≤ k → k < n₁ → getD queue₁ k 0 ≡ spot
 
 -- a chain of transitions to states
-pub record Leading (tb : List ℕ) (head : ℕ) : Type 0 where
+pub record Leading (bound : ℕ) (tb : List ℕ) (head : ℕ) : Type 0 where
   pub first : ℕ
   pub transitions : List Transition
   pub chain : Chain tb first head transitions
-  pub below : All (λ (t : Transition). t.to < stateCount) transitions
+  pub below : All (λ (t : Transition). t.to < bound) transitions
 
 -- p is the spot of the word at a link of a chain from `head`
 pub record Linked (tb : List ℕ) (first head p : ℕ) : Type 0 where
@@ -94,22 +134,23 @@ pub record Linked (tb : List ℕ) (first head p : ℕ) : Type 0 where
   pub spot : p ≡ spotOf (edgeAt tb link)
 
 -- the transitions of a chain are followed
-pub record Follows (tb : List ℕ) (first head : ℕ) (ts : List Transition) (stamp : ℕ) (base queue : List ℕ) (n : ℕ)
+pub record Follows (bound : ℕ) (tb : List ℕ) (first head : ℕ) (ts : List Transition) (stamp : ℕ) (base queue : List ℕ) (n : ℕ)
     (marks₁ queue₁ : List ℕ) (n₁ : ℕ) : Type 0 where
-  pub worklist : Worklist marks₁ stamp queue₁ n₁ base
+  pub worklist : Worklist bound marks₁ stamp queue₁ n₁ base
   pub states : queued queue₁ n₁ base ≡ notedAll (queued queue n base) ts
   pub more : n ≤ n₁
   pub kept : (k : ℕ) → k < n → getD queue₁ k 0 ≡ getD queue k 0
   pub new : (k : ℕ) → n ≤ k → k < n₁ → Linked tb first head (getD queue₁ k 0)
 
 -- no mark has the stamp, nor a later one
-pub record Unmarked (marks : List ℕ) (stamp : ℕ) : Type 0 where
-  pub cells : length marks ≡ stateCount
-  pub earlier : (s : ℕ) → s < stateCount → getD marks s 0 < stamp
+pub record Unmarked (bound : ℕ) (marks : List ℕ) (stamp : ℕ) : Type 0 where
+  pub within : bound ≤ stateCount
+  pub cells : length marks ≡ bound
+  pub earlier : (s : ℕ) → getD marks s 0 < stamp
 
 -- the first n of the queue are the spots of the states that the start of the rule reaches
-pub record Reaches (tb : List ℕ) (k : ℕ) (r : Rule) (stamp : ℕ) (marks queue : List ℕ) (n : ℕ) : Type 0 where
-  pub worklist : Worklist marks stamp queue n []
+pub record Reaches (bound : ℕ) (tb : List ℕ) (k : ℕ) (r : Rule) (stamp : ℕ) (marks queue : List ℕ) (n : ℕ) : Type 0 where
+  pub worklist : Worklist bound marks stamp queue n []
   pub spots : (i : ℕ) → i < n → Spot tb (firstOf (bodyAt tb k)) (endOf (bodyAt tb k)) r.finals r.transitions
       (stateOf (getD queue i 0)) (getD queue i 0)
   pub reached : (s : ℕ) → among s (queued queue n []) ≡ leads r.transitions r.start s
@@ -130,27 +171,29 @@ pub record MarksAll (ts : List Transition) (set set₁ : List Bool) : Type 0 whe
   pub marks : (b : ℕ) → b < 256 → getD set₁ b false ≡ any (λ (t : Transition). covers t b) ts || getD set b false
 
 -- the transitions of a chain are let go
-pub record Lets (tb : List ℕ) (first head : ℕ) (ts : List Transition) (stamp : ℕ) (base queue : List ℕ) (n : ℕ) (set : List Bool)
-    (good₁ queue₁ : List ℕ) (n₁ : ℕ) (set₁ : List Bool) : Type 0 where
-  pub follows : Follows tb first head ts stamp base queue n good₁ queue₁ n₁
+pub record Lets (bound : ℕ) (tb : List ℕ) (first head : ℕ) (ts : List Transition) (stamp : ℕ) (base queue : List ℕ) (n : ℕ)
+    (set : List Bool) (good₁ queue₁ : List ℕ) (n₁ : ℕ) (set₁ : List Bool) : Type 0 where
+  pub follows : Follows bound tb first head ts stamp base queue n good₁ queue₁ n₁
   pub marks : MarksAll ts set set₁
 
 -- turned transitions wait in the words from `edgeStart` on, chained by the state at which they wait
-pub record Waits (tb rows : List ℕ) (stamp : ℕ) : Type 0 where
+pub record Waits (bound : ℕ) (tb rows : List ℕ) (stamp : ℕ) : Type 0 where
   pub end : ℕ
   pub transitions : List Transition
+  pub within : bound ≤ stateCount
+  pub cells : length rows ≡ bound
   pub built : Built tb rows stamp edgeStart end [] transitions
-  pub below : All (λ (u : Transition). u.to < stateCount) transitions
+  pub below : All (λ (u : Transition). u.to < bound) transitions
 
 -- what waits at x has been let go
 abbrev pub Free : List Transition → List ℕ → List Bool → ℕ → Type 0
 Free us gs set x = All (λ (u : Transition). (among u.to gs ≡ true) × Marked set u) (leaving x us)
 
 -- what waits at s is let go, and what waits at the states that are noted by that
-pub record Releases (us : List Transition) (s stamp : ℕ) (base : List ℕ) (set : List Bool) (good₁ queue₁ : List ℕ) (set₁ : List Bool)
-    : Type 0 where
+pub record Releases (bound : ℕ) (us : List Transition) (s stamp : ℕ) (base : List ℕ) (set : List Bool) (good₁ queue₁ : List ℕ)
+    (set₁ : List Bool) : Type 0 where
   pub states : List ℕ
-  pub worklist : Worklist good₁ stamp queue₁ 0 states
+  pub worklist : Worklist bound good₁ stamp queue₁ 0 states
   pub kept : (x : ℕ) → among x base ≡ true → among x states ≡ true
   pub here : Free us states set₁ s
   pub free : All (λ (x : ℕ). (among x base ≡ true) ⊎ Free us states set₁ x) states
@@ -165,21 +208,25 @@ pub record Releases (us : List Transition) (s stamp : ℕ) (base : List ℕ) (se
 -- ---- states that lead to a final state
 
 -- these transitions wait, and no cell has a later stamp
-pub record Waiting (tb rows : List ℕ) (stamp end : ℕ) (us : List Transition) : Type 0 where
+pub record Waiting (bound : ℕ) (tb rows : List ℕ) (stamp end : ℕ) (us : List Transition) : Type 0 where
+  pub within : bound ≤ stateCount
+  pub cells : length rows ≡ bound
   pub built : Built tb rows stamp edgeStart end [] us
-  pub below : All (λ (u : Transition). u.to < stateCount) us
+  pub below : All (λ (u : Transition). u.to < bound) us
   pub stamps : (s : ℕ) → s < stateCount → stampAt rows s ≤ stamp
 
 -- a chain of transitions to states can be gone through: there is room for each of them to wait
 pub record Passing (tb : List ℕ) (head from : ℕ) (good : List ℕ) (stamp : ℕ) (words rows : List ℕ) (end : ℕ) : Type 0 where
-  pub leading : Leading tb head
+  pub bound : ℕ
+  pub leading : Leading bound tb head
   pub froms : All (λ (t : Transition). t.from ≡ from) (leading .transitions)
-  pub cells : length good ≡ stateCount
+  pub from-below : from < bound
+  pub cells : length good ≡ bound
   pub states : List ℕ
-  pub same : (x : ℕ) → x < stateCount → eqb (getD good x 0) stamp ≡ among x states
+  pub same : (x : ℕ) → eqb (getD good x 0) stamp ≡ among x states
   pub stamp-below : stamp ≤ ruleRoom
   pub transitions : List Transition
-  pub waiting : Waiting words rows stamp end transitions
+  pub waiting : Waiting bound words rows stamp end transitions
   pub room : end + length (leading .transitions) ≤ length words
   pub short : end + length (leading .transitions) < 65536
 
@@ -189,9 +236,9 @@ waits gs [] us = us
 waits gs (t ∷ ts) us = waits gs ts (if (among t.to gs) us (turned t ∷ us))
 
 -- the transitions ts are gone through: the bytes of those that lead to one of the states are marked, the others wait
-pub record Passes (stamp : ℕ) (gs : List ℕ) (ts us : List Transition) (end : ℕ) (set : List Bool) (words₁ rows₁ : List ℕ)
+pub record Passes (bound stamp : ℕ) (gs : List ℕ) (ts us : List Transition) (end : ℕ) (set : List Bool) (words₁ rows₁ : List ℕ)
     (set₁ : List Bool) (some₁ : Bool) (end₁ : ℕ) : Type 0 where
-  pub waiting : Waiting words₁ rows₁ stamp end₁ (waits gs ts us)
+  pub waiting : Waiting bound words₁ rows₁ stamp end₁ (waits gs ts us)
   pub most : end₁ ≤ end + length ts
   pub some : some₁ ≡ any (λ (t : Transition). among t.to gs) ts
   pub size : length set₁ ≡ 256
@@ -210,10 +257,10 @@ pub record Sweep (r : Rule) (gs : List ℕ) (us : List Transition) (set : List B
   pub sound : (b : ℕ) → b < 256 → getD set b false ≡ true → used r b ≡ true
 
 -- all that is known at one moment
-pub record Sweeping (r : Rule) (stamp : ℕ) (good queue words rows : List ℕ) (end : ℕ) (set : List Bool) (gs : List ℕ)
+pub record Sweeping (bound : ℕ) (r : Rule) (stamp : ℕ) (good queue words rows : List ℕ) (end : ℕ) (set : List Bool) (gs : List ℕ)
     (us : List Transition) : Type 0 where
-  pub worklist : Worklist good stamp queue 0 gs
-  pub waiting : Waiting words rows stamp end us
+  pub worklist : Worklist bound good stamp queue 0 gs
+  pub waiting : Waiting bound words rows stamp end us
   pub size : length set ≡ 256
   pub sweep : Sweep r gs us set
 
@@ -233,44 +280,47 @@ pub record Later (gs gs₁ : List ℕ) (us us₁ : List Transition) (set set₁ 
   pub grown : (b : ℕ) → b < 256 → getD set b false ≡ true → getD set₁ b false ≡ true
 
 -- with state s among them, where it is said to lead to a final state
-pub record Gains (r : Rule) (s : ℕ) (said : Bool) (stamp : ℕ) (words rows : List ℕ) (end : ℕ) (gs : List ℕ) (us : List Transition)
-    (set : List Bool) (good₁ queue₁ : List ℕ) (set₁ : List Bool) : Type 0 where
+pub record Gains (bound : ℕ) (r : Rule) (s : ℕ) (said : Bool) (stamp : ℕ) (words rows : List ℕ) (end : ℕ) (gs : List ℕ)
+    (us : List Transition) (set : List Bool) (good₁ queue₁ : List ℕ) (set₁ : List Bool) : Type 0 where
   pub states : List ℕ
-  pub sweeping : Sweeping r stamp good₁ queue₁ words rows end set₁ states us
+  pub sweeping : Sweeping bound r stamp good₁ queue₁ words rows end set₁ states us
   pub later : Later gs states us us set set₁
   pub here : said ≡ true → among s states ≡ true
 
 pub record CanGain (s stamp : ℕ) (good queue words rows : List ℕ) (set : List Bool) : Type 0 where
-  pub waits : Waits words rows stamp
-  pub below : s < stateCount
-  pub working : Working good stamp queue 0
+  pub bound : ℕ
+  pub waits : Waits bound words rows stamp
+  pub below : s < bound
+  pub working : Working bound good stamp queue 0
   pub size : length set ≡ 256
 
 -- p is the spot of a state of rule number k that its start leads to
-pub record Led (tb : List ℕ) (k : ℕ) (r : Rule) (p : ℕ) : Type 0 where
+pub record Led (bound : ℕ) (tb : List ℕ) (k : ℕ) (r : Rule) (p : ℕ) : Type 0 where
   pub table : Table tb k r
   pub spot : Spot tb (firstOf (bodyAt tb k)) (endOf (bodyAt tb k)) r.finals r.transitions (stateOf p) p
-  pub below : stateOf p < stateCount
+  pub below : stateOf p < bound
   pub led : leads r.transitions r.start (stateOf p) ≡ true
 
 -- its state can be gone through
 pub record Sweepable (tb : List ℕ) (p stamp : ℕ) (good queue words rows : List ℕ) (end : ℕ) (set : List Bool) : Type 0 where
+  pub bound : ℕ
   pub number : ℕ
   pub rule : Rule
-  pub led : Led tb number rule p
+  pub led : Led bound tb number rule p
+  pub tos : All (λ (t : Transition). t.to < bound) (rule .transitions)
   pub states : List ℕ
   pub transitions : List Transition
-  pub sweeping : Sweeping rule stamp good queue words rows end set states transitions
+  pub sweeping : Sweeping bound rule stamp good queue words rows end set states transitions
   pub room : end + length (leaving (stateOf p) rule.transitions) ≤ length words
   pub short : length words < 65536
   pub stamp-below : stamp ≤ ruleRoom
 
 -- it is gone through
-pub record Goes (r : Rule) (p stamp : ℕ) (end : ℕ) (gs : List ℕ) (us : List Transition) (set : List Bool)
+pub record Goes (bound : ℕ) (r : Rule) (p stamp : ℕ) (end : ℕ) (gs : List ℕ) (us : List Transition) (set : List Bool)
     (good₁ queue₁ words₁ rows₁ : List ℕ) (end₁ : ℕ) (set₁ : List Bool) : Type 0 where
   pub states : List ℕ
   pub transitions : List Transition
-  pub sweeping : Sweeping r stamp good₁ queue₁ words₁ rows₁ end₁ set₁ states transitions
+  pub sweeping : Sweeping bound r stamp good₁ queue₁ words₁ rows₁ end₁ set₁ states transitions
   pub later : Later gs states us transitions set set₁
   pub gone : Gone r states transitions set₁ (stateOf p)
   pub most : end₁ ≤ end + length (leaving (stateOf p) r.transitions)
@@ -278,35 +328,36 @@ pub record Goes (r : Rule) (p stamp : ℕ) (end : ℕ) (gs : List ℕ) (us : Lis
 -- ---- working storage
 
 -- no cell has the stamp, nor a later one
-pub record Unstamped (rows : List ℕ) (stamp : ℕ) : Type 0 where
-  pub cells : length rows ≡ stateCount
+pub record Unstamped (bound : ℕ) (rows : List ℕ) (stamp : ℕ) : Type 0 where
+  pub cells : length rows ≡ bound
   pub earlier : (s : ℕ) → s < stateCount → stampAt rows s < stamp
 
--- what a rule with this stamp is swept in: marks, a queue, words and cells
-pub record Storage (stamp : ℕ) (good queue words rows : List ℕ) : Type 0 where
-  pub unmarked : Unmarked good stamp
-  pub slots : length queue ≡ stateCount
-  pub unstamped : Unstamped rows stamp
-  pub room : edgeStart + edgeRoom ≤ length words
+-- what a rule with this stamp, of at most `edges` transitions, is swept in: marks, a queue, words and cells
+pub record Storage (bound edges stamp : ℕ) (good queue words rows : List ℕ) : Type 0 where
+  pub unmarked : Unmarked bound good stamp
+  pub slots : length queue ≡ bound
+  pub unstamped : Unstamped bound rows stamp
+  pub room : edgeStart + edges ≤ length words
   pub short : length words < 65536
 
 -- the reached states can be swept
 pub record Ready (tb : List ℕ) (stamp : ℕ) (spots : List ℕ) (n : ℕ) (good queue words rows : List ℕ) (set : List Bool) : Type 0 where
+  pub bound : ℕ
+  pub edges : ℕ
   pub number : ℕ
-  pub rule : Rule
-  pub table : Table tb number rule
+  pub fitted : Fitted bound edges tb number
   pub seen : List ℕ
-  pub reaches : Reaches tb number rule stamp seen spots n
-  pub storage : Storage stamp good queue words rows
+  pub reaches : Reaches bound tb number (fitted .rule) stamp seen spots n
+  pub storage : Storage bound edges stamp good queue words rows
   pub stamp-below : stamp ≤ ruleRoom
   pub size : length set ≡ 256
   pub clear : (b : ℕ) → getD set b false ≡ false
 
 -- what a rule with this stamp needs
-pub record Room (stamp : ℕ) (seen spots good queue words rows : List ℕ) : Type 0 where
-  pub unseen : Unmarked seen stamp
-  pub slots : length spots ≡ stateCount
-  pub storage : Storage stamp good queue words rows
+pub record Room (bound edges stamp : ℕ) (seen spots good queue words rows : List ℕ) : Type 0 where
+  pub unseen : Unmarked bound seen stamp
+  pub slots : length spots ≡ bound
+  pub storage : Storage bound edges stamp good queue words rows
 
 -- ---- covered bytes
 

@@ -9,12 +9,14 @@ pub mod sweeping;
 use crate::byteset::ByteSet;
 use crate::byteset::Lowest;
 ghost use mathlib.Core.Path.{_≡_};
+ghost use mathlib.Core.Bool.{true};
 ghost use mathlib.Core.List.{List};
-ghost use Prim.Native.Nat.{ℕ, _+_, _<_};
+ghost use Prim.Native.Nat.{ℕ, _+_, _<_, _≤_};
 ghost use lib.ListN.{length};
 ghost use Rattle.automaton.specs.Rule.{Rule, used};
-ghost use Rattle.automaton.specs.Contracts.{Table, Tabled, Holds, Held};
+ghost use Rattle.automaton.specs.Contracts.{countAt, Table, Tabled, Holds, Held};
 ghost use Rattle.used_bytes.specs.Contracts.{mark, lowestOf, MarksAll, Room, Covers};
+ghost use Rattle.used_bytes.specs.Contracts.{Fits, Fitted, Fitting, Looks, narrowStates, narrowEdges};
 ghost use Rattle.used_bytes.specs.Bytes.{sharedByte};
 
 // The used bytes of rule number `rule`. The working storage may hold what earlier rules have left there.
@@ -28,9 +30,13 @@ pub fn used_by(
     waiting: &mut [u64],
     rows: &mut [u32],
 ) -> ByteSet
-    requires { ⌜ Tabled (now table) rule × Room (rule + 1) (now seen) (now spots) (now good) (now queue) (now waiting) (now rows) ⌝ }
-    ensures { λ r. ⌜ Room (rule + 2) (now (seen .exit)) (now (spots .exit)) (now (good .exit)) (now (queue .exit)) (now (waiting .exit))
-        (now (rows .exit)) ⌝ }
+    requires { ⌜ ((bound : ℕ) × (edges : ℕ) × Fitted bound edges (now table) rule
+        × Room bound edges (rule + 1) (now seen) (now spots) (now good) (now queue) (now waiting) (now rows)) ⌝ }
+    ensures { λ r. ⌜ ((bound edges : ℕ)
+        → Room bound edges (rule + 1) (now (seen .entry)) (now (spots .entry)) (now (good .entry)) (now (queue .entry))
+        (now (waiting .entry)) (now (rows .entry))
+        → Room bound edges (rule + 2) (now (seen .exit)) (now (spots .exit)) (now (good .exit)) (now (queue .exit))
+        (now (waiting .exit)) (now (rows .exit))) ⌝ }
     ensures { λ r. ⌜ ((m : Rule) → Table (now (table .entry)) rule m → (b : ℕ) → b < 256 → mark r b ≡ used m b) ⌝ }
 {
     let stamp = (rule + 1) as u8;
@@ -60,7 +66,8 @@ fn shared_in(
     waiting: &mut [u64],
     rows: &mut [u32],
 ) -> Lowest
-    requires { ⌜ Held (now table) × Room 1 (now seen) (now spots) (now good) (now queue) (now waiting) (now rows) ⌝ }
+    requires { ⌜ ((bound : ℕ) × (edges : ℕ) × Fitting bound edges (now table)
+        × Room bound edges 1 (now seen) (now spots) (now good) (now queue) (now waiting) (now rows)) ⌝ }
     ensures { λ r. ⌜ ((rs : List Rule) → Holds (now (table .entry)) rs → r ≡ lowestOf (sharedByte rs)) ⌝ }
 {
     let rules = automaton::count_of(table);
@@ -125,9 +132,69 @@ pub fn shared_byte(table: &[u64]) -> Lowest
     Lowest::Nothing
 }
 
-// The same by the ways to final states.
+// The same by the ways to final states. Most books do with small working storage, which costs less to clear.
 fn shared_by_ways(table: &[u64]) -> Lowest
     requires { ⌜ Held (now table) ⌝ }
+    ensures { λ r. ⌜ ((rs : List Rule) → Holds (now (table .entry)) rs → r ≡ lowestOf (sharedByte rs)) ⌝ }
+{
+    let looked = look(table, automaton::count_of(table));
+    if looked.narrow {
+        return shared_in_small(table);
+    }
+    let lowest = looked.lowest;
+    lowest
+}
+
+// Whether the start of rule number `rule` and all that its transitions lead to are states below 256, and there are at most 512 of them.
+fn is_narrow(table: &[u64], rule: usize) -> bool
+    requires { ⌜ Tabled (now table) rule ⌝ }
+    ensures { λ r. ⌜ ((m : Rule) → Table (now (table .entry)) rule m → r ≡ true → Fits narrowStates narrowEdges m) ⌝ }
+{
+    let first = automaton::first_of(table, rule);
+    let mut at = automaton::end_of(table, rule);
+    if first + 512 < at {
+        return false;
+    }
+    if 256 <= automaton::words::state(automaton::start_spot(table, rule)) {
+        return false;
+    }
+    while first < at {
+        at -= 1;
+        if 256 <= automaton::words::state(automaton::words::spot(table[at])) {
+            return false;
+        }
+    }
+    true
+}
+
+// What a look at rules comes to: whether they are narrow, and if not, the lowest shared byte.
+struct Looked {
+    narrow: bool,
+    lowest: Lowest,
+}
+
+// Looks at the first `n` rules. It calls itself, and so neither it nor `shared_in_large`, whose frame is large, becomes a part of its
+// callers, where that frame would be made in each call.
+fn look(table: &[u64], n: usize) -> Looked
+    requires { ⌜ Held (now table) × (n ≤ countAt (now table)) ⌝ }
+    ensures { λ r. ⌜ ((rs : List Rule) → Holds (now (table .entry)) rs → Looks rs n (r .narrow) (r .lowest)) ⌝ }
+{
+    if n == 0 {
+        return Looked { narrow: true, lowest: Lowest::Nothing };
+    }
+    let before = look(table, n - 1);
+    if before.narrow {
+        if !is_narrow(table, n - 1) {
+            let lowest = shared_in_large(table);
+            return Looked { narrow: false, lowest };
+        }
+    }
+    before
+}
+
+// The search in working storage for narrow rules.
+fn shared_in_small(table: &[u64]) -> Lowest
+    requires { ⌜ Fitting narrowStates narrowEdges (now table) ⌝ }
     ensures { λ r. ⌜ ((rs : List Rule) → Holds (now (table .entry)) rs → r ≡ lowestOf (sharedByte rs)) ⌝ }
 {
     let mut seen = [0u8; 256];
@@ -136,5 +203,19 @@ fn shared_by_ways(table: &[u64]) -> Lowest
     let mut queue = [0u64; 256];
     let mut waiting = [0u64; 577];
     let mut rows = [0u32; 256];
+    shared_in(table, &mut seen, &mut spots, &mut good, &mut queue, &mut waiting, &mut rows)
+}
+
+// The search in working storage for any rules.
+fn shared_in_large(table: &[u64]) -> Lowest
+    requires { ⌜ Held (now table) ⌝ }
+    ensures { λ r. ⌜ ((rs : List Rule) → Holds (now (table .entry)) rs → r ≡ lowestOf (sharedByte rs)) ⌝ }
+{
+    let mut seen = [0u8; 4096];
+    let mut spots = [0u64; 4096];
+    let mut good = [0u8; 4096];
+    let mut queue = [0u64; 4096];
+    let mut waiting = [0u64; 4161];
+    let mut rows = [0u32; 4096];
     shared_in(table, &mut seen, &mut spots, &mut good, &mut queue, &mut waiting, &mut rows)
 }

@@ -5,16 +5,16 @@ ghost use mathlib.Core.Path.{_≡_};
 ghost use mathlib.Core.List.{List};
 ghost use Prim.Native.Nat.{ℕ, _<_};
 ghost use lib.ListN.{length};
-ghost use Rattle.automaton.specs.Rule.{Transition, Rule, stateCount};
-ghost use Rattle.automaton.specs.Contracts.{stateOf, Chain, Table, Tabled};
-ghost use Rattle.used_bytes.specs.Contracts.{Worklist, Working, Notes, Leading, Follows, Unmarked, Reaches};
+ghost use Rattle.automaton.specs.Rule.{Transition, Rule};
+ghost use Rattle.automaton.specs.Contracts.{stateOf, Chain, Table};
+ghost use Rattle.used_bytes.specs.Contracts.{Worklist, Working, Notes, Leading, Follows, Fitted, Unmarked, Reaches};
 
 // Marks the state of a spot and puts the spot behind the first `count` of the queue, where the state has no mark. Answers how many there
 // are then.
 pub fn note(marks: &mut [u8], stamp: u8, queue: &mut [u64], count: usize, spot: u64) -> usize
-    requires { ⌜ Working (now marks) stamp (now queue) count × (stateOf spot < stateCount) ⌝ }
-    ensures { λ r. ⌜ ((base : List ℕ) → Worklist (now (marks .entry)) stamp (now (queue .entry)) count base
-        → Notes stamp base spot (now (marks .entry)) (now (queue .entry)) count (now (marks .exit)) (now (queue .exit)) r) ⌝ }
+    requires { ⌜ ((bound : ℕ) × Working bound (now marks) stamp (now queue) count × (stateOf spot < bound)) ⌝ }
+    ensures { λ r. ⌜ ((bound : ℕ) (base : List ℕ) → Worklist bound (now (marks .entry)) stamp (now (queue .entry)) count base
+        → Notes bound stamp base spot (now (marks .entry)) (now (queue .entry)) count (now (marks .exit)) (now (queue .exit)) r) ⌝ }
 {
     let s = words::state(spot) as usize;
     if marks[s] == stamp {
@@ -34,10 +34,10 @@ pub fn note_chain(
     queue: &mut [u64],
     count: usize,
 ) -> usize
-    requires { ⌜ Leading (now table) head × Working (now marks) stamp (now queue) count ⌝ }
-    ensures { λ r. ⌜ ((base : List ℕ) → Worklist (now (marks .entry)) stamp (now (queue .entry)) count base
+    requires { ⌜ ((bound : ℕ) × Leading bound (now table) head × Working bound (now marks) stamp (now queue) count) ⌝ }
+    ensures { λ r. ⌜ ((bound : ℕ) (base : List ℕ) → Worklist bound (now (marks .entry)) stamp (now (queue .entry)) count base
         → (first : ℕ) (ts : List Transition) → Chain (now (table .entry)) first head ts
-        → Follows (now (table .entry)) first head ts stamp base (now (queue .entry)) count
+        → Follows bound (now (table .entry)) first head ts stamp base (now (queue .entry)) count
         (now (marks .exit)) (now (queue .exit)) r) ⌝ }
 {
     let mut h = head;
@@ -52,9 +52,10 @@ pub fn note_chain(
 
 // Puts into the queue the spots of the states that the start of a rule reaches. Answers how many there are.
 pub fn reach(table: &[u64], rule: usize, marks: &mut [u8], stamp: u8, queue: &mut [u64]) -> usize
-    requires { ⌜ Tabled (now table) rule × Unmarked (now marks) stamp × (length (now queue) ≡ stateCount) ⌝ }
-    ensures { λ r. ⌜ ((m : Rule) → Table (now (table .entry)) rule m
-        → Reaches (now (table .entry)) rule m stamp (now (marks .exit)) (now (queue .exit)) r) ⌝ }
+    requires { ⌜ ((bound : ℕ) × (edges : ℕ) × Fitted bound edges (now table) rule × Unmarked bound (now marks) stamp
+        × (length (now queue) ≡ bound)) ⌝ }
+    ensures { λ r. ⌜ ((bound : ℕ) → Unmarked bound (now (marks .entry)) stamp → (m : Rule) → Table (now (table .entry)) rule m
+        → Reaches bound (now (table .entry)) rule m stamp (now (marks .exit)) (now (queue .exit)) r) ⌝ }
 {
     let mut n = note(marks, stamp, queue, 0, automaton::start_spot(table, rule));
     let mut next = 0;

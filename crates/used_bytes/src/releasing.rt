@@ -8,7 +8,7 @@ ghost use mathlib.Core.List.{List, []};
 ghost use Prim.Native.Nat.{ℕ, _<_};
 ghost use lib.ListN.{length};
 ghost use Rattle.automaton.specs.Choice.{among};
-ghost use Rattle.automaton.specs.Rule.{Transition, stateCount};
+ghost use Rattle.automaton.specs.Rule.{Transition};
 ghost use Rattle.automaton.specs.Contracts.{edgeStart, Chain, Chained, Built};
 ghost use Rattle.used_bytes.specs.Contracts.{Worklist, Working, Leading, MarksAll, Lets, Waits, Releases};
 
@@ -37,10 +37,11 @@ pub fn let_go(
     count: usize,
     set: &mut [bool; 256],
 ) -> usize
-    requires { ⌜ Leading (now waiting) head × Working (now good) stamp (now queue) count × (length (now set) ≡ 256) ⌝ }
-    ensures { λ r. ⌜ ((base : List ℕ) → Worklist (now (good .entry)) stamp (now (queue .entry)) count base
+    requires { ⌜ ((bound : ℕ) × Leading bound (now waiting) head × Working bound (now good) stamp (now queue) count
+        × (length (now set) ≡ 256)) ⌝ }
+    ensures { λ r. ⌜ ((bound : ℕ) (base : List ℕ) → Worklist bound (now (good .entry)) stamp (now (queue .entry)) count base
         → (first : ℕ) (ts : List Transition) → Chain (now (waiting .entry)) first head ts
-        → Lets (now (waiting .entry)) first head ts stamp base (now (queue .entry)) count (now (set .entry))
+        → Lets bound (now (waiting .entry)) first head ts stamp base (now (queue .entry)) count (now (set .entry))
         (now (good .exit)) (now (queue .exit)) r (now (set .exit))) ⌝ }
 {
     mark_chain(waiting, head, set);
@@ -57,11 +58,12 @@ pub fn release(
     queue: &mut [u64],
     set: &mut [bool; 256],
 )
-    requires { ⌜ Waits (now waiting) (now rows) stamp × (s < stateCount) × Working (now good) stamp (now queue) 0 × (length (now set) ≡ 256)
-        ⌝ }
-    ensures { λ r. ⌜ ((base : List ℕ) → Worklist (now (good .entry)) stamp (now (queue .entry)) 0 base → among s base ≡ true
+    requires { ⌜ ((bound : ℕ) × Waits bound (now waiting) (now rows) stamp × (s < bound) × Working bound (now good) stamp (now queue) 0
+        × (length (now set) ≡ 256)) ⌝ }
+    ensures { λ r. ⌜ ((bound : ℕ) (base : List ℕ) → Worklist bound (now (good .entry)) stamp (now (queue .entry)) 0 base
+        → among s base ≡ true
         → (end : ℕ) (us : List Transition) → Built (now (waiting .entry)) (now (rows .entry)) stamp edgeStart end [] us
-        → Releases us s stamp base (now (set .entry)) (now (good .exit)) (now (queue .exit)) (now (set .exit))) ⌝ }
+        → Releases bound us s stamp base (now (set .entry)) (now (good .exit)) (now (queue .exit)) (now (set .exit))) ⌝ }
 {
     let head = building::head(rows, stamp as u32, s);
     let mut n = let_go(waiting, head, good, stamp, queue, 0, set);

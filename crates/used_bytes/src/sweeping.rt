@@ -9,7 +9,7 @@ ghost use lib.Dec.{eqb};
 ghost use Prim.Native.Nat.{ℕ, _+_, _<_, _≤_};
 ghost use lib.ListN.{length, getD};
 ghost use Rattle.automaton.specs.Choice.{All, among};
-ghost use Rattle.automaton.specs.Rule.{Transition, Rule, stateCount, ends, used};
+ghost use Rattle.automaton.specs.Rule.{Transition, Rule, ends, used};
 ghost use Rattle.automaton.specs.Contracts.{ruleRoom, edgeStart, lowOf, highOf, toOf, Chain, Built, Table};
 ghost use Rattle.used_bytes.specs.Contracts.{Worklist, Working, Waits, Waiting, Passing, Passes, noted, Releases};
 ghost use Rattle.used_bytes.specs.Contracts.{CanGain, Sweeping, Gains, Led, Sweepable, Goes, Reaches, Storage, Ready};
@@ -21,11 +21,11 @@ pub struct Swept {
 }
 
 // Lets the transition `edge`, which leaves state `from`, wait at the state to which it leads.
-pub fn wait(waiting: &mut [u64], rows: &mut [u32], stamp: u8, end: usize, edge: u64, from: u8)
-    requires { ⌜ Waits (now waiting) (now rows) stamp × (end < length (now waiting)) × (end + 1 < 65536) × (stamp ≤ ruleRoom)
-        × (toOf edge < stateCount) ⌝ }
-    ensures { λ r. ⌜ ((us : List Transition) → Waiting (now (waiting .entry)) (now (rows .entry)) stamp end us
-        → Waiting (now (waiting .exit)) (now (rows .exit)) stamp (end + 1)
+pub fn wait(waiting: &mut [u64], rows: &mut [u32], stamp: u8, end: usize, edge: u64, from: u16)
+    requires { ⌜ ((bound : ℕ) × Waits bound (now waiting) (now rows) stamp × (end < length (now waiting)) × (end + 1 < 65536)
+        × (stamp ≤ ruleRoom) × (toOf edge < bound) × (from < bound)) ⌝ }
+    ensures { λ r. ⌜ ((bound : ℕ) (us : List Transition) → Waiting bound (now (waiting .entry)) (now (rows .entry)) stamp end us
+        → Waiting bound (now (waiting .exit)) (now (rows .exit)) stamp (end + 1)
         (record { from = toOf edge; low = lowOf edge; high = highOf edge; to = from } ∷ us)) ⌝ }
 {
     let to = words::state(words::spot(edge)) as usize;
@@ -41,7 +41,7 @@ pub fn wait(waiting: &mut [u64], rows: &mut [u32], stamp: u8, end: usize, edge: 
 pub fn sweep_chain(
     table: &[u64],
     head: usize,
-    from: u8,
+    from: u16,
     good: &[u8],
     stamp: u8,
     waiting: &mut [u64],
@@ -50,10 +50,11 @@ pub fn sweep_chain(
     set: &mut [bool; 256],
 ) -> Swept
     requires { ⌜ Passing (now table) head from (now good) stamp (now waiting) (now rows) end × (length (now set) ≡ 256) ⌝ }
-    ensures { λ r. ⌜ ((first : ℕ) (ts us : List Transition) (gs : List ℕ) → Chain (now (table .entry)) first head ts
-        → All (λ (t : Transition). t .from ≡ from) ts → Waiting (now (waiting .entry)) (now (rows .entry)) stamp end us
-        → ((x : ℕ) → x < stateCount → eqb (getD (now (good .entry)) x 0) stamp ≡ among x gs)
-        → Passes stamp gs ts us end (now (set .entry)) (now (waiting .exit)) (now (rows .exit)) (now (set .exit)) (r .leads) (r .end)) ⌝ }
+    ensures { λ r. ⌜ ((bound first : ℕ) (ts us : List Transition) (gs : List ℕ) → Chain (now (table .entry)) first head ts
+        → All (λ (t : Transition). t .from ≡ from) ts → Waiting bound (now (waiting .entry)) (now (rows .entry)) stamp end us
+        → ((x : ℕ) → eqb (getD (now (good .entry)) x 0) stamp ≡ among x gs)
+        → Passes bound stamp gs ts us end (now (set .entry)) (now (waiting .exit)) (now (rows .exit)) (now (set .exit))
+        (r .leads) (r .end)) ⌝ }
 {
     let mut h = head;
     let mut at = end;
@@ -85,10 +86,11 @@ fn gain(
     set: &mut [bool; 256],
 )
     requires { ⌜ CanGain s stamp (now good) (now queue) (now waiting) (now rows) (now set) ⌝ }
-    ensures { λ r. ⌜ ((m : Rule) (end : ℕ) (gs : List ℕ) (us : List Transition)
-        → Sweeping m stamp (now (good .entry)) (now (queue .entry)) (now (waiting .entry)) (now (rows .entry)) end (now (set .entry)) gs us
+    ensures { λ r. ⌜ ((bound : ℕ) (m : Rule) (end : ℕ) (gs : List ℕ) (us : List Transition)
+        → Sweeping bound m stamp (now (good .entry)) (now (queue .entry)) (now (waiting .entry)) (now (rows .entry)) end
+        (now (set .entry)) gs us
         → (said ≡ true → ends m s ≡ true)
-        → Gains m s said stamp (now (waiting .entry)) (now (rows .entry)) end gs us (now (set .entry))
+        → Gains bound m s said stamp (now (waiting .entry)) (now (rows .entry)) end gs us (now (set .entry))
         (now (good .exit)) (now (queue .exit)) (now (set .exit))) ⌝ }
 {
     if said {
@@ -113,17 +115,18 @@ pub fn sweep_state(
     set: &mut [bool; 256],
 ) -> usize
     requires { ⌜ Sweepable (now table) spot stamp (now good) (now queue) (now waiting) (now rows) end (now set) ⌝ }
-    ensures { λ r. ⌜ ((k : ℕ) (m : Rule) → Led (now (table .entry)) k m spot → (gs : List ℕ) (us : List Transition)
-        → Sweeping m stamp (now (good .entry)) (now (queue .entry)) (now (waiting .entry)) (now (rows .entry)) end (now (set .entry)) gs us
-        → Goes m spot stamp end gs us (now (set .entry)) (now (good .exit)) (now (queue .exit)) (now (waiting .exit)) (now (rows .exit)) r
-        (now (set .exit))) ⌝ }
+    ensures { λ r. ⌜ ((bound k : ℕ) (m : Rule) → Led bound (now (table .entry)) k m spot → (gs : List ℕ) (us : List Transition)
+        → Sweeping bound m stamp (now (good .entry)) (now (queue .entry)) (now (waiting .entry)) (now (rows .entry)) end
+        (now (set .entry)) gs us
+        → Goes bound m spot stamp end gs us (now (set .entry)) (now (good .exit)) (now (queue .exit)) (now (waiting .exit))
+        (now (rows .exit)) r (now (set .exit))) ⌝ }
 {
     let s = words::state(spot) as usize;
     gain(words::is_final(spot), s, waiting, rows, good, stamp, queue, set);
     let swept = sweep_chain(
         table,
         words::head(spot),
-        s as u8,
+        s as u16,
         good,
         stamp,
         waiting,
@@ -148,9 +151,11 @@ pub fn sweep(
     set: &mut [bool; 256],
 )
     requires { ⌜ Ready (now table) stamp (now spots) n (now good) (now queue) (now waiting) (now rows) (now set) ⌝ }
-    ensures { λ r. ⌜ Storage (stamp + 1) (now (good .exit)) (now (queue .exit)) (now (waiting .exit)) (now (rows .exit)) ⌝ }
-    ensures { λ r. ⌜ ((k : ℕ) (m : Rule) → Table (now (table .entry)) k m → (seen : List ℕ)
-        → Reaches (now (table .entry)) k m stamp seen (now (spots .entry)) n
+    ensures { λ r. ⌜ ((bound edges : ℕ)
+        → Storage bound edges stamp (now (good .entry)) (now (queue .entry)) (now (waiting .entry)) (now (rows .entry))
+        → Storage bound edges (stamp + 1) (now (good .exit)) (now (queue .exit)) (now (waiting .exit)) (now (rows .exit))) ⌝ }
+    ensures { λ r. ⌜ ((bound k : ℕ) (m : Rule) → Table (now (table .entry)) k m → (seen : List ℕ)
+        → Reaches bound (now (table .entry)) k m stamp seen (now (spots .entry)) n
         → (b : ℕ) → b < 256 → getD (now (set .exit)) b false ≡ used m b) ⌝ }
 {
     let mut end = automaton::EDGE_START;

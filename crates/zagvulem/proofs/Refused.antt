@@ -23,7 +23,7 @@ use Rattle.command.specs.declared.Decoded.{Decoded}
 use Rattle.command.specs.Commands.{byteAt, placed, operandsOf, decode, retired, commandAt}
 use Rattle.book.specs.Limits.{maxBytes, maxRules, maxTransitions, maxText, maxTokens}
 use Rattle.book.specs.Draft.{Draft, between, isSet, isUnset, stateOf, ruleOf, tagged, isEmpty}
-use Rattle.book.specs.Draft.{Verdict, goes, accepts, refuses, check, move, apply}
+use Rattle.book.specs.Draft.{Verdict, goes, accepts, refuses, check, noState, move, apply}
 use Rattle.reader.specs.Reading.{Reading, accepted, refused, goOn, takeIn, readFrom, readBy, readBook, readStrict, answer}
 use Rattle.reader.specs.Rules.{numbered, ruleAnswer, ruleReading, ruleOutcome}
 use Rattle.reader.proofs.Accepted.{accepted-valid}
@@ -116,16 +116,17 @@ module _ (d : Draft) (at len : ℕ) (room : Room d) (before : at < len) where
   move-fair : (from low high to : ℕ) → Fair len (move d at from low high to)
   unfolding move
   move-fair from low high to =
-      check-fair (leb maxTransitions (length d.transitions)) 5 _ refl here (λ e. check-fair (ltb high low) 6 _ refl here (λ e. room))
+      check-fair (leb maxTransitions (length d.transitions)) 5 _ refl here (λ e.
+      check-fair (ltb high low || (noState from || noState to)) 6 _ refl here (λ e. room))
 
   apply-fair : (c : Command) → (c ≡ Close → d.inside ≡ true) → Fair len (apply d c at len)
   unfolding apply
   apply-fair (RULE tag kind) i =
       check-fair (leb maxRules (length d.rules)) 5 _ refl here (λ few. check-fair (eqb tag 0 || ltb 1 kind) 6 _ refl here (λ e.
       check-fair (tagged tag d.rules) 7 _ refl here (λ e. omega (arith, leb-false maxRules (length d.rules) few))))
-  apply-fair (Start s) i = check-fair (isSet d.start) 8 _ refl here (λ e. room)
-  apply-fair (Error s) i = check-fair (isSet d.error) 8 _ refl here (λ e. room)
-  apply-fair (Final s) i = room
+  apply-fair (Start s) i = check-fair (noState s) 6 _ refl here (λ e. check-fair (isSet d.start) 8 _ refl here (λ e. room))
+  apply-fair (Error s) i = check-fair (noState s) 6 _ refl here (λ e. check-fair (isSet d.error) 8 _ refl here (λ e. room))
+  apply-fair (Final s) i = check-fair (noState s) 6 _ refl here (λ e. room)
   apply-fair (Step from byte to) i = move-fair from byte byte to
   apply-fair (Span from low high to) i = move-fair from low high to
   apply-fair Close i =
@@ -148,7 +149,7 @@ module _ (bytes : List ℕ) (at : ℕ) where
   close-inside : (code : ℕ) (inside : Bool) → placed code inside ≡ true → decode bytes at code ≡ Close → inside ≡ true
   unfolding placed decode
   close-inside code true p e = refl
-  close-inside code false p e = go (eqb code 1) refl (eqb code 8) refl (leb 2 code && leb code 7) p
+  close-inside code false p e = go (eqb code 1) refl (eqb code 8) refl (leb 2 code && leb code 12) p
     where
       go : (a : Bool) → eqb code 1 ≡ a → (b : Bool) → eqb code 8 ≡ b → (m : Bool) → if (a || b) true (if m false false) ≡ true
           → false ≡ true

@@ -6,7 +6,8 @@ use borrow.Author.Needs.{needs}
 use denote.Ref.{now}
 use Rattle.automaton.specs.Rule.{Rule}
 use Rattle.automaton.specs.Contracts.{Table}
-use Rattle.used_bytes.proofs.Gathering.{Covering, covering-end, covering-next, covering-room, covering-start}
+use Rattle.used_bytes.proofs.Gathering.{Covering, covering-next, covering-start, left-end, left-room}
+use Rattle.used_bytes.proofs.Marking.{together-end}
 use Rattle.used_bytes.proofs.cover.Statement.{statement}
 use Rattle.used_bytes.proofs.cover.Tie as tie
 
@@ -26,7 +27,7 @@ abbrev entry : Loop → tie.Start Inv-loop μ-loop
 entry c = c .before .before .before .before
 
 room : (c : tie.In-loop Inv-loop μ-loop) → c .before .loop .at - 1 < length (now (entry (c .before) .args .table))
-room c = let a = entry (c .before) .pre .0 in covering-room (c .before .loop .inv (a .rule) (a .table)) (c .loop-test .taken)
+room c = let a = entry (c .before) .pre .0 in left-room (c .before .loop .inv (a .rule) (a .table)) (c .loop-test .taken)
 
 sub-at : tie.Need-sub-at Inv-loop μ-loop
 sub-at c = omega arith
@@ -41,7 +42,7 @@ mark-range-requires : tie.Need-mark-range-requires Inv-loop μ-loop
 mark-range-requires c κs =
     let k = c .before .before .before .before .before in
     let a = entry k .pre .0 in
-    (omega (arith, c .high .ensures), k .loop .inv (a .rule) (a .table) .marked .size)
+    (omega (arith, c .high .ensures), k .loop .inv (a .rule) (a .table) .holds .size)
 
 loop-less : tie.Need-loop-less Inv-loop μ-loop
 loop-less c = omega (arith, c .before .before .before .before .before .loop-test .taken)
@@ -53,7 +54,7 @@ loop-again c = λ m t.
     (c .mark-range .ensures)
 
 returns : tie.Need-returns Inv-loop μ-loop
-returns c = λ m t. covering-end (c .before .loop .inv m t) (omega (arith, c .loop-test .left))
+returns c = λ m t. together-end (left-end (c .before .loop .inv m t) (omega (arith, c .loop-test .left)))
 
 pub cover-spec : {M : Type 1} → statement M
 cover-spec =

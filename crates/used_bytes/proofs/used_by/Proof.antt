@@ -10,14 +10,15 @@ sweep-requires c κs =
     let a = c .before .before .before .before .before .before .before .before .before .before .before .before .before .before .before
         .before .before .before .before .before .before .pre in
     record {
+      bound = a .0;
+      edges = a .1;
       number = _;
-      rule = a .0 .rule;
-      table = a .0 .table;
+      fitted = a .2;
       seen = _;
-      reaches = c .before .before .before .before .before .before .before .before .before .before .before .reach .ensures (a .0 .rule)
-          (a .0 .table);
-      storage = a .1 .storage;
-      stamp-below = omega (arith, a .0 .table .number);
+      reaches = c .before .before .before .before .before .before .before .before .before .before .before .reach .ensures (a .0)
+          (a .3 .unseen) (a .2 .rule) (a .2 .table);
+      storage = a .3 .storage;
+      stamp-below = omega (arith, a .2 .table .number);
       size = search needs;
       clear = c .before .before .before .before .before .before .empty .ensures;
     }
@@ -25,11 +26,12 @@ sweep-requires c κs =
 returns : tie.Need-returns
 returns c =
     let a = c .before .before .before .before .before .before .before .before .before .before .before .before .before .before .before
-        .before .before .before .before .before .before .before .before .before .before .before .before .before .before .before .pre .0 in
+        .before .before .before .before .before .before .before .before .before .before .before .before .before .before .before .pre in
     let d = c .before .before .before .before .before .before .before .before .sweep in
     let k = c .before .before .before .before .before .before .before .before .before .before .before .before .before .before .before
         .before .before .before .before .before .reach in
-    (reaches-room _ (k .ensures (a .rule) (a .table)) (d .ensures .0), λ m t. d .ensures .1 _ m t _ (k .ensures m t))
+    (λ bound edges o. reaches-room _ (k .ensures bound (o .unseen) (a .2 .rule) (a .2 .table)) (d .ensures .0 bound edges (o .storage)),
+    λ m t. d .ensures .1 (a .0) _ m t _ (k .ensures (a .0) (a .3 .unseen) m t))
 
 pub used-by-spec : {M : Type 1} → statement M
 used-by-spec =

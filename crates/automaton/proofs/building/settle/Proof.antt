@@ -19,7 +19,6 @@ settle-one-requires c κs =
     let k = c .before .before .before .before .before in
     let w = c .before .before .loop .inv in (
       omega (arith, c .before .loop-test .taken, k .pre .0 .1, w .settles .same-length),
-      k .pre .0 .2,
       rw (settling-here w) (k .pre .1 (c .before .before .loop .i) (w .from) (c .before .loop-test .taken)),
     )
 

@@ -10,7 +10,7 @@ edge-requires c κs =
     let k′ = c .before .before .before .before in
     let k₁ = k′ .before .before .before .before .before in
     let k = cell-small (k₁ .args .rows .now) (k₁ .args .stamp) (k′ .state .result) in
-    let l : k′ .state .result < 256 = omega (arith, k′ .state .ensures, k′ .before .spot .ensures, k₁ .pre .2) in
+    let l : k′ .state .result < 4096 = omega (arith, k′ .state .ensures, k′ .before .spot .ensures, k₁ .pre .1) in
     (omega (arith, c .before .next .ensures), omega (arith, c .spot-of .ensures))
 
 returns : tie.Need-returns

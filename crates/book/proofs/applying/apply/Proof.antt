@@ -11,7 +11,7 @@ open-rule-requires c κs = outside-held (c .before .before .before .before .befo
 add-final-requires : tie.Need-add-final-requires
 add-final-requires c κs =
     let k = c .before .before .before .before .before .before in
-    let r = inside-room (k .pre .0) (k .pre .1 .0) (c .before .before .command4 .given .1) refl in (r .few, r .cells)
+    let r = inside-room (k .pre .0) (k .pre .1 .0) (c .before .before .command4 .given .1) refl in r .few
 
 add-transition-requires : tie.Need-add-transition-requires
 add-transition-requires c κs =
@@ -42,7 +42,7 @@ returns-3 c = rw (c .before .before .command3 .given .1) (λ d h i. c .set-error
 returns-4 : tie.Need-returns-4
 returns-4 c =
     let k = c .before .before .before .before .before in
-    rw (k .command4 .given .1) (λ d h i. c .before .before .add-final .ensures _ _ _ d h i)
+    rw (k .command4 .given .1) (λ d h i. c .before .before .add-final .ensures _ _ d h i)
 
 returns-5 : tie.Need-returns-5
 unfolding apply

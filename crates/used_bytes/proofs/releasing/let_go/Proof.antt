@@ -6,12 +6,12 @@ use Rattle.used_bytes.proofs.releasing.let_go.Tie as tie
 mark-chain-requires : tie.Need-mark-chain-requires
 mark-chain-requires c κs =
     let a = c .before .before .before .before .pre in
-    (record { first = a .0 .first; transitions = a .0 .transitions; chain = a .0 .chain }, a .2)
+    (record { first = a .1 .first; transitions = a .1 .transitions; chain = a .1 .chain }, a .3)
 
 returns : tie.Need-returns
-returns c = λ base w first ts k.
+returns c = λ bound base w first ts k.
     let n = c .before .before .before .before in
-    record { follows = n .note-chain .ensures base w first ts k; marks = n .before .before .before .mark-chain .ensures first ts k }
+    record { follows = n .note-chain .ensures bound base w first ts k; marks = n .before .before .before .mark-chain .ensures first ts k }
 
 pub let-go-spec : {M : Type 1} → statement M
 let-go-spec =

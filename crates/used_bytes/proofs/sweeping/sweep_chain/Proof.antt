@@ -1,14 +1,14 @@
 -- `sweep_chain`: the invariant is `Going`. Assumes nothing.
 use mathlib.Core.Path.{_≡_, refl, sym, ap, _∙_}
 use mathlib.Core.List.{List}
-use Prim.Native.Nat.{ℕ, _<_}
+use Prim.Native.Nat.{ℕ}
 use native.Mathlib.Omega.{arith}
 use lib.Dec.{eqb}
 use lib.ListN.{length, getD}
 use borrow.Author.Needs.{needs}
 use denote.Ref.{now}
 use Rattle.automaton.specs.Choice.{All, among}
-use Rattle.automaton.specs.Rule.{Transition, stateCount}
+use Rattle.automaton.specs.Rule.{Transition}
 use Rattle.automaton.specs.Contracts.{stateOf, Chain}
 use Rattle.used_bytes.specs.Contracts.{Waiting}
 use Rattle.used_bytes.proofs.Queues.{Standing}
@@ -19,19 +19,20 @@ use Rattle.used_bytes.proofs.sweeping.sweep_chain.Tie as tie
 
 abbrev Inv-loop : tie.InvT-loop
 Inv-loop table head from good stamp waiting₀ rows₀ end set₀ h₀ at₀ leads₀ waiting rows set h at leads =
-    (length waiting ≡ length waiting₀) × ((first : ℕ) (ts us : List Transition) (gs : List ℕ) → Chain table first head ts
-    → All (λ (t : Transition). t.from ≡ from) ts → Waiting waiting₀ rows₀ stamp end us
-    → ((x : ℕ) → x < stateCount → eqb (getD good x 0) stamp ≡ among x gs)
-    → Going table first from stamp gs ts us end set₀ waiting rows set h at leads)
+    (length waiting ≡ length waiting₀) × ((bound first : ℕ) (ts us : List Transition) (gs : List ℕ) → Chain table first head ts
+    → All (λ (t : Transition). t.from ≡ from) ts → Waiting bound waiting₀ rows₀ stamp end us
+    → ((x : ℕ) → eqb (getD good x 0) stamp ≡ among x gs)
+    → Going bound table first from stamp gs ts us end set₀ waiting rows set h at leads)
 
 abbrev μ-loop : tie.MeasureT-loop
 μ-loop table head from good stamp waiting₀ rows₀ end set₀ h₀ at₀ leads₀ waiting rows set h at leads = h
 
 loop-holds : tie.Need-loop-holds Inv-loop μ-loop
-loop-holds c = (refl, λ first ts us gs k f w e. going-start k f w (c .before .before .before .before .pre .1) refl)
+loop-holds c = (refl, λ bound first ts us gs k f w e. going-start k f w (c .before .before .before .before .pre .1) refl)
 
 -- the walk along the chain that is known to be there
-known : (c : tie.In-loop Inv-loop μ-loop) → Going (now (c .before .before .before .before .before .before .args .table))
+known : (c : tie.In-loop Inv-loop μ-loop) → Going (c .before .before .before .before .before .before .pre .0 .bound)
+    (now (c .before .before .before .before .before .before .args .table))
     (c .before .before .before .before .before .before .pre .0 .leading .first)
     (c .before .before .before .before .before .before .args .from)
     (c .before .before .before .before .before .before .args .stamp) (c .before .before .before .before .before .before .pre .0 .states)
@@ -42,11 +43,11 @@ known : (c : tie.In-loop Inv-loop μ-loop) → Going (now (c .before .before .be
     (c .before .loop .h) (c .before .loop .at) (c .before .loop .leads)
 known c =
     let a = c .before .before .before .before .before .before .pre .0 in
-    c .before .loop .inv .1 (a .leading .first) (a .leading .transitions) (a .transitions) (a .states) (a .leading .chain) (a .froms)
-    (a .waiting) (a .same)
+    c .before .loop .inv .1 (a .bound) (a .leading .first) (a .leading .transitions) (a .transitions) (a .states) (a .leading .chain)
+    (a .froms) (a .waiting) (a .same)
 
-here : (c : tie.In-loop Inv-loop μ-loop) → Standing (now (c .before .before .before .before .before .before .args .table))
-    (c .before .loop .h)
+here : (c : tie.In-loop Inv-loop μ-loop) → Standing (c .before .before .before .before .before .before .pre .0 .bound)
+    (now (c .before .before .before .before .before .before .args .table)) (c .before .loop .h)
 here c = going-here (known c) (omega arith) (c .before .before .before .before .before .before .pre .0 .leading .below)
 
 mul-e : tie.Need-mul-e Inv-loop μ-loop
@@ -73,10 +74,10 @@ loop-again : tie.Need-loop-again Inv-loop μ-loop
 loop-again c =
     let x = c .before .before .before .before .before .before .before .before .before .before in
     let k = c .before .before .before .before in
-    (x .before .loop .inv .0, λ first ts us gs q f w e.
-    going-good (x .before .loop .inv .1 first ts us gs q f w e) (omega arith) (k .before .before .before .before .next .ensures)
+    (x .before .loop .inv .0, λ bound first ts us gs q f w e.
+    going-good (x .before .loop .inv .1 bound first ts us gs q f w e) (omega arith) (k .before .before .before .before .next .ensures)
     (good-in (now (x .before .before .before .before .before .before .args .good)) gs e (k .before .before .state .ensures ∙ ap stateOf
-        (k .before .before .before .spot .ensures)) (here x .to) (k .if1 .taken)) (c .mark-range .ensures .size)
+        (k .before .before .before .spot .ensures)) (k .if1 .taken)) (c .mark-range .ensures .size)
     (λ b. rw (← (c .before .before .before .low .ensures), ← (c .before .high .ensures)) (c .mark-range .ensures .marks b)))
 
 wait-requires : tie.Need-wait-requires Inv-loop μ-loop
@@ -84,7 +85,8 @@ wait-requires c κs =
     let x = c .before .before .before .before .before .before .before .before in
     let a = x .before .before .before .before .before .before .pre .0 in
     let r = going-room (known x) (omega arith) in
-    (waiting-waits (known x .waiting), omega (arith, a .room, x .before .loop .inv .0), omega (arith, a .short), a .stamp-below, here x .to)
+    (a .bound, waiting-waits (known x .waiting), omega (arith, a .room, x .before .loop .inv .0), omega (arith, a .short),
+    a .stamp-below, here x .to, a .from-below)
 
 add-at : tie.Need-add-at Inv-loop μ-loop
 add-at c = let x = c .before .before .before .before .before .before .before .before .before .before .before .before .before in omega
@@ -98,10 +100,10 @@ loop-again-2 : tie.Need-loop-again-2 Inv-loop μ-loop
 loop-again-2 c =
     let x = c .before .before .before .before .before .before .before .before .before .before .before .before .before in
     let k = c .before .before .before .before .before .before .before in
-    (c .before .before .before .before .wait .kept .0 ∙ x .before .loop .inv .0, λ first ts us gs q f w e.
-    going-wait (x .before .loop .inv .1 first ts us gs q f w e) (omega arith) (k .before .before .before .before .next .ensures)
+    (c .before .before .before .before .wait .kept .0 ∙ x .before .loop .inv .0, λ bound first ts us gs q f w e.
+    going-wait (x .before .loop .inv .1 bound first ts us gs q f w e) (omega arith) (k .before .before .before .before .next .ensures)
     (good-out (now (x .before .before .before .before .before .before .args .good)) gs e (k .before .before .state .ensures ∙ ap stateOf
-        (k .before .before .before .spot .ensures)) (here x .to) (k .if1 .left)) (c .before .before .before .before .wait .ensures))
+        (k .before .before .before .spot .ensures)) (k .if1 .left)) (c .before .before .before .before .wait .ensures bound))
 
 same-length : tie.Need-same-length Inv-loop μ-loop
 same-length c = c .before .loop .inv .0
@@ -109,11 +111,11 @@ same-length c = c .before .loop .inv .0
 same-length-2 : tie.Need-same-length-2 Inv-loop μ-loop
 same-length-2 c =
     let a = c .before .before .before .before .before .before .pre .0 in
-    c .before .loop .inv .1 (a .leading .first) (a .leading .transitions) (a .transitions) (a .states) (a .leading .chain) (a .froms)
-    (a .waiting) (a .same) .waiting .built .cells ∙ sym (a .waiting .built .cells)
+    c .before .loop .inv .1 (a .bound) (a .leading .first) (a .leading .transitions) (a .transitions) (a .states) (a .leading .chain)
+    (a .froms) (a .waiting) (a .same) .waiting .cells ∙ sym (a .waiting .cells)
 
 returns : tie.Need-returns Inv-loop μ-loop
-returns c = λ first ts us gs q f w e. going-end (c .before .loop .inv .1 first ts us gs q f w e) (c .loop-test .left)
+returns c = λ bound first ts us gs q f w e. going-end (c .before .loop .inv .1 bound first ts us gs q f w e) (c .loop-test .left)
 
 pub sweep-chain-spec : {M : Type 1} → statement M
 sweep-chain-spec =

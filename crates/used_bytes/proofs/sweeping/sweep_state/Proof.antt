@@ -32,24 +32,24 @@ abbrev s : Before → ℕ
 s c = c .before .before .before .before .before .before .before .before .before .before .before .before .before .before .before .before
     .state .result
 
-abbrev Known : Before → Rule → List ℕ → List Transition → Type 0
-Known c m gs us = Sweeping m (entry c .args .stamp) (now (entry c .args .good)) (now (entry c .args .queue)) (now (entry c .args .waiting))
-    (now (entry c .args .rows)) (entry c .args .end) (now (entry c .args .set)) gs us
+abbrev Known : Before → ℕ → Rule → List ℕ → List Transition → Type 0
+Known c bound m gs us = Sweeping bound m (entry c .args .stamp) (now (entry c .args .good)) (now (entry c .args .queue))
+    (now (entry c .args .waiting)) (now (entry c .args .rows)) (entry c .args .end) (now (entry c .args .set)) gs us
 
-module _ (c : Before) {k : ℕ} {m : Rule} (l : Led (now (entry c .args .table)) k m (entry c .args .spot))
+module _ (c : Before) {bound k : ℕ} {m : Rule} (l : Led bound (now (entry c .args .table)) k m (entry c .args .spot))
     {gs : List ℕ} {us : List Transition}
-    (w : Known c m gs us) where
+    (w : Known c bound m gs us) where
   final : c .before .before .before .before .before .before .before .before .before .before .before .before .before .before .before
       .is-final .result ≡ among (stateOf (entry c .args .spot)) (m .finals)
   final = c .before .before .before .before .before .before .before .before .before .before .before .before .before .before .before
       .is-final .ensures ∙ l .spot .final
 
-  gained : Gains m (s c) (c .before .before .before .before .before .before .before .before .before .before .before .before .before .before
-      .before .is-final .result) (entry c .args .stamp) (now (entry c .args .waiting)) (now (entry c .args .rows))
+  gained : Gains bound m (s c) (c .before .before .before .before .before .before .before .before .before .before .before .before .before
+      .before .before .is-final .result) (entry c .args .stamp) (now (entry c .args .waiting)) (now (entry c .args .rows))
       (entry c .args .end) gs us (now (entry c .args .set)) (gone c .gain .last .1 .1 .1 .1 .0)
           (gone c .gain .last .1 .1 .1 .1 .1 .1 .0)
       (gone c .gain .last .1 .1 .1 .1 .1 .1 .1 .0)
-  gained = gone c .gain .ensures m (entry c .args .end) gs us w
+  gained = gone c .gain .ensures bound m (entry c .args .end) gs us w
       (final-ends (entry c .args .spot) w (l .led) final
           (c .before .before .before .before .before .before .before .before .before .before .before .before .before .before .before .before
           .state .ensures))
@@ -60,22 +60,23 @@ sweep-chain-requires c κs =
     let g = gained c (a .led) (a .sweeping) in
     (led-passing (a .led) (c .before .before .before .before .head .ensures)
         (c .before .before .before .before .before .before .before .before .before .before .before .before .before .before .before .before
-        .state .ensures) (g .sweeping) (a .room) (a .short) (a .stamp-below),
+        .state .ensures) (a .tos) (g .sweeping) (a .room) (a .short) (a .stamp-below),
     g .sweeping .size)
 
-module _ (d : tie.After-sweep-chain) {k : ℕ} {m : Rule} (l : Led (now (entry (d .before) .args .table)) k m (entry (d .before) .args .spot))
-    {gs : List ℕ} {us : List Transition} (w : Known (d .before) m gs us) where
+module _ (d : tie.After-sweep-chain) {bound k : ℕ} {m : Rule}
+    (l : Led bound (now (entry (d .before) .args .table)) k m (entry (d .before) .args .spot)) {gs : List ℕ} {us : List Transition}
+    (w : Known (d .before) bound m gs us) where
   abbrev c : Before
   c = d .before
 
-  passed : Passes (entry c .args .stamp) (gained c l w .states) (leaving (stateOf (entry c .args .spot)) (m .transitions)) us
+  passed : Passes bound (entry c .args .stamp) (gained c l w .states) (leaving (stateOf (entry c .args .spot)) (m .transitions)) us
       (entry c .args .end) (gone c .gain .last .1 .1 .1 .1 .1 .1 .1 .0) (d .sweep-chain .last .1 .1 .1 .1 .1 .0)
       (d .sweep-chain .last .1 .1 .1 .1 .1 .1 .0) (d .sweep-chain .last .1 .1 .1 .1 .1 .1 .1 .1 .0) (d .sweep-chain .result .leads)
       (d .sweep-chain .result .end)
   passed =
       let g = gained c l w in
-      d .sweep-chain .ensures (firstOf (bodyAt (now (entry c .args .table)) k)) (leaving (stateOf (entry c .args .spot)) (m .transitions))
-          us
+      d .sweep-chain .ensures bound (firstOf (bodyAt (now (entry c .args .table)) k))
+      (leaving (stateOf (entry c .args .spot)) (m .transitions)) us
       (g .states) (led-chain l (c .before .before .before .before .head .ensures)) (led-froms l
           (c .before .before .before .before .before .before .before .before .before .before .before .before .before .before .before .before
           .state .ensures)) (g .sweeping .waiting)
@@ -92,7 +93,7 @@ gain-requires-2 c κs =
         .before .state .ensures) (gained (d .before) (a .led) (a .sweeping)) (passed d (a .led) (a .sweeping)))
 
 returns : tie.Need-returns
-returns c = λ k m l gs us w.
+returns c = λ bound k m l gs us w.
     let d = c .before .before .before .before .before .before .before .before .before .before .before .before .before .before in
     let p = entry (d .before) .args .spot in
     let f = final (d .before) l w in
@@ -100,7 +101,7 @@ returns c = λ k m l gs us w.
         .before .before .state .ensures in
     let g = gained (d .before) l w in
     let q = passed d l w in
-    goes p w (l .led) f e g q (c .before .before .before .before .gain2 .ensures m _ (g .states) _ (passed-sweeping p w (l .led)
+    goes p w (l .led) f e g q (c .before .before .before .before .gain2 .ensures bound m _ (g .states) _ (passed-sweeping p w (l .led)
         f e g q)
         (some-ends p w (l .led) f e g q))
 
