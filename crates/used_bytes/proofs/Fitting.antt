@@ -10,6 +10,7 @@ use borrow.Author.Tests.{eqb-true, eqb-false}
 use Rattle.automaton.specs.Choice.{All}
 use Rattle.automaton.specs.Rule.{Transition, Rule, Ranged, stateCount}
 use Rattle.automaton.specs.Contracts.{edgeRoom, toOf, countAt, edgeAt, bodyAt, firstOf, endOf, Listed, Table, ruleAt, Holds, Held}
+use Rattle.automaton.proofs.Built.{listed-length}
 use Rattle.automaton.proofs.Tests.{clash, all-map}
 use Rattle.used_bytes.specs.Contracts.{lowestOf, Fits, Fitting, Looks, narrowStates, narrowEdges}
 use Rattle.used_bytes.specs.Bytes.{sharedByte}
@@ -33,10 +34,6 @@ fitting-wide h =
     }
 
 -- ---- the loop of `is_narrow`
-
-listed-length : (tb : List ℕ) (first end : ℕ) (ts : List Transition) → Listed tb first end ts → end ≡ first + length ts
-listed-length tb first end [] e = omega arith
-listed-length tb first end (t ∷ ts) (l, e, c) = let i = listed-length tb first (end - 1) ts c in omega arith
 
 -- where those left lead to states below `bound`, all do
 abbrev pub Looking : ℕ → List ℕ → ℕ → List Transition → ℕ → Type 0

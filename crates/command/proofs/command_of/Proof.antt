@@ -27,34 +27,27 @@ pub command-of-spec : {M : Type 1} → statement M
 unfolding operandsOf decode
 command-of-spec =
     tie.close (tie.spec
-    (λ c. search needs) (λ c κs. let h = ap operandsOf (c .match .keys1) in omega (arith, c .before .before .pre))
-    (λ c. search needs) (λ c. let h = ap operandsOf (c .before .before .match .keys1) in
-        omega (arith, c .before .before .before .before .pre))
-    (λ c. search needs) (λ c κs. let h = ap operandsOf (c .match .keys2) in omega (arith, c .before .before .pre))
-    (λ c. search needs) (λ c κs. let h = ap operandsOf (c .match .keys3) in omega (arith, c .before .before .pre))
-    (λ c. search needs) (λ c κs. let h = ap operandsOf (c .match .keys4) in omega (arith, c .before .before .pre))
-    (λ c. search needs) (λ c κs. let h = ap operandsOf (c .match .keys5) in omega (arith, c .before .before .pre))
-    (λ c. search needs) (λ c. let h = ap operandsOf (c .before .before .match .keys5) in
-        omega (arith, c .before .before .before .before .pre))
-    (λ c. search needs) (λ c κs. let h = ap operandsOf (c .before .before .match .keys5) in
-        omega (arith, c .before .before .before .before .pre))
-    (λ c. search needs) (λ c κs. let h = ap operandsOf (c .match .keys6) in omega (arith, c .before .before .pre))
-    (λ c. search needs) (λ c. let h = ap operandsOf (c .before .before .match .keys6) in
-        omega (arith, c .before .before .before .before .pre))
-    (λ c. search needs) (λ c. let h = ap operandsOf (c .before .before .before .match .keys6) in
-        omega (arith, c .before .before .before .before .before .pre))
-    (λ c. search needs) (λ c κs. let h = ap operandsOf (c .before .before .before .match .keys6) in
-        omega (arith, c .before .before .before .before .before .pre))
-    (λ c. search needs) (λ c κs. let h = ap operandsOf (c .match .keys8) in omega (arith, c .before .before .pre))
-    (λ c. search needs) (λ c κs. let h = ap operandsOf (c .match .keys9) in omega (arith, c .before .before .pre))
-    (λ c. search needs) (λ c κs. let h = ap operandsOf (c .match .keys10) in omega (arith, c .before .before .pre))
-    (λ c. search needs) (λ c κs. let h = ap operandsOf (c .match .keys11) in omega (arith, c .before .before .pre))
-    (λ c. search needs) (λ c. let h = ap operandsOf (c .before .before .match .keys11) in
-        omega (arith, c .before .before .before .before .pre))
-    (λ c. search needs) (λ c. let h = ap operandsOf (c .before .before .before .match .keys11) in
-        omega (arith, c .before .before .before .before .before .pre))
-    (λ c. search needs) (λ c κs. let h = ap operandsOf (c .before .before .before .match .keys11) in
-        omega (arith, c .before .before .before .before .before .pre))
+    (λ c. search needs) (λ c κs. omega (arith, ap operandsOf (c .match .keys1), c .before .before .pre))
+    (λ c. search needs) (λ c. let k = c .before .before in omega (arith, ap operandsOf (k .match .keys1), k .before .before .pre))
+    (λ c. search needs) (λ c κs. omega (arith, ap operandsOf (c .match .keys2), c .before .before .pre))
+    (λ c. search needs) (λ c κs. omega (arith, ap operandsOf (c .match .keys3), c .before .before .pre))
+    (λ c. search needs) (λ c κs. omega (arith, ap operandsOf (c .match .keys4), c .before .before .pre))
+    (λ c. search needs) (λ c κs. omega (arith, ap operandsOf (c .match .keys5), c .before .before .pre))
+    (λ c. search needs) (λ c. let k = c .before .before in omega (arith, ap operandsOf (k .match .keys5), k .before .before .pre))
+    (λ c. search needs) (λ c κs. let k = c .before .before in omega (arith, ap operandsOf (k .match .keys5), k .before .before .pre))
+    (λ c. search needs) (λ c κs. omega (arith, ap operandsOf (c .match .keys6), c .before .before .pre))
+    (λ c. search needs) (λ c. let k = c .before .before in omega (arith, ap operandsOf (k .match .keys6), k .before .before .pre))
+    (λ c. search needs) (λ c. let k = c .before .before .before in omega (arith, ap operandsOf (k .match .keys6), k .before .before .pre))
+    (λ c. search needs) (λ c κs. let k = c .before .before .before in
+        omega (arith, ap operandsOf (k .match .keys6), k .before .before .pre))
+    (λ c. search needs) (λ c κs. omega (arith, ap operandsOf (c .match .keys8), c .before .before .pre))
+    (λ c. search needs) (λ c κs. omega (arith, ap operandsOf (c .match .keys9), c .before .before .pre))
+    (λ c. search needs) (λ c κs. omega (arith, ap operandsOf (c .match .keys10), c .before .before .pre))
+    (λ c. search needs) (λ c κs. omega (arith, ap operandsOf (c .match .keys11), c .before .before .pre))
+    (λ c. search needs) (λ c. let k = c .before .before in omega (arith, ap operandsOf (k .match .keys11), k .before .before .pre))
+    (λ c. search needs) (λ c. let k = c .before .before .before in omega (arith, ap operandsOf (k .match .keys11), k .before .before .pre))
+    (λ c. search needs) (λ c κs. let k = c .before .before .before in
+        omega (arith, ap operandsOf (k .match .keys11), k .before .before .pre))
     (λ c. rw (c .before .before .match .keys1, c .before .read-two .ensures))
     (λ c. rw (c .before .match .keys2, c .state .ensures))
     (λ c. rw (c .before .match .keys3, c .state2 .ensures))

@@ -4,8 +4,9 @@ use native.Mathlib.Omega.{arith}
 use lib.ListN.{length}
 use borrow.Author.Needs.{needs}
 use denote.Ref.{now}
+use Rattle.command.specs.declared.Decoded.{Decoded}
 use Rattle.reader.specs.Contracts.{Going}
-use Rattle.reader.proofs.Loading.{going-stops, going-takes, loaded-refused}
+use Rattle.reader.proofs.Loading.{Taking, going-stops, going-takes, loaded-refused}
 use Rattle.reader.proofs.Loading.{Here, commanded, edges-left, room-left, taken-in}
 use Rattle.reader.proofs.read_on.Statement.{statement}
 use Rattle.reader.proofs.read_on.Tie as tie
@@ -23,6 +24,17 @@ Loop = tie.At-loop Inv-loop μ-loop
 
 abbrev entry : Loop → tie.Start Inv-loop μ-loop
 entry c = c .before .before .before .before
+
+-- the place where a byte was decoded, and the loop's place before it
+abbrev Decoding : Type 0
+Decoding = tie.After-command Inv-loop μ-loop
+
+abbrev begun : Decoding → Loop
+begun k = k .before .before .before
+
+seen : (k : Decoding) (d : Decoded) → k .command .result ≡ d
+    → Taking (entry (begun k) .args .strict) (now (entry (begun k) .args .book)) (begun k .loop .cursor .at) (begun k .loop .inv .0 .draft) d
+seen k d e = going-takes (begun k .loop .inv .0) (k .before .if1 .taken) d (sym e ∙ k .command .ensures)
 
 -- the place where a command was found, and the loop's place before it
 abbrev Told : Type 0
@@ -92,23 +104,14 @@ pub read-on-spec : {M : Type 1} → statement M
 read-on-spec =
     tie.close (tie.spec Inv-loop μ-loop loop-holds
     command-requires (λ c. search needs) (λ c κs. search needs)
-    (λ c. c .before .before .before .before .before .before .loop .inv .1)
-    (λ c. c .before .before .before .before .before .before .loop .inv .2)
-    (λ c. let k = c .before .before .before in
-        loaded-refused (going-takes (k .before .before .before .loop .inv .0) (k .before .if1 .taken) _
-        (sym (c .before .enum-told .given .1) ∙ k .command .ensures) .same) (c .refused .ensures))
+    (λ c. begun (c .before .before .before) .loop .inv .1) (λ c. begun (c .before .before .before) .loop .inv .2)
+    (λ c. loaded-refused (seen (c .before .before .before) _ (c .before .enum-told .given .1) .same) (c .refused .ensures))
     (λ c. search needs) (λ c κs. search needs)
-    (λ c. c .before .before .before .before .before .before .loop .inv .1)
-    (λ c. c .before .before .before .before .before .before .loop .inv .2)
-    (λ c. let k = c .before .before .before in
-        loaded-refused (going-takes (k .before .before .before .loop .inv .0) (k .before .if1 .taken) _
-        (sym (c .before .enum-told2 .given .1) ∙ k .command .ensures) .same) (c .refused2 .ensures))
+    (λ c. begun (c .before .before .before) .loop .inv .1) (λ c. begun (c .before .before .before) .loop .inv .2)
+    (λ c. loaded-refused (seen (c .before .before .before) _ (c .before .enum-told2 .given .1) .same) (c .refused2 .ensures))
     (λ c. search needs) (λ c κs. search needs)
-    (λ c. c .before .before .before .before .before .before .loop .inv .1)
-    (λ c. c .before .before .before .before .before .before .loop .inv .2)
-    (λ c. let k = c .before .before .before in
-        loaded-refused (going-takes (k .before .before .before .loop .inv .0) (k .before .if1 .taken) _
-        (sym (c .before .enum-told3 .given .1) ∙ k .command .ensures) .same) (c .refused3 .ensures))
+    (λ c. begun (c .before .before .before) .loop .inv .1) (λ c. begun (c .before .before .before) .loop .inv .2)
+    (λ c. loaded-refused (seen (c .before .before .before) _ (c .before .enum-told3 .given .1) .same) (c .refused3 .ensures))
     (λ c. search needs) apply-requires (λ c. search needs) loop-less loop-again (λ c. search needs)
     (λ c. same-table (c .before .before .before)) (λ c. same-cells (c .before .before .before))
     (λ c. let k = c .before .before .before in
