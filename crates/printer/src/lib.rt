@@ -3,7 +3,7 @@
 // the rules that a lent table holds, `rehearsal` reads a list back before it is printed, `sizes` has tables for books of every length.
 pub mod by_rules;
 pub mod rehearsal;
-pub mod sizes;
+mod sizes;
 
 use answer::BookAnswer;
 use answer::PrintAnswer;

@@ -2,7 +2,7 @@
 // a scratch of the call's own, so that the output stands as it was where the list is refused. `checks` has what is refused before that,
 // `sizes` tables for books of every length.
 pub mod checks;
-pub mod sizes;
+mod sizes;
 
 use answer::BookAnswer;
 use answer::PrintAnswer;
