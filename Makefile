@@ -8,7 +8,8 @@
 #   make test          tries what README.md, the header, the documents and the examples say
 #   make check         the gate, .ci/run: proves every crate from nothing, then all of the above
 #   make bench         measures the library beside flex and re2c, which it needs (INSTALL=1 installs them by apt-get,
-#                      NO_FLEX=1 and NO_RE2C=1 leave them out; OLD=FILE measures an earlier library too)
+#                      NO_FLEX=1 and NO_RE2C=1 leave them out; OLD=FILE measures an earlier library too, one whose cuts
+#                      have no masks; with OLD_MASKS=1 one whose cuts have them)
 #   make layouts       measures an earlier library (OLD=FILE) beside this one in 16 programs that differ in where the two lie
 #   make install       header, library, pkg-config file, cutlist, documents and examples below PREFIX (/usr/local; DESTDIR)
 #   make uninstall     removes what make install put there

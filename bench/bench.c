@@ -3,6 +3,8 @@
  *
  * Contenders of a table are measured in turns, several rounds; the best round of each counts. Ratios are times divided by
  * that of the table's first line. The output is a page of tables.
+ *
+ * The library stores a record and a mask of each token, the other lexers records alone.
  */
 #define _POSIX_C_SOURCE 199309L
 
@@ -22,6 +24,7 @@ enum { ROUNDS = 80, SHEET = 65536, LINE = 30, LINES = 512, MAX_CONTENDERS = 128 
 static uint8_t *sheet;      /* a timed lyric sheet, with two zero bytes behind it */
 static size_t sheet_len;
 static uint8_t *records;    /* room for a record of every byte */
+static uint8_t *masks;      /* and for a mask */
 static uint8_t *out;
 static uint8_t book[ZGV_BOOK_BYTES];
 static size_t book_len;
@@ -158,16 +161,17 @@ static void read_builtin(const char *name)
 /* ---- Lexing the sheet and the lines */
 
 #define ROOM (SHEET * ZGV_RECORD_BYTES)
+#define MASK_ROOM (SHEET * ZGV_MASK_BYTES)
 
-static void sheet_zgv(void) { sink = zgv_lex(book, book_len, sheet, sheet_len, records, ROOM); }
-static void sheet_builtin(void) { sink = zgv_lex_builtin(sheet, sheet_len, records, ROOM); }
+static void sheet_zgv(void) { sink = zgv_lex(book, book_len, sheet, sheet_len, records, ROOM, masks, MASK_ROOM); }
+static void sheet_builtin(void) { sink = zgv_lex_builtin(sheet, sheet_len, records, ROOM, masks, MASK_ROOM); }
 static void sheet_chains(void) { sink = chains_lex(book, book_len, sheet, sheet_len, records, ROOM); }
 static void sheet_dense(void) { sink = dense_lex(table, sheet, sheet_len, records); }
 
 /* Fewer records than bytes, though enough: the library counts before it stores. */
 #define FEWER (SHEET / 2 * ZGV_RECORD_BYTES)
-static void sheet_counted(void) { sink = zgv_lex(book, book_len, sheet, sheet_len, records, FEWER); }
-static void sheet_builtin_counted(void) { sink = zgv_lex_builtin(sheet, sheet_len, records, FEWER); }
+static void sheet_counted(void) { sink = zgv_lex(book, book_len, sheet, sheet_len, records, FEWER, masks, MASK_ROOM); }
+static void sheet_builtin_counted(void) { sink = zgv_lex_builtin(sheet, sheet_len, records, FEWER, masks, MASK_ROOM); }
 
 #define EACH_LINE(call)                   \
     do {                                  \
@@ -178,8 +182,8 @@ static void sheet_builtin_counted(void) { sink = zgv_lex_builtin(sheet, sheet_le
         }                                 \
     } while (0)
 
-static void lines_zgv(void) { EACH_LINE(zgv_lex(book, book_len, line, LINE, records, ROOM)); }
-static void lines_builtin(void) { EACH_LINE(zgv_lex_builtin(line, LINE, records, ROOM)); }
+static void lines_zgv(void) { EACH_LINE(zgv_lex(book, book_len, line, LINE, records, ROOM, masks, MASK_ROOM)); }
+static void lines_builtin(void) { EACH_LINE(zgv_lex_builtin(line, LINE, records, ROOM, masks, MASK_ROOM)); }
 static void lines_chains(void) { EACH_LINE(chains_lex(book, book_len, line, LINE, records, ROOM)); }
 static void lines_dense(void) { EACH_LINE(dense_lex(table, line, LINE, records)); }
 
@@ -192,18 +196,28 @@ static void sheet_re2c(void) { sink = re2c_lex((char *)sheet, sheet_len, records
 static void lines_re2c(void) { EACH_LINE(re2c_lex((char *)line, LINE, records)); }
 #endif
 
-/* All contenders must give the same records before any is timed. */
+/* Every mask of so many tokens of the sheet has the one rule that took the token: of the built-in book rule k has tag k + 1. */
+static int are_single(size_t tokens)
+{
+    size_t i;
+    for (i = 0; i < tokens && zgv_get_mask(masks, i) == (uint32_t)1 << (zgv_get_record(records, i).tag - 1); i++)
+        ;
+    return i == tokens;
+}
+
+/* All contenders must give the same records before any is timed, and those of the library the masks that they should. */
 static void check_same(void)
 {
     uint8_t *first = malloc(ROOM);
     uint64_t answer;
     size_t used;
-    void (*others[])(void) = {sheet_builtin, sheet_chains, sheet_dense, sheet_counted, sheet_builtin_counted,
+    enum { WITH_MASKS = 4 }; /* the first ones */
+    void (*all[])(void) = {sheet_zgv, sheet_builtin, sheet_counted, sheet_builtin_counted, sheet_chains, sheet_dense,
 #ifdef HAVE_FLEX
-                              sheet_flex,
+                           sheet_flex,
 #endif
 #ifdef HAVE_RE2C
-                              sheet_re2c,
+                           sheet_re2c,
 #endif
     };
     size_t i;
@@ -215,16 +229,22 @@ static void check_same(void)
     if (zgv_number(answer) != ZGV_ACCEPTED || zgv_second(answer) != sheet_len)
         fail("the sheet is not cut whole");
     memcpy(first, records, used);
-    for (i = 0; i < sizeof others / sizeof others[0]; i++) {
+    for (i = 0; i < sizeof all / sizeof all[0]; i++) {
         memset(records, 0, ROOM);
-        others[i]();
+        memset(masks, 0, MASK_ROOM);
+        all[i]();
         if (sink != answer || memcmp(first, records, used) != 0)
             fail("two lexers give different records");
+        if (i < WITH_MASKS && !are_single(zgv_first(answer)))
+            fail("a mask of the sheet is not that of its rule");
     }
     printf("The sheet: %lu bytes, %lu tokens. A line: %d bytes.\n", (unsigned long)sheet_len,
            (unsigned long)zgv_first(answer), LINE);
     free(first);
 }
+
+/* Said wherever other lexers are compared. */
+#define NO_MASKS "The library stores a mask of each token beside its record; all others store records alone."
 
 static void bench_lexers(void)
 {
@@ -259,8 +279,8 @@ static void bench_lexers(void)
         on_sheet[i].bytes = (double)sheet_len;
     for (i = 0; i < sizeof on_lines / sizeof on_lines[0]; i++)
         on_lines[i].bytes = (double)LINES * LINE;
-    print_table("### Lexing a sheet of 64 KB", on_sheet, sizeof on_sheet / sizeof on_sheet[0], 1);
-    print_table("### Lexing lines of 30 bytes, a call for each", on_lines, sizeof on_lines / sizeof on_lines[0], LINES);
+    print_table("### Lexing a sheet of 64 KB\n\n" NO_MASKS, on_sheet, sizeof on_sheet / sizeof on_sheet[0], 1);
+    print_table("### Lexing lines of 30 bytes, a call for each\n\n" NO_MASKS, on_lines, sizeof on_lines / sizeof on_lines[0], LINES);
 }
 
 /* ---- Printing */
@@ -337,7 +357,7 @@ static void make_line_lists(void)
     size_t i, k;
     for (i = 0; i < LINES; i++) {
         size_t tokens, kept = 0;
-        tokens = zgv_first(zgv_lex(book, book_len, lines[i], LINE, line_list[i], sizeof line_list[i]));
+        tokens = zgv_first(zgv_lex(book, book_len, lines[i], LINE, line_list[i], sizeof line_list[i], masks, MASK_ROOM));
         line_list_len[i] = tokens * ZGV_RECORD_BYTES;
         for (k = 0; k < tokens; k++) {
             zgv_token t = zgv_get_record(line_list[i], k);
@@ -529,7 +549,7 @@ static void make_small(void)
     make_branched(&branched_high, 256);
 }
 
-static void lines_lex_made(const made *b) { EACH_LINE(zgv_lex(b->bytes, b->len, line, LINE, records, ROOM)); }
+static void lines_lex_made(const made *b) { EACH_LINE(zgv_lex(b->bytes, b->len, line, LINE, records, ROOM, masks, MASK_ROOM)); }
 static void lines_print_made(const made *b)
 {
     EACH_LINE(zgv_print_separated(b->bytes, b->len, line_blank[i].tag, line_blank[i].place, line_blank[i].length, ZGV_MODE_SPARE,
@@ -587,18 +607,32 @@ static void bench_small(void)
 /* ---- An earlier library beside this one, its calls renamed */
 
 #ifdef HAVE_OLD
+/* It may be one from before 0.6.0, whose two lexing calls have no masks, so that these are declared in that form. For one with masks
+   the program is compiled with OLD_MASKS. */
+#ifdef OLD_MASKS
+#define AND_MASKS , uint8_t *, size_t
+#define LENT_MASKS , masks, MASK_ROOM
+#define OLD_GIVES "Both store masks."
+#else
+#define AND_MASKS
+#define LENT_MASKS
+#define OLD_GIVES "The earlier one stores no masks."
+#endif
 uint64_t old_zgv_read_book(const uint8_t *, size_t);
-uint64_t old_zgv_lex(const uint8_t *, size_t, const uint8_t *, size_t, uint8_t *, size_t);
-uint64_t old_zgv_lex_builtin(const uint8_t *, size_t, uint8_t *, size_t);
+uint64_t old_zgv_lex(const uint8_t *, size_t, const uint8_t *, size_t, uint8_t *, size_t AND_MASKS);
+uint64_t old_zgv_lex_builtin(const uint8_t *, size_t, uint8_t *, size_t AND_MASKS);
 uint64_t old_zgv_print(const uint8_t *, size_t, const uint8_t *, size_t, const uint8_t *, size_t, uint8_t *, size_t);
 uint64_t old_zgv_print_separated(const uint8_t *, size_t, uint16_t, uint32_t, uint32_t, uint32_t, const uint8_t *, size_t,
                                  const uint8_t *, size_t, uint8_t *, size_t);
 
 static void old_book(void) { sink = old_zgv_read_book(book, book_len); }
 static void new_book(void) { sink = zgv_read_book(book, book_len); }
-static void old_sheet(void) { sink = old_zgv_lex(book, book_len, sheet, sheet_len, records, ROOM); }
-static void old_lines(void) { EACH_LINE(old_zgv_lex(book, book_len, line, LINE, records, ROOM)); }
-static void old_sheet_builtin(void) { sink = old_zgv_lex_builtin(sheet, sheet_len, records, ROOM); }
+static void old_sheet(void) { sink = old_zgv_lex(book, book_len, sheet, sheet_len, records, ROOM LENT_MASKS); }
+static void old_lines(void) { EACH_LINE(old_zgv_lex(book, book_len, line, LINE, records, ROOM LENT_MASKS)); }
+static void old_sheet_builtin(void) { sink = old_zgv_lex_builtin(sheet, sheet_len, records, ROOM LENT_MASKS); }
+static void old_lines_builtin(void) { EACH_LINE(old_zgv_lex_builtin(line, LINE, records, ROOM LENT_MASKS)); }
+static void old_sheet_counted(void) { sink = old_zgv_lex(book, book_len, sheet, sheet_len, records, FEWER LENT_MASKS); }
+static void old_sheet_builtin_counted(void) { sink = old_zgv_lex_builtin(sheet, sheet_len, records, FEWER LENT_MASKS); }
 static void old_print(void) { sink = old_zgv_print(book, book_len, list, list_len, sheet, sheet_len, out, SHEET); }
 static void old_mode(uint32_t mode)
 {
@@ -649,12 +683,15 @@ static void bench_old(void)
     static const pair pairs[] = {
         {"`zgv_read_book`, the built-in book", old_book, new_book, 1},
         {"`zgv_lex`, a line", old_lines, lines_zgv, LINES},
+        {"`zgv_lex_builtin`, a line", old_lines_builtin, lines_builtin, LINES},
         {"`zgv_print`, a line", old_lines_print, lines_print, LINES},
         {"`zgv_print_separated`, mode 1, a line", old_lines_mode_1, lines_mode_1, LINES},
         {"`zgv_print_separated`, mode 2, a line", old_lines_mode_2, lines_mode_2, LINES},
         {"`zgv_print_separated`, mode 2, a line, a plain byte on a dead branch", old_print_branched, print_branched, LINES},
         {"`zgv_lex`, the sheet", old_sheet, sheet_zgv, 1},
         {"`zgv_lex_builtin`, the sheet", old_sheet_builtin, sheet_builtin, 1},
+        {"`zgv_lex`, the sheet, fewer records than bytes", old_sheet_counted, sheet_counted, 1},
+        {"`zgv_lex_builtin`, the sheet, fewer records than bytes", old_sheet_builtin_counted, sheet_builtin_counted, 1},
         {"`zgv_print`, the sheet", old_print, print_plain, 1},
         {"`zgv_print_separated`, mode 1, the sheet", old_mode_1, print_mode_1, 1},
         {"`zgv_print_separated`, mode 2, the sheet", old_mode_2, print_mode_2, 1},
@@ -669,7 +706,8 @@ static void bench_old(void)
         {"`zgv_print_separated`, 32 rings of spans upward, plain bytes on dead branches", old_print_rings, new_print_rings, 1},
     };
     size_t i;
-    printf("\n### An earlier library beside this one\n\n| | earlier, µs a call | this, µs a call | this : earlier |\n|---|---:|---:|---:|\n");
+    printf("\n### An earlier library beside this one\n\n" OLD_GIVES
+           "\n\n| | earlier, µs a call | this, µs a call | this : earlier |\n|---|---:|---:|---:|\n");
     for (i = 0; i < sizeof pairs / sizeof pairs[0]; i++)
         print_pair(&pairs[i], "two libraries answer differently");
 }
@@ -691,7 +729,7 @@ static void step(unsigned from, unsigned byte, unsigned to) { make_move(&grown, 
 static void end_rule(void) { make_close(&grown); }
 static void end_book(void) { make_end(&grown); }
 
-static void grown_zgv(void) { sink = zgv_lex(grown.bytes, grown.len, grown_text, SHEET, records, ROOM); }
+static void grown_zgv(void) { sink = zgv_lex(grown.bytes, grown.len, grown_text, SHEET, records, ROOM, masks, MASK_ROOM); }
 static void grown_chains(void) { sink = chains_lex(grown.bytes, grown.len, grown_text, SHEET, records, ROOM); }
 static void grown_dense(void) { sink = dense_lex(table, grown_text, SHEET, records); }
 
@@ -715,11 +753,10 @@ static void growth_line(const char *name)
 }
 
 /* Tokens of five bytes, a letter and four digits. Rule k takes those of its letter. */
-static void rules_apart(unsigned count)
+static void make_apart(unsigned count)
 {
     unsigned k;
     size_t i;
-    char name[64];
     make_book(&grown, 0);
     for (k = 0; k < count; k++) {
         open_rule(k + 1, 1);
@@ -730,16 +767,13 @@ static void rules_apart(unsigned count)
     end_book();
     for (i = 0; i < SHEET; i++)
         grown_text[i] = i % 5 == 0 ? (uint8_t)(0x40 + draw(count)) : (uint8_t)('0' + draw(10));
-    sprintf(name, "%u rule%s, one walks on past a token's first byte", count, count == 1 ? "" : "s");
-    growth_line(name);
 }
 
 /* The same tokens between blanks, where every rule walks over the whole token. */
-static void rules_together(unsigned count)
+static void make_together(unsigned count)
 {
     unsigned k;
     size_t i;
-    char name[64];
     make_book(&grown, 0);
     for (k = 0; k < count; k++) {
         open_rule(k + 1, 2);
@@ -751,9 +785,30 @@ static void rules_together(unsigned count)
     end_book();
     for (i = 0; i < SHEET; i++)
         grown_text[i] = i % 5 == 4 ? (uint8_t)(0x40 + draw(count)) : (uint8_t)('0' + draw(10));
-    sprintf(name, "%u rule%s, all walk over the whole token", count, count == 1 ? "" : "s");
+}
+
+static void rules_line(void (*make)(unsigned), unsigned count, const char *which)
+{
+    char name[64];
+    make(count);
+    sprintf(name, "%u rule%s, %s", count, count == 1 ? "" : "s", which);
     growth_line(name);
 }
+
+#ifdef HAVE_OLD
+static void old_grown(void) { sink = old_zgv_lex(grown.bytes, grown.len, grown_text, SHEET, records, ROOM LENT_MASKS); }
+
+/* The last lines of the table of bench_old(): as many rules as there may be. */
+static void bench_old_rules(void)
+{
+    static const pair apart = {"`zgv_lex`, 32 rules, one walks on past a token's first byte", old_grown, grown_zgv, 1},
+                      together = {"`zgv_lex`, 32 rules, all walk over the whole token", old_grown, grown_zgv, 1};
+    make_apart(ZGV_BOOK_RULES);
+    print_pair(&apart, "two libraries answer differently");
+    make_together(ZGV_BOOK_RULES);
+    print_pair(&together, "two libraries answer differently");
+}
+#endif
 
 /* One rule: tokens of four bytes, with the transitions from four states. */
 static void moves_at_few(unsigned count)
@@ -930,12 +985,12 @@ static void bench_growth(void)
 {
     static const unsigned rules[] = {1, 8, 32}, at_few[] = {16, 128, 512, 1024}, spread[] = {16, 128, 512, 4096};
     size_t i;
-    printf("\n### Growth with the book, a text of 65,536 bytes, MB/s\n\n"
+    printf("\n### Growth with the book, a text of 65,536 bytes, MB/s\n\n" NO_MASKS "\n\n"
            "| book | its bytes | `zgv_lex` | chains in C | dense table |\n|---|---:|---:|---:|---:|\n");
     for (i = 0; i < 3; i++)
-        rules_apart(rules[i]);
+        rules_line(make_apart, rules[i], "one walks on past a token's first byte");
     for (i = 0; i < 3; i++)
-        rules_together(rules[i]);
+        rules_line(make_together, rules[i], "all walk over the whole token");
     for (i = 0; i < 4; i++)
         moves_at_few(at_few[i]);
     for (i = 0; i < 4; i++)
@@ -949,10 +1004,14 @@ static uint8_t hostile_text[SHEET + 2]; /* bytes "a", and behind them zeros, the
 static uint8_t *hostile_list;
 static size_t hostile_tokens;
 
-static void hostile_zgv(void) { sink = zgv_lex(grown.bytes, grown.len, hostile_text, hostile_len, records, ROOM); }
+static void hostile_zgv(void)
+{
+    sink = zgv_lex(grown.bytes, grown.len, hostile_text, hostile_len, records, ROOM, masks, MASK_ROOM);
+}
 static void hostile_counted(void)
 {
-    sink = zgv_lex(grown.bytes, grown.len, hostile_text, hostile_len, records, (hostile_len - 1) * ZGV_RECORD_BYTES);
+    sink = zgv_lex(grown.bytes, grown.len, hostile_text, hostile_len, records, (hostile_len - 1) * ZGV_RECORD_BYTES, masks,
+                   MASK_ROOM);
 }
 static void hostile_chains(void) { sink = chains_lex(grown.bytes, grown.len, hostile_text, hostile_len, records, ROOM); }
 static void hostile_dense(void) { sink = dense_lex(table, hostile_text, hostile_len, records); }
@@ -1050,7 +1109,7 @@ static void bench_hostile(void)
     make_hostile_book(0);
     if (!dense_build(table, grown.bytes, grown.len))
         fail("the hostile book has no dense table");
-    printf("\n### Hostile texts, seconds\n\n%s", head);
+    printf("\n### Hostile texts, seconds\n\n" NO_MASKS "\n\n%s", head);
     hostile_line("`zgv_lex`", hostile_zgv, ZGV_ACCEPTED, NULL);
     hostile_line("`zgv_lex`, fewer records than bytes", hostile_counted, ZGV_ACCEPTED, stray_end);
     hostile_line("chains in C", hostile_chains, ZGV_ACCEPTED, NULL);
@@ -1074,9 +1133,10 @@ int main(int argc, char **argv)
 {
     sheet = calloc(1, SHEET + 2);
     records = calloc(1, ROOM);
+    masks = calloc(1, MASK_ROOM);
     out = calloc(1, SHEET);
     table = malloc(sizeof *table);
-    if (sheet == NULL || records == NULL || out == NULL || table == NULL)
+    if (sheet == NULL || records == NULL || masks == NULL || out == NULL || table == NULL)
         fail("out of memory");
     if (argc != 2 && !(argc == 3 && strcmp(argv[2], "earlier") == 0))
         fail("usage: bench BOOK [earlier]");
@@ -1095,6 +1155,7 @@ int main(int argc, char **argv)
     bench_line_printers();
 #ifdef HAVE_OLD
     bench_old();
+    bench_old_rules();
 #endif
     if (argc == 3)
         return 0;

@@ -24,7 +24,7 @@ typedef struct choice {
 } choice;
 choice chains_choose(const chains *t, size_t rules, const uint8_t *text, size_t len);
 
-/* As zgv_lex(). */
+/* As zgv_lex(), without masks. */
 uint64_t chains_lex(const uint8_t *book, size_t book_len, const uint8_t *text, size_t text_len,
                     uint8_t *records, size_t records_len);
 

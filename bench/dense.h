@@ -16,7 +16,7 @@ typedef struct dense {
 /* Makes the table of an accepted book; 0 where it has too many states. */
 int dense_build(dense *d, const uint8_t *book, size_t book_len);
 
-/* Cuts a text; `records` has room for every token. Answers as zgv_lex(). */
+/* Cuts a text; `records` has room for every token. Answers as zgv_lex(), without masks. */
 uint64_t dense_lex(const dense *d, const uint8_t *text, size_t text_len, uint8_t *records);
 
 #endif

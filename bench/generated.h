@@ -1,5 +1,5 @@
 /* Lexers that flex and re2c generate. `text` has two zero bytes behind it, which flex asks for; `records` has room for every
-   token. Each answers as zgv_lex(). */
+   token. Each answers as zgv_lex(), without masks. */
 #ifndef GENERATED_H
 #define GENERATED_H
 

@@ -3,7 +3,8 @@
 # by 0 to 48 bytes before each. A loop's place in a line of the cache moves a figure by some hundredths, in either direction, so the
 # median says what a change costs and the ends how much of a single run is chance.
 #
-#   bench/layouts.sh FILE      FILE is the earlier library
+#   bench/layouts.sh FILE      FILE is the earlier library: one whose cuts have no masks, as before 0.6.0; with OLD_MASKS=1 in
+#                              the environment one whose cuts have them
 set -eu
 [ $# = 1 ] || { sed -n 's/^# \{0,1\}//p' "$0" | sed -n '2,$p'; exit 2; }
 old=$(readlink -f "$1")
@@ -18,7 +19,7 @@ ar p "$old" zagvulem.o >"$dir/old.o"
 for call in read_book read_book_strict rule rewrite_book lex lex_builtin print print_separated; do
     objcopy --redefine-sym "zgv_$call=old_zgv_$call" "$dir/old.o"
 done
-$cc $flags -DHAVE_OLD -c bench/bench.c -o "$dir/earlier.o"
+$cc $flags -DHAVE_OLD ${OLD_MASKS:+-DOLD_MASKS} -c bench/bench.c -o "$dir/earlier.o"
 $cc $flags -c bench/books.c -o "$dir/books.o"
 $cc $flags -c bench/chains.c -o "$dir/chains.o"
 $cc $flags -c bench/dense.c -o "$dir/dense.o"

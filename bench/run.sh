@@ -1,7 +1,7 @@
 #!/bin/sh
 # Builds and runs the benchmark over build/libzagvulem.a (make it first) and prints its tables. It needs flex and re2c, which
 # NO_FLEX=1 and NO_RE2C=1 leave out; it installs them by apt-get with INSTALL=1 alone. OLD=FILE measures an earlier library
-# beside this one.
+# beside this one: one whose cuts have no masks, as before 0.6.0; with OLD_MASKS=1 one whose cuts have them.
 set -eu
 cd "$(dirname "$0")/.."
 cc=${CC:-cc}
@@ -42,7 +42,7 @@ if [ -n "${OLD:-}" ]; then
     for call in read_book read_book_strict rule rewrite_book lex lex_builtin print print_separated; do
         objcopy --redefine-sym "zgv_$call=old_zgv_$call" "$dir/old.o"
     done
-    set -- "$@" -DHAVE_OLD "$dir/old.o"
+    set -- "$@" -DHAVE_OLD ${OLD_MASKS:+-DOLD_MASKS} "$dir/old.o"
 fi
 $cc $flags -c bench/books.c -o "$dir/books.o"
 $cc $flags -c bench/chains.c -o "$dir/chains.o"

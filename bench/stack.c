@@ -24,7 +24,7 @@ enum { STACK = 1 << 22, PAINT = 0xC7, MARGIN = 4096, SIZES = 3 };
 static uint8_t small[ZGV_BOOK_BYTES], book[ZGV_BOOK_BYTES]; /* the book that is given, and the one that is measured */
 static size_t small_len, book_len;
 static const uint8_t text[] = "[00:12.50]oh yes [fade]\n[00:1";
-static uint8_t records[sizeof text * ZGV_RECORD_BYTES];
+static uint8_t records[sizeof text * ZGV_RECORD_BYTES], masks[sizeof text * ZGV_MASK_BYTES];
 static uint8_t plain[2 * ZGV_RECORD_BYTES];
 static uint8_t out[256];
 static uint8_t spans[ZGV_BOOK_BYTES], rewritten[ZGV_BOOK_BYTES];
@@ -58,12 +58,12 @@ static void *rule(void *unused)
 }
 static void *lex(void *unused)
 {
-    sink = zgv_lex(book, book_len, text, sizeof text - 1, records, sizeof records);
+    sink = zgv_lex(book, book_len, text, sizeof text - 1, records, sizeof records, masks, sizeof masks);
     return unused;
 }
 static void *lex_builtin(void *unused)
 {
-    sink = zgv_lex_builtin(text, sizeof text - 1, records, sizeof records);
+    sink = zgv_lex_builtin(text, sizeof text - 1, records, sizeof records, masks, sizeof masks);
     return unused;
 }
 static void *print(void *unused)

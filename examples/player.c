@@ -2,6 +2,7 @@
  * player.c - a player that changes the cues of a timed lyric sheet
  *
  *    player [-l] [-r] BOOK SHEET [SECONDS [OLD NEW]]
+ *    player --hidden [-r] BOOK TEXT
  *
  * Cuts SHEET by BOOK, moves its time stamps, [mm:ss.hh], by SECONDS, puts the
  * word NEW in the place of the word OLD, and writes the sheet to standard output:
@@ -12,11 +13,20 @@
  *
  * Which tokens separate is what the book says: the kinds of its rules.
  *
+ * With --hidden it writes, for the author of a book, which rules earlier ones hide
+ * in TEXT, by the masks of the cut. Each rule has a line, in the book's order: its
+ * number, from 0, its tag and kind, how many tokens it took, and at how many it is
+ * hidden, since it matches the same bytes and an earlier rule took them. ALWAYS
+ * HIDDEN ends the line of a rule that is hidden and took no token. Below stands each
+ * token at which the rule is hidden, and the rule that took it. Bytes that cannot be
+ * printed are escaped, and long tokens shortened.
+ *
  * A rest is text that no rule of the book matches. Where one is left nothing is
  * written; with -r what was cut before it is.
  *
- * Standard error says what is done. The exit status is 0 where a text was
- * written, 1 where nothing was, 2 where the command line is wrong.
+ * Standard error says what is done. The exit status is 0 where a text or the
+ * hidden rules were written, 1 where nothing was, 2 where the command line is
+ * wrong.
  */
 #include "zagvulem.h"
 
@@ -24,7 +34,7 @@
 #include <stdlib.h>
 #include <string.h>
 
-enum { WRONG_USE = 2, STAMP_LENGTH = 10, MOST_SECONDS = 5999, LAST_STAMP = 599999 };
+enum { WRONG_USE = 2, STAMP_LENGTH = 10, MOST_SECONDS = 5999, LAST_STAMP = 599999, SHOWN_BYTES = 40 };
 
 /* Bytes with room for more: a file, or a pool of token bytes that grows. */
 typedef struct buffer {
@@ -32,15 +42,17 @@ typedef struct buffer {
     size_t length, room;
 } buffer;
 
-/* A list of tokens; their bytes stand in a pool that goes with it. */
+/* A list of tokens, as it was cut with their masks; their bytes stand in a pool that goes with it. */
 typedef struct list {
-    uint8_t *records;
+    uint8_t *records, *masks;
     size_t count;
 } list;
 
-/* The book, and for each tag whether its rule is of separator kind. */
+/* The book, the tags of its rules, and for each tag whether its rule is of separator kind. */
 typedef struct rules {
     buffer book;
+    uint32_t count;
+    uint16_t tags[ZGV_BOOK_RULES];
     uint8_t separates[65536];
 } rules;
 
@@ -48,7 +60,7 @@ typedef struct rules {
 typedef struct task {
     const char *book, *sheet, *old_word, *new_word;
     long seconds;
-    int as_list, leave_rest;
+    int as_list, leave_rest, hidden;
 } task;
 
 /* ---- Memory and files */
@@ -151,7 +163,7 @@ static void say_rest(const char *name, const buffer *sheet, size_t rest)
 static int read_rules(rules *r, const char *name)
 {
     uint64_t answer;
-    uint32_t count, i;
+    uint32_t i;
     r->book = read_file(name);
     memset(r->separates, 0, sizeof r->separates);
     answer = zgv_read_book(r->book.bytes, r->book.length);
@@ -159,23 +171,32 @@ static int read_rules(rules *r, const char *name)
         say_refused(name, answer);
         return 0;
     }
-    count = zgv_first(answer);
-    for (i = 0; i < count; i++) {
+    r->count = zgv_first(answer);
+    for (i = 0; i < r->count; i++) {
         answer = zgv_rule(r->book.bytes, r->book.length, i);
-        r->separates[zgv_first(answer)] = zgv_second(answer) == ZGV_KIND_SEPARATOR;
+        r->tags[i] = (uint16_t)zgv_first(answer);
+        r->separates[r->tags[i]] = zgv_second(answer) == ZGV_KIND_SEPARATOR;
     }
     return 1;
 }
 
-/* Cuts a text into a list that it allocates, with records enough for every text that is not too long. */
+/* Cuts a text into a list that it allocates, with records and masks enough for every text that is not too long. */
 static uint64_t cut(const rules *r, const uint8_t *text, size_t length, list *l)
 {
-    size_t room = (length < ZGV_TEXT_BYTES ? length : ZGV_TEXT_BYTES) * ZGV_RECORD_BYTES;
+    size_t tokens = length < ZGV_TEXT_BYTES ? length : ZGV_TEXT_BYTES;
     uint64_t answer;
-    l->records = allocate(room);
-    answer = zgv_lex(r->book.bytes, r->book.length, text, length, l->records, room);
+    l->records = allocate(tokens * ZGV_RECORD_BYTES);
+    l->masks = allocate(tokens * ZGV_MASK_BYTES);
+    answer = zgv_lex(r->book.bytes, r->book.length, text, length, l->records, tokens * ZGV_RECORD_BYTES, l->masks,
+                     tokens * ZGV_MASK_BYTES);
     l->count = zgv_number(answer) == ZGV_ACCEPTED ? zgv_first(answer) : 0;
     return answer;
+}
+
+static void free_list(list *l)
+{
+    free(l->records);
+    free(l->masks);
 }
 
 /* Whether a word alone is cut as one token; then that token, with the word's bytes added to the pool. */
@@ -188,7 +209,7 @@ static int one_token(const rules *r, const char *word, size_t length, buffer *po
         *token = zgv_get_record(l.records, 0);
         token->place = append(pool, word, length);
     }
-    free(l.records);
+    free_list(&l);
     return one;
 }
 
@@ -236,7 +257,7 @@ static int move_stamp(buffer *pool, zgv_token *t, long seconds)
     return 1;
 }
 
-/* Changes a list in place, but for a cue list leaves out what separates; new bytes go to the pool's end. */
+/* Changes the records of a list in place, but for a cue list leaves out what separates; new bytes go to the pool's end. */
 static int change(const task *asked, const rules *r, buffer *pool, list *l)
 {
     size_t i, kept = 0, stamps = 0, words = 0;
@@ -320,7 +341,7 @@ static int reads_back(const task *asked, const rules *r, const uint8_t *text, si
                    && memcmp(text + a.place, pool->bytes + b.place, a.length) == 0;
         }
     }
-    free(again.records);
+    free_list(&again);
     return same && k == l->count;
 }
 
@@ -345,13 +366,102 @@ static int write_list(const task *asked, const rules *r, buffer *pool, const lis
     return done;
 }
 
+/* ---- Rules that earlier ones hide */
+
+static const char *plural(size_t count)
+{
+    return count == 1 ? "" : "s";
+}
+
+static int agrees(const list *l, size_t token, uint32_t rule)
+{
+    return (zgv_get_mask(l->masks, token) >> rule & 1) != 0;
+}
+
+/* The rule that took a token: the earliest of those that agree, of which there is one at least. */
+static uint32_t taker(const list *l, size_t token)
+{
+    uint32_t rule = 0;
+    while (!agrees(l, token, rule))
+        rule++;
+    return rule;
+}
+
+/* Bytes between quotes, those that cannot be printed escaped; of a long token the first ones, and how many it has. */
+static void write_bytes(const uint8_t *bytes, size_t length)
+{
+    size_t shown = length <= SHOWN_BYTES ? length : SHOWN_BYTES, i;
+    putchar('"');
+    for (i = 0; i < shown; i++)
+        switch (bytes[i]) {
+        case '\n':
+            fputs("\\n", stdout);
+            break;
+        case '\r':
+            fputs("\\r", stdout);
+            break;
+        case '\t':
+            fputs("\\t", stdout);
+            break;
+        case '"':
+        case '\\':
+            printf("\\%c", bytes[i]);
+            break;
+        default:
+            printf(bytes[i] < 0x20 || bytes[i] > 0x7E ? "\\x%02X" : "%c", bytes[i]);
+        }
+    putchar('"');
+    if (shown < length)
+        printf("... of %lu bytes", (unsigned long)length);
+}
+
+/* A rule's line, and below it each token at which it is hidden; says how many it took and how many those are. */
+static void write_rule(const rules *r, const buffer *text, const list *l, uint32_t rule, size_t *took, size_t *hidden)
+{
+    size_t i;
+    *took = *hidden = 0;
+    for (i = 0; i < l->count; i++)
+        if (agrees(l, i, rule))
+            ++*(taker(l, i) == rule ? took : hidden);
+    printf("rule %u, tag %u, %s: took %lu token%s, hidden at %lu%s\n", (unsigned)rule, (unsigned)r->tags[rule],
+           r->separates[r->tags[rule]] ? "separator" : "plain", (unsigned long)*took, plural(*took), (unsigned long)*hidden,
+           *took == 0 && *hidden > 0 ? ", ALWAYS HIDDEN" : "");
+    for (i = 0; i < l->count; i++)
+        if (agrees(l, i, rule) && taker(l, i) != rule) {
+            zgv_token t = zgv_get_record(l->records, i);
+            printf("    token %lu at byte %lu, ", (unsigned long)i, (unsigned long)t.place);
+            write_bytes(text->bytes + t.place, t.length);
+            printf(", went to rule %u, tag %u\n", (unsigned)taker(l, i), (unsigned)t.tag);
+        }
+}
+
+static int write_hidden(const task *asked, const rules *r, const buffer *text, const list *l)
+{
+    size_t took, hidden, some = 0, always = 0;
+    uint32_t rule;
+    for (rule = 0; rule < r->count; rule++) {
+        write_rule(r, text, l, rule, &took, &hidden);
+        some += hidden > 0;
+        always += hidden > 0 && took == 0;
+    }
+    if (fflush(stdout) != 0 || ferror(stdout)) {
+        perror("player");
+        return 0;
+    }
+    fprintf(stderr, "%s: %lu token%s, %lu rule%s: %lu hidden somewhere, %lu always\n", asked->sheet, (unsigned long)l->count,
+            plural(l->count), (unsigned long)r->count, plural(r->count), (unsigned long)some, (unsigned long)always);
+    return 1;
+}
+
 /* ---- The command line */
 
 static int usage(void)
 {
     fputs("usage: player [-l] [-r] BOOK SHEET [SECONDS [OLD NEW]]\n"
-          "  -l   write the cue list, not the sheet\n"
-          "  -r   write what was cut although a rest is left\n",
+          "       player --hidden [-r] BOOK TEXT\n"
+          "  -l         write the cue list, not the sheet\n"
+          "  -r         write what was cut although a rest is left\n"
+          "  --hidden   write which rules of the book are hidden by earlier ones\n",
           stderr);
     return 0;
 }
@@ -377,12 +487,14 @@ static int read_task(int argc, char **argv, task *asked)
             asked->as_list = 1;
         else if (strcmp(argv[i], "-r") == 0)
             asked->leave_rest = 1;
+        else if (strcmp(argv[i], "--hidden") == 0)
+            asked->hidden = 1;
         else
             return usage();
     }
     argv += i;
     argc -= i;
-    if (argc != 2 && argc != 3 && argc != 5)
+    if (asked->hidden ? argc != 2 || asked->as_list : argc != 2 && argc != 3 && argc != 5)
         return usage();
     asked->book = argv[0];
     asked->sheet = argv[1];
@@ -417,10 +529,11 @@ int main(int argc, char **argv)
                   stderr);
         }
         if (rest == sheet.length || asked.leave_rest)
-            /* From here on the sheet's bytes are the pool: new words and stamps are added behind. */
-            done = change(&asked, &r, &sheet, &l) && write_list(&asked, &r, &sheet, &l);
+            /* To change it, the sheet's bytes are the pool from here on: new words and stamps are added behind. */
+            done = asked.hidden ? write_hidden(&asked, &r, &sheet, &l)
+                                : change(&asked, &r, &sheet, &l) && write_list(&asked, &r, &sheet, &l);
     }
-    free(l.records);
+    free_list(&l);
     free(sheet.bytes);
     free(r.book.bytes);
     return done ? EXIT_SUCCESS : EXIT_FAILURE;

@@ -4,10 +4,10 @@
  * A rule book is data: a run of bytes that describes up to 32 rules, each a
  * finite automaton with a tag; FORMAT.md says how one is written. zgv_lex() cuts
  * a text by a book into tokens, always the longest match, the earliest rule on a
- * tie. zgv_print() joins tokens to a text again, and refuses a list that would
- * not be cut back as it is. zgv_print_separated() joins tokens with separators
- * between them, so that cutting what it wrote and dropping the separators gives
- * the same list back.
+ * tie, and says of each token every rule that agreed. zgv_print() joins tokens to
+ * a text again, and refuses a list that would not be cut back as it is.
+ * zgv_print_separated() joins tokens with separators between them, so that
+ * cutting what it wrote and dropping the separators gives the same list back.
  *
  * A rule's moves are SPANs. STEP, a shorter form of a move at one byte, is retired:
  * books that have it are read as ever, zgv_rewrite_book() puts SPANs in the place
@@ -35,9 +35,10 @@
  *
  *  - Each buffer is a pointer and its length in bytes, and so many bytes are
  *    there. The pointer may be NULL where the length is 0. It needs no alignment.
- *  - A buffer that the call may write (`records` of the two lexing calls, `out`
- *    of the two printing calls and of zgv_rewrite_book()) shares no byte with any
- *    other buffer of the same call. Buffers that are only read may overlap freely.
+ *  - A buffer that the call may write (`records` and `masks` of the two lexing
+ *    calls, `out` of the two printing calls and of zgv_rewrite_book()) shares no
+ *    byte with any other buffer of the same call. Buffers that are only read may
+ *    overlap freely.
  *  - Calls may run in several threads at once, but no thread writes a buffer
  *    that another one's running call was given.
  *  - The thread has stack enough (STACK below).
@@ -61,6 +62,19 @@
  * records; leftover bytes are neither read nor written. After zgv_lex() the
  * pool is the text. Read and write records with zgv_get_record() and
  * zgv_put_record().
+ *
+ * MASKS
+ *
+ * A cut also gives a mask of each token: every rule that agreed on its bytes. Bit
+ * k of the mask, worth 2^k, is set exactly where the book's rule number k, from 0
+ * in the book's order, matches exactly the bytes of the token. The lowest bit that
+ * is set is the rule that took the token, the one whose tag is in the record. Any
+ * other is a later rule, which this one hides there.
+ *
+ * Masks stand in a buffer of their own, mask number i for record number i. Each
+ * has four bytes, the high byte first. A buffer of n bytes holds n / 4 masks;
+ * leftover bytes are neither read nor written. Read masks with zgv_get_mask(). No
+ * call takes them: a list for a printer is records alone.
  *
  * STACK
  *
@@ -88,7 +102,8 @@
  *
  *    a cut of n bytes           r * n * n / 2 steps, since at each token every
  *                               rule walks on as far as it can go; twice that
- *                               where `records` has room for fewer than n tokens
+ *                               where there is room for fewer than n records or
+ *                               for fewer than n masks
  *    printing n bytes           the same r * n * n / 2, and r steps more for each
  *                               byte of each token, also where 20 is answered
  *                               in the end: tokens may overlap in the pool, so
@@ -123,9 +138,9 @@ extern "C" {
 
 /* ---- Version ------------------------------------------------------------ */
 
-#define ZGV_VERSION       "0.5.0"
+#define ZGV_VERSION       "0.6.0"
 #define ZGV_VERSION_MAJOR 0
-#define ZGV_VERSION_MINOR 5
+#define ZGV_VERSION_MINOR 6
 #define ZGV_VERSION_PATCH 0
 
 /* ---- Limits ------------------------------------------------------------- */
@@ -137,6 +152,7 @@ extern "C" {
 #define ZGV_TEXT_BYTES       65536  /* bytes of a text, to be cut or written */
 #define ZGV_LIST_TOKENS      65536  /* tokens of a list */
 #define ZGV_RECORD_BYTES     10     /* bytes of a token's record */
+#define ZGV_MASK_BYTES       4      /* bytes of a token's mask */
 #define ZGV_STACK_BYTES      376832 /* stack that is enough for every call */
 
 /* Kinds of a rule, as in its RULE command. */
@@ -185,7 +201,8 @@ enum {
 
     /* Lexing. */
     ZGV_TEXT_TOO_LONG     = 14,  /* text over 65,536 bytes; place 0 */
-    ZGV_TOO_FEW_RECORDS   = 15,  /* the place is the number of tokens */
+    ZGV_TOO_FEW_RECORDS   = 15,  /* fewer records or fewer masks than tokens; the
+                                    place is the number of tokens */
 
     /*
      * Printing. For 17 to 19, 21 and 26 the place is the token's number in the
@@ -237,7 +254,7 @@ static inline const char *zgv_refusal_text(unsigned number)
     case ZGV_START_FINAL:       return "a rule's start is final";
     case ZGV_NO_RULE:           return "the book has no rule";
     case ZGV_TEXT_TOO_LONG:     return "the text has more than 65,536 bytes";
-    case ZGV_TOO_FEW_RECORDS:   return "there is room for fewer records than the text has tokens";
+    case ZGV_TOO_FEW_RECORDS:   return "there is room for fewer records or masks than the text has tokens";
     case ZGV_TOO_MANY_TOKENS:   return "the list has more than 65,536 tokens";
     case ZGV_PAST_THE_POOL:     return "a token passes the end of the pool";
     case ZGV_UNKNOWN_TAG:       return "the book has no such rule";
@@ -317,6 +334,19 @@ static inline void zgv_put_record(uint8_t *records, size_t index, zgv_token toke
     r[9] = (uint8_t)token.length;
 }
 
+/* ---- Masks -------------------------------------------------------------- */
+
+/*
+ * Mask number `index`, from 0; the buffer must hold it whole. Rule number k agreed
+ * where (zgv_get_mask(masks, index) >> k & 1) is 1.
+ */
+static inline uint32_t zgv_get_mask(const uint8_t *masks, size_t index)
+{
+    const uint8_t *m = masks + index * ZGV_MASK_BYTES;
+    return ((uint32_t)m[0] << 24) | ((uint32_t)m[1] << 16)
+         | ((uint32_t)m[2] << 8) | m[3];
+}
+
 /* ---- The calls ---------------------------------------------------------- */
 
 /*
@@ -376,21 +406,32 @@ uint64_t zgv_rule(const uint8_t *book, size_t book_len, uint32_t index);
 
 /*
  * Cuts `text` by `book` and stores a record of each token, in order, from the
- * start of `records`. Cutting ends at the text's end, or at the first place
- * where no rule matches; what is left there is the rest. Look at it: a text whose
- * second value is below text_len was not cut to its end.
+ * start of `records`, and a mask of each from the start of `masks`. Cutting ends at
+ * the text's end, or at the first place where no rule matches; what is left there
+ * is the rest. Look at it: a text whose second value is below text_len was not cut
+ * to its end.
  *
  * Accepted: first value the number of tokens, second the place of the rest in
  * `text`, which is text_len where nothing is left. A token's place counts in
- * `text` too.
- * Refused: 1 to 13 for the book; 14; 15 where `records` has room for fewer
- * tokens than the cut has. The place of 15 is the number of tokens, so that a
- * call with no records says how many are needed. A token has at least one byte,
- * so text_len records are always enough.
+ * `text` too. What `records` and `masks` hold past that number stays as it was.
+ * Refused: 1 to 13 for the book; 14; 15 where `records` or `masks` has room for
+ * fewer tokens than the cut has. The place of 15 is the number of tokens, so that
+ * a call with no records and no masks says how many of each are needed. A token
+ * has at least one byte, so text_len records and text_len masks are always enough;
+ * with so many the text is walked once, with fewer of either twice.
+ *
+ * A program that does not read masks lends them all the same, as many as records:
+ *
+ *    static uint8_t records[ZGV_TEXT_BYTES * ZGV_RECORD_BYTES];
+ *    static uint8_t masks[ZGV_TEXT_BYTES * ZGV_MASK_BYTES];
+ *
+ * One that asks for the number of tokens first passes `NULL, 0, NULL, 0` and sizes
+ * both by it.
  */
 uint64_t zgv_lex(const uint8_t *book, size_t book_len,
                  const uint8_t *text, size_t text_len,
-                 uint8_t *records, size_t records_len);
+                 uint8_t *records, size_t records_len,
+                 uint8_t *masks, size_t masks_len);
 
 /*
  * The same by the built-in book of timed lyric sheets, which needs no reading:
@@ -406,15 +447,19 @@ uint64_t zgv_lex(const uint8_t *book, size_t book_len,
  * with CR LF line ends no more than the first line is cut. Take the CRs out of it
  * before, or cut it by a book that has a rule for them (FORMAT.md has one).
  *
+ * No two of these rules match the same bytes, so a mask has one bit, that of the
+ * rule that took the token: it is 2^(tag - 1).
+ *
  * Accepted: as zgv_lex(). Refused: 14, 15.
  */
 uint64_t zgv_lex_builtin(const uint8_t *text, size_t text_len,
-                         uint8_t *records, size_t records_len);
+                         uint8_t *records, size_t records_len,
+                         uint8_t *masks, size_t masks_len);
 
 /*
  * The built-in book as bytes, for calls that take a book: zgv_lex() by it answers
- * as zgv_lex_builtin(), and the printers print what either has cut. It has STEPs,
- * so that zgv_read_book_strict() refuses it.
+ * and writes as zgv_lex_builtin(), and the printers print what either has cut. It
+ * has STEPs, so that zgv_read_book_strict() refuses it.
  */
 static const uint8_t zgv_builtin_book[168] ZGV_UNUSED = {
     0x01, 0x00, 0x01, 0x00, 0x02, 0x00, 0x03, 0x0B, 0x04, 0x0A, 0x05, 0x00,

@@ -17,7 +17,25 @@
 #define BOOK zgv_builtin_book, sizeof zgv_builtin_book
 
 static uint8_t sheet[ZGV_TEXT_BYTES], first[ZGV_TEXT_BYTES * ZGV_RECORD_BYTES], second[ZGV_TEXT_BYTES * ZGV_RECORD_BYTES];
+static uint8_t first_masks[ZGV_TEXT_BYTES * ZGV_MASK_BYTES], second_masks[ZGV_TEXT_BYTES * ZGV_MASK_BYTES];
 static uint8_t out[ZGV_TEXT_BYTES];
+
+#define FIRST first, sizeof first, first_masks, sizeof first_masks
+#define SECOND second, sizeof second, second_masks, sizeof second_masks
+
+/* Both pairs of records and masks with the same bytes in them, which show what a cut writes. */
+static void paint(void)
+{
+    memset(first, 1, sizeof first);
+    memset(second, 1, sizeof second);
+    memset(first_masks, 1, sizeof first_masks);
+    memset(second_masks, 1, sizeof second_masks);
+}
+
+static int are_alike(void)
+{
+    return memcmp(first, second, sizeof first) == 0 && memcmp(first_masks, second_masks, sizeof first_masks) == 0;
+}
 
 static void versions(void)
 {
@@ -67,15 +85,19 @@ static void book(const char *name)
     HOLDS(zgv_number(zgv_rule(NULL, 0, 0)) == ZGV_CUT_OFF);
 }
 
-/* A text is cut alike by the built-in book as bytes and without; what is cut before a rest is printed as it was. */
+/* A text is cut alike by the built-in book as bytes and without, each mask that of one rule; what is cut before a rest is printed as
+   it was. */
 static uint64_t cut_alike(const uint8_t *text, size_t length)
 {
     uint64_t by_book, built_in, printed;
-    memset(first, 1, sizeof first);
-    memset(second, 1, sizeof second);
-    by_book = zgv_lex(BOOK, text, length, first, sizeof first);
-    built_in = zgv_lex_builtin(text, length, second, sizeof second);
-    HOLDS(zgv_number(by_book) == ZGV_ACCEPTED && by_book == built_in && memcmp(first, second, sizeof first) == 0);
+    uint32_t i;
+    paint();
+    by_book = zgv_lex(BOOK, text, length, FIRST);
+    built_in = zgv_lex_builtin(text, length, SECOND);
+    HOLDS(zgv_number(by_book) == ZGV_ACCEPTED && by_book == built_in && are_alike());
+    for (i = 0; i < zgv_first(by_book); i++)
+        HOLDS(zgv_get_mask(first_masks, i) == (uint32_t)1 << (zgv_get_record(first, i).tag - 1));
+    HOLDS(zgv_get_mask(first_masks, i) == 0x01010101);
     printed = zgv_print(BOOK, first, (size_t)zgv_first(by_book) * ZGV_RECORD_BYTES, text, length, out, sizeof out);
     HOLDS(zgv_number(printed) == ZGV_ACCEPTED && zgv_first(printed) == zgv_second(by_book));
     HOLDS(memcmp(out, text, zgv_first(printed)) == 0);
@@ -108,6 +130,131 @@ static void records(void)
     HOLDS(memcmp(bytes + 10, "\xAB\xCD\x01\x23\x45\x67\x89\xAB\xCD\xEF", 10) == 0 && bytes[9] == 0);
 }
 
+/* A book under construction, of rules that read one byte of a range, and any number of them where `runs`. */
+static uint8_t made[ZGV_BOOK_BYTES];
+static size_t made_len;
+
+static void add_rule(unsigned tag, unsigned low, unsigned high, int runs)
+{
+    const uint8_t rule[] = {1, (uint8_t)(tag >> 8), (uint8_t)tag, 0, 2, 0, 3, 2, 4, 1, 6, 0, (uint8_t)low, (uint8_t)high, 1};
+    const uint8_t run[] = {6, 1, (uint8_t)low, (uint8_t)high, 1};
+    memcpy(made + made_len, rule, sizeof rule);
+    made_len += sizeof rule;
+    if (runs) {
+        memcpy(made + made_len, run, sizeof run);
+        made_len += sizeof run;
+    }
+    made[made_len++] = 7;
+}
+
+static void end_book(void)
+{
+    made[made_len++] = 8;
+}
+
+/* All 32 bits, in their order: rule k takes the bytes from 40 + k on, or those up to 40 + k. */
+static void mask_bits(void)
+{
+    uint8_t text[ZGV_BOOK_RULES];
+    unsigned k, from;
+    HOLDS(ZGV_MASK_BYTES == 4 && zgv_get_mask((const uint8_t *)"\xFF\xFF\xFF\xFF\x89\xAB\xCD\xEF", 1) == 0x89ABCDEF);
+    for (k = 0; k < sizeof text; k++)
+        text[k] = (uint8_t)(0x40 + k);
+    for (from = 0; from < 2; from++) {
+        made_len = 0;
+        for (k = 0; k < ZGV_BOOK_RULES; k++)
+            add_rule(1000 + k, from ? 0x40 + k : 0x40, from ? 0x5F : 0x40 + k, 0);
+        end_book();
+        paint();
+        HOLDS(zgv_lex(made, made_len, text, sizeof text, FIRST) == ((uint64_t)32 << 28 | 32));
+        for (k = 0; k < 32; k++) {
+            const uint32_t mask = from ? 0xFFFFFFFF >> (31 - k) : 0xFFFFFFFF << k;
+            const uint8_t bytes[] = {(uint8_t)(mask >> 24), (uint8_t)(mask >> 16), (uint8_t)(mask >> 8), (uint8_t)mask};
+            HOLDS(zgv_get_record(first, k).tag == (from ? 1000 : 1000 + k));
+            HOLDS(zgv_get_mask(first_masks, k) == mask && memcmp(first_masks + 4 * k, bytes, 4) == 0);
+        }
+        HOLDS(memcmp(first_masks + 4 * 32, second_masks + 4 * 32, sizeof first_masks - 4 * 32) == 0);
+    }
+}
+
+/* A rule counts where it matches all of the token, not where it matches a beginning of it or goes on without an end: by 0, one letter of a
+   to c, 1, letters of a to c, 2, "ab" and "abcd", 3, letters of b to z. */
+static void mask_ends(void)
+{
+    static const uint8_t pair[] = {1, 0, 3, 0, 2, 0, 3, 9, 4, 2, 4, 4, 6, 0, 'a', 'a', 1, 6, 1, 'b', 'b', 2, 6, 2, 'c', 'c', 3,
+                                   6, 3, 'd', 'd', 4, 7};
+    static const struct {
+        const char *text;
+        uint16_t tag;
+        uint32_t mask;
+    } tries[] = {{"a", 1, 3}, {"b", 1, 0xB}, {"d", 4, 8}, {"ab", 2, 6}, {"abc", 2, 2}, {"abcd", 3, 4}, {"cb", 2, 0xA}, {"cd", 4, 8}};
+    size_t i;
+    made_len = 0;
+    add_rule(1, 'a', 'c', 0);
+    add_rule(2, 'a', 'c', 1);
+    memcpy(made + made_len, pair, sizeof pair);
+    made_len += sizeof pair;
+    add_rule(4, 'b', 'z', 1);
+    end_book();
+    for (i = 0; i < sizeof tries / sizeof tries[0]; i++) {
+        const size_t length = strlen(tries[i].text);
+        HOLDS(zgv_lex(made, made_len, (const uint8_t *)tries[i].text, length, FIRST) == ((uint64_t)1 << 28 | length));
+        HOLDS(zgv_get_record(first, 0).tag == tries[i].tag && zgv_get_mask(first_masks, 0) == tries[i].mask);
+    }
+}
+
+static int is_painted(const uint8_t *bytes, size_t from, size_t to)
+{
+    for (; from < to && bytes[from] == 1; from++)
+        ;
+    return from >= to;
+}
+
+/* Every room for records and for masks up to more than the text has bytes, leftover bytes too: 15 where either is too small, and then
+   nothing is written; else what is written is the same, and nothing behind it. */
+static void mask_rooms(void)
+{
+    static const uint8_t text[] = "oh no [yes\n]";
+    const size_t length = sizeof text - 1, tokens = 8;
+    size_t r, m;
+    paint();
+    HOLDS(zgv_lex_builtin(text, length, SECOND) == ((uint64_t)tokens << 28 | length));
+    for (r = 0; r <= (length + 1) * ZGV_RECORD_BYTES; r += 3)
+        for (m = 0; m <= (length + 1) * ZGV_MASK_BYTES; m++) {
+            const int enough = r / ZGV_RECORD_BYTES >= tokens && m / ZGV_MASK_BYTES >= tokens;
+            const uint64_t answer = enough ? (uint64_t)tokens << 28 | length : (uint64_t)ZGV_TOO_FEW_RECORDS << 56 | tokens;
+            const size_t written = enough ? tokens : 0;
+            int by_book;
+            for (by_book = 0; by_book < 2; by_book++) {
+                memset(first, 1, 1000);
+                memset(first_masks, 1, 1000);
+                HOLDS(answer == (by_book ? zgv_lex(BOOK, text, length, first, r, first_masks, m)
+                                         : zgv_lex_builtin(text, length, first, r, first_masks, m)));
+                HOLDS(memcmp(first, second, written * ZGV_RECORD_BYTES) == 0 && is_painted(first, written * ZGV_RECORD_BYTES, 1000));
+                HOLDS(memcmp(first_masks, second_masks, written * ZGV_MASK_BYTES) == 0);
+                HOLDS(is_painted(first_masks, written * ZGV_MASK_BYTES, 1000));
+            }
+        }
+}
+
+/* Masks are written by none of the other refusals, and not asked for where there is no token. */
+static void mask_refusals(void)
+{
+    static const uint8_t too_long[ZGV_TEXT_BYTES + 1] = {0};
+    const uint8_t *stray = (const uint8_t *)"\roh";
+    uint64_t answer;
+    paint();
+    answer = zgv_lex(BOOK, too_long, sizeof too_long, FIRST);
+    HOLDS(answer == (uint64_t)ZGV_TEXT_TOO_LONG << 56 && zgv_lex_builtin(too_long, sizeof too_long, FIRST) == answer);
+    HOLDS(zgv_lex(stray, 3, stray, 3, FIRST) == (uint64_t)ZGV_MISPLACED << 56);
+    HOLDS(are_alike());
+    HOLDS(zgv_lex(BOOK, stray, 3, NULL, 0, NULL, 0) == 0 && zgv_lex_builtin(stray, 3, NULL, 0, NULL, 0) == 0);
+    HOLDS(zgv_lex(BOOK, stray, 3, FIRST) == 0 && zgv_lex_builtin(stray, 3, FIRST) == 0 && are_alike());
+    HOLDS(zgv_lex_builtin(stray + 1, 2, first, sizeof first, NULL, 0) == ((uint64_t)ZGV_TOO_FEW_RECORDS << 56 | 1));
+    HOLDS(zgv_lex_builtin(stray + 1, 2, NULL, 0, first_masks, sizeof first_masks) == ((uint64_t)ZGV_TOO_FEW_RECORDS << 56 | 1));
+    HOLDS(are_alike());
+}
+
 /* The built-in book has STEPs; rewritten it has none, and cuts the sheet that cuts() has read as before. */
 static void rewriting(void)
 {
@@ -129,11 +276,9 @@ static void rewriting(void)
     HOLDS(zgv_rewrite_book(spans, needed, again, needed) == (uint64_t)needed << 28 && memcmp(spans, again, needed) == 0);
     for (i = 0; i <= 5; i++)
         HOLDS(zgv_rule(spans, needed, (uint32_t)i) == zgv_rule(BOOK, (uint32_t)i));
-    memset(first, 1, sizeof first);
-    memset(second, 1, sizeof second);
-    answer = zgv_lex(BOOK, sheet, length, first, sizeof first);
-    HOLDS(zgv_first(answer) > 100 && zgv_lex(spans, needed, sheet, length, second, sizeof second) == answer);
-    HOLDS(memcmp(first, second, sizeof first) == 0);
+    paint();
+    answer = zgv_lex(BOOK, sheet, length, FIRST);
+    HOLDS(zgv_first(answer) > 100 && zgv_lex(spans, needed, sheet, length, SECOND) == answer && are_alike());
 }
 
 /* At a STEP 33 stands after 3 and before the others; of a book without one both readings answer alike. */
@@ -147,17 +292,17 @@ static void strictly(void)
     HOLDS(zgv_read_book_strict(NULL, 0) == zgv_read_book(NULL, 0) && zgv_rewrite_book(NULL, 0, NULL, 0) == zgv_read_book(NULL, 0));
 }
 
-/* Empty buffers may be NULL; 15 says how many records are needed, 22 how many bytes. */
+/* Empty buffers may be NULL; 15 says how many records and masks are needed, 22 how many bytes. */
 static void empty(void)
 {
     const uint8_t *text = (const uint8_t *)"oh no";
     uint64_t answer;
     HOLDS(zgv_number(zgv_read_book(NULL, 0)) == ZGV_CUT_OFF);
-    HOLDS(zgv_lex(BOOK, NULL, 0, NULL, 0) == 0 && zgv_lex_builtin(NULL, 0, NULL, 0) == 0);
+    HOLDS(zgv_lex(BOOK, NULL, 0, NULL, 0, NULL, 0) == 0 && zgv_lex_builtin(NULL, 0, NULL, 0, NULL, 0) == 0);
     HOLDS(zgv_print(BOOK, NULL, 0, NULL, 0, NULL, 0) == 0);
-    answer = zgv_lex_builtin(text, 5, NULL, 0);
+    answer = zgv_lex_builtin(text, 5, NULL, 0, NULL, 0);
     HOLDS(zgv_number(answer) == ZGV_TOO_FEW_RECORDS && zgv_place(answer) == 3);
-    HOLDS(zgv_lex_builtin(text, 5, first, 3 * ZGV_RECORD_BYTES) == ((uint64_t)3 << 28 | 5));
+    HOLDS(zgv_lex_builtin(text, 5, first, 3 * ZGV_RECORD_BYTES, first_masks, 3 * ZGV_MASK_BYTES) == ((uint64_t)3 << 28 | 5));
     answer = zgv_print(BOOK, first, 3 * ZGV_RECORD_BYTES, text, 5, NULL, 0);
     HOLDS(zgv_number(answer) == ZGV_OUTPUT_TOO_SHORT && zgv_place(answer) == 5);
     answer = zgv_print_separated(BOOK, 3, 2, 1, ZGV_MODE_ALL, NULL, 0, text, 5, NULL, 0);
@@ -193,6 +338,10 @@ int main(int argc, char **argv)
     rewriting();
     strictly();
     records();
+    mask_bits();
+    mask_ends();
+    mask_rooms();
+    mask_refusals();
     empty();
     modes();
     return 0;

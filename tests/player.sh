@@ -6,6 +6,7 @@ player=${PLAYER:-$PWD/build/player}
 examples=$PWD/examples
 PATH=$examples:$PATH
 builtin=$examples/builtin.bin
+top=$PWD
 cd "$tmp" || exit 1
 cp "$examples/sheet.txt" sheet
 runs=0
@@ -161,5 +162,130 @@ END
 printf 'a\na' >lines
 run 1 -l shared lines
 says 'the cue list: refused: a plain and a separator rule of the book use the same byte (number 23, byte 20)'
+
+# --hidden: "if" hides words, words hide "else" everywhere, others hide a rule for any byte at some, and that one hides rule 5 everywhere
+make-book.sh >hides <<'END'
+01 00 0A 00  02 00  03 09  04 02  06 00 69 69 01  06 01 66 66 02  07                   # rule 0, tag 10: "if"
+01 00 14 00  02 00  03 09  04 01  06 00 61 7A 01  06 01 61 7A 01  07                   # rule 1, tag 20: words
+01 00 1E 01  02 00  03 09  04 01  06 00 20 20 01  06 01 20 20 01  07                   # rule 2, tag 30, separator: blanks
+01 00 28 00  02 00  03 09  04 04                                                       # rule 3, tag 40: "else"
+    06 00 65 65 01  06 01 6C 6C 02  06 02 73 73 03  06 03 65 65 04  07
+01 FF FF 00  02 00  03 09  04 01  06 00 00 FF 01  07                                   # rule 4, tag 65535: any byte
+01 00 32 01  02 00  03 09  04 01                                                       # rule 5, tag 50, separator: some bytes
+    06 00 00 1F 01  06 00 21 22 01  06 00 5C 5C 01  06 00 7F FF 01  07
+01 00 3C 00  02 00  03 09  04 01  06 00 41 5A 01  07                                   # rule 6, tag 60: a capital letter
+08
+END
+printf 'if x  else iffy if\n\r\t"\\\000!\377' >text
+run 0 --hidden hides text
+says 'text: 17 tokens, 7 rules: 4 hidden somewhere, 2 always'
+cmp - out <<'END' || fail "of hidden rules it writes: $(cat out)"
+rule 0, tag 10, plain: took 2 tokens, hidden at 0
+rule 1, tag 20, plain: took 3 tokens, hidden at 2
+    token 0 at byte 0, "if", went to rule 0, tag 10
+    token 8 at byte 16, "if", went to rule 0, tag 10
+rule 2, tag 30, separator: took 4 tokens, hidden at 0
+rule 3, tag 40, plain: took 0 tokens, hidden at 1, ALWAYS HIDDEN
+    token 4 at byte 6, "else", went to rule 1, tag 20
+rule 4, tag 65535, plain: took 8 tokens, hidden at 4
+    token 1 at byte 2, " ", went to rule 2, tag 30
+    token 2 at byte 3, "x", went to rule 1, tag 20
+    token 5 at byte 10, " ", went to rule 2, tag 30
+    token 7 at byte 15, " ", went to rule 2, tag 30
+rule 5, tag 50, separator: took 0 tokens, hidden at 8, ALWAYS HIDDEN
+    token 9 at byte 18, "\n", went to rule 4, tag 65535
+    token 10 at byte 19, "\r", went to rule 4, tag 65535
+    token 11 at byte 20, "\t", went to rule 4, tag 65535
+    token 12 at byte 21, "\"", went to rule 4, tag 65535
+    token 13 at byte 22, "\\", went to rule 4, tag 65535
+    token 14 at byte 23, "\x00", went to rule 4, tag 65535
+    token 15 at byte 24, "!", went to rule 4, tag 65535
+    token 16 at byte 25, "\xFF", went to rule 4, tag 65535
+rule 6, tag 60, plain: took 0 tokens, hidden at 0
+END
+
+# of several rules that hide one the earliest took the token; a token of 41 bytes is shortened, one of 40 is not
+{
+    for tag in 01 02 03 04; do
+        echo "01 00 $tag 00  02 00  03 02  04 01  06 00 61 7A 01  06 01 61 7A 01  07"
+    done
+    echo '01 00 05 01  02 00  03 02  04 01  06 00 20 20 01  07  08'
+} | make-book.sh >same
+forty=$(head -c 40 long)
+printf '%s a%s' "$forty" "$forty" >text
+run 0 --hidden same text
+says 'text: 3 tokens, 5 rules: 3 hidden somewhere, 3 always'
+{
+    echo 'rule 0, tag 1, plain: took 2 tokens, hidden at 0'
+    for rule in 1 2 3; do
+        echo "rule $rule, tag $((rule + 1)), plain: took 0 tokens, hidden at 2, ALWAYS HIDDEN"
+        echo "    token 0 at byte 0, \"$forty\", went to rule 0, tag 1"
+        echo "    token 2 at byte 41, \"$forty\"... of 41 bytes, went to rule 0, tag 1"
+    done
+    echo 'rule 4, tag 5, separator: took 1 token, hidden at 0'
+} | cmp - out || fail "of four rules that agree it writes: $(cat out)"
+
+# as many rules as a book may have, of which the last is hidden by the first, and as many tokens as a text may have
+awk 'BEGIN {
+    for (tag = 1; tag <= 32; tag++)
+        printf "01 00 %02x 00  02 00  03 02  04 01  06 00 %s 01  07\n", tag, tag == 1 || tag == 32 ? "61 61" : "62 62"
+    print "08"
+}' | make-book.sh >most
+run 0 --hidden most full
+says 'full: 65536 tokens, 32 rules: 1 hidden somewhere, 1 always'
+[ "$(sed -n 32p out)" = 'rule 31, tag 32, plain: took 0 tokens, hidden at 65536, ALWAYS HIDDEN' ] || fail "it writes: $(sed -n 32p out)"
+[ "$(tail -n 1 out)" = '    token 65535 at byte 65535, "a", went to rule 0, tag 1' ] || fail "it writes: $(tail -n 1 out)"
+[ "$(wc -l <out)" -eq $((32 + 65536)) ] || fail "it writes $(wc -l <out) lines"
+
+# a book without hidden rules, by the command of README.md too
+run 0 --hidden "$builtin" sheet
+says 'sheet: 154 tokens, 5 rules: 0 hidden somewhere, 0 always'
+cat >wanted <<'END'
+rule 0, tag 1, plain: took 14 tokens, hidden at 0
+rule 1, tag 2, plain: took 68 tokens, hidden at 0
+rule 2, tag 3, separator: took 56 tokens, hidden at 0
+rule 3, tag 4, separator: took 14 tokens, hidden at 0
+rule 4, tag 5, plain: took 2 tokens, hidden at 0
+END
+cmp wanted out || fail "of the built-in book it writes: $(cat out)"
+words=$(sed -n 's|^build/player \(--hidden .*\)|\1|p' "$top/README.md")
+[ -n "$words" ] || fail 'README.md has no command with --hidden'
+# shellcheck disable=SC2086
+(cd "$top" && "$player" $words) >out 2>said || fail "the command of README.md: $(cat said)"
+cmp wanted out || fail "the command of README.md writes: $(cat out)"
+run 0 --hidden plain empty
+writes 'rule 0, tag 1, plain: took 0 tokens, hidden at 0\n'
+says 'empty: 0 tokens, 1 rule: 0 hidden somewhere, 0 always'
+
+# with --hidden: a rest, refusals, and the words of the command line
+run 1 --hidden "$builtin" crlf
+says 'crlf: not cut from byte 15 on, which is 0D, in line 1: 17 of 32 bytes are left'
+says 'nothing is written; -r writes what was cut'
+run 0 -r --hidden "$builtin" crlf
+says 'writing what was cut'
+says 'crlf: 4 tokens, 5 rules: 0 hidden somewhere, 0 always'
+cp out before
+run 0 --hidden -r "$builtin" crlf
+cmp before out || fail 'the order of its options changes what it writes'
+run 1 --hidden twice sheet
+says 'twice: refused: two moves of a rule leave one state at the same byte (number 9, byte 19 of the book)'
+run 1 --hidden empty sheet
+says 'empty: refused: the book stops before its END, or inside a command (number 2, byte 0 of the book)'
+run 1 --hidden "$builtin" long
+says 'long: refused: the text has more than 65,536 bytes (number 14)'
+run 1 --hidden "$builtin" none
+says 'none: No such file or directory'
+run 2 --hidden
+says '       player --hidden [-r] BOOK TEXT'
+run 2 --hidden "$builtin"
+run 2 --hidden "$builtin" sheet 2
+run 2 --hidden "$builtin" sheet 2 boats ships
+run 2 --hidden -l "$builtin" sheet
+run 2 --hide "$builtin" sheet
+run 2 "$builtin" sheet --hidden
+if [ -w /dev/full ]; then
+    ! "$player" --hidden "$builtin" sheet >/dev/full 2>said || fail 'that nothing could be written is not told'
+    says 'player: No space left on device'
+fi
 
 echo "player: $runs runs"

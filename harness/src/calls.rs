@@ -48,6 +48,7 @@ pub struct Call {
     /// The text, or the pool.
     pub text: Vec<u8>,
     pub records: Vec<u8>,
+    pub masks: Vec<u8>,
     pub out: Vec<u8>,
     pub separator: Record,
     pub mode: u32,
@@ -64,6 +65,7 @@ impl Call {
             book: Vec::new(),
             text: Vec::new(),
             records: Vec::new(),
+            masks: Vec::new(),
             out: Vec::new(),
             separator: NO_RECORD,
             mode: 0,
@@ -87,12 +89,12 @@ impl Call {
         Call { book: book.to_vec(), index, ..Call::new(Operation::Rule) }
     }
 
-    pub fn lex(book: &[u8], text: &[u8], records: Vec<u8>) -> Call {
-        Call { book: book.to_vec(), text: text.to_vec(), records, ..Call::new(Operation::Lex) }
+    pub fn lex(book: &[u8], text: &[u8], records: Vec<u8>, masks: Vec<u8>) -> Call {
+        Call { book: book.to_vec(), text: text.to_vec(), records, masks, ..Call::new(Operation::Lex) }
     }
 
-    pub fn lex_builtin(text: &[u8], records: Vec<u8>) -> Call {
-        Call { text: text.to_vec(), records, ..Call::new(Operation::LexBuiltin) }
+    pub fn lex_builtin(text: &[u8], records: Vec<u8>, masks: Vec<u8>) -> Call {
+        Call { text: text.to_vec(), records, masks, ..Call::new(Operation::LexBuiltin) }
     }
 
     pub fn print(book: &[u8], records: Vec<u8>, pool: &[u8], out: Vec<u8>) -> Call {
@@ -123,8 +125,10 @@ impl Call {
         match self.operation {
             Operation::ReadBook | Operation::ReadBookStrict | Operation::Rule => vec![("book", &self.book)],
             Operation::RewriteBook => vec![("book", &self.book), ("out", &self.out)],
-            Operation::Lex => vec![("book", &self.book), ("text", &self.text), ("records", &self.records)],
-            Operation::LexBuiltin => vec![("text", &self.text), ("records", &self.records)],
+            Operation::Lex => {
+                vec![("book", &self.book), ("text", &self.text), ("records", &self.records), ("masks", &self.masks)]
+            }
+            Operation::LexBuiltin => vec![("text", &self.text), ("records", &self.records), ("masks", &self.masks)],
             Operation::Print | Operation::PrintSeparated => {
                 vec![("book", &self.book), ("records", &self.records), ("pool", &self.text), ("out", &self.out)]
             }
@@ -136,6 +140,7 @@ impl Call {
             "book" => self.book = bytes,
             "text" | "pool" => self.text = bytes,
             "records" => self.records = bytes,
+            "masks" => self.masks = bytes,
             _ => self.out = bytes,
         }
     }
@@ -146,6 +151,23 @@ impl Call {
 pub struct Outcome {
     pub answer: u64,
     pub buffers: Vec<Vec<u8>>,
+}
+
+impl Outcome {
+    /// Of a cut: the records and the masks, which are lent last.
+    pub fn cut(&self) -> (&[u8], &[u8]) {
+        match &self.buffers[..] {
+            [.., records, masks] => (records, masks),
+            _ => unreachable!("both are lent"),
+        }
+    }
+
+    pub fn cut_mut(&mut self) -> (&mut Vec<u8>, &mut Vec<u8>) {
+        match &mut self.buffers[..] {
+            [.., records, masks] => (records, masks),
+            _ => unreachable!("both are lent"),
+        }
+    }
 }
 
 /// The numbers of an answer, as the header packs them.
@@ -189,7 +211,8 @@ pub fn refused(r: Refusal) -> u64 {
 pub fn expected(call: &Call) -> Outcome {
     let mut after = call.clone();
     let list = || reference::records_of(&call.records);
-    let room = call.records.len() / reference::RECORD_BYTES;
+    // of a cut, the tokens that both can hold
+    let room = (call.records.len() / reference::RECORD_BYTES).min(call.masks.len() / reference::MASK_BYTES);
     let answer = match call.operation {
         Operation::ReadBook => reference::read_book(&call.book, Reading::Ordinary).map(|rules| accepted(rules, 0)),
         Operation::ReadBookStrict => reference::read_book(&call.book, Reading::Strict).map(|rules| accepted(rules, 0)),
@@ -200,8 +223,8 @@ pub fn expected(call: &Call) -> Outcome {
             let named = reference::rule(&call.book, call.index as usize);
             named.map(|(tag, kind)| accepted(tag as usize, kind as usize))
         }
-        Operation::Lex => reference::lex(&call.book, &call.text, room).map(|c| store(c, &mut after.records)),
-        Operation::LexBuiltin => reference::lex(BUILTIN, &call.text, room).map(|c| store(c, &mut after.records)),
+        Operation::Lex => reference::lex(&call.book, &call.text, room).map(|cut| store(cut, &mut after)),
+        Operation::LexBuiltin => reference::lex(BUILTIN, &call.text, room).map(|cut| store(cut, &mut after)),
         Operation::Print => {
             reference::print(&call.book, &list(), &call.text, call.out.len()).map(|bytes| write(bytes, &mut after.out))
         }
@@ -216,9 +239,12 @@ pub fn expected(call: &Call) -> Outcome {
     }
 }
 
-fn store(cut: Cut, records: &mut [u8]) -> u64 {
+fn store(cut: Cut, call: &mut Call) -> u64 {
     for (i, token) in cut.tokens.iter().enumerate() {
-        records[i * 10..i * 10 + 10].copy_from_slice(&token.to_bytes());
+        call.records[i * 10..i * 10 + 10].copy_from_slice(&token.to_bytes());
+    }
+    for (i, mask) in cut.masks.iter().enumerate() {
+        call.masks[i * 4..i * 4 + 4].copy_from_slice(&mask.to_be_bytes());
     }
     accepted(cut.tokens.len(), cut.rest)
 }

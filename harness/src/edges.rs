@@ -4,6 +4,7 @@ use crate::calls::{Call, Operation, BUILTIN};
 use crate::dead;
 use crate::fewest;
 use crate::generate::{bytes_of, Book, Rule};
+use crate::masks;
 use crate::reference::{self as paper, Record};
 use crate::rewriting;
 use crate::wide;
@@ -79,6 +80,21 @@ fn room(records: usize) -> Vec<u8> {
     vec![0xEE; records * paper::RECORD_BYTES]
 }
 
+/// The same for masks.
+fn mask_room(masks: usize) -> Vec<u8> {
+    vec![0xEE; masks * paper::MASK_BYTES]
+}
+
+/// A cut with records and masks for so many tokens.
+pub fn cut(book: &[u8], text: &[u8], tokens: usize) -> Call {
+    Call::lex(book, text, room(tokens), mask_room(tokens))
+}
+
+/// The same by the built-in book.
+pub fn cut_builtin(text: &[u8], tokens: usize) -> Call {
+    Call::lex_builtin(text, room(tokens), mask_room(tokens))
+}
+
 /// Every edge call, with a name.
 pub fn calls() -> Vec<(String, Call)> {
     let mut all: Vec<(String, Call)> = Vec::new();
@@ -89,7 +105,7 @@ pub fn calls() -> Vec<(String, Call)> {
             let between = Record { tag: 2, place: 1, length: 1 };
             all.extend(rewriting::calls(&call.book).into_iter().map(|c| (format!("{name}, without STEP"), c)));
             all.push((format!("{name}, its first rule"), Call::rule(&call.book, 0)));
-            all.push((format!("{name}, cutting"), Call::lex(&call.book, b"abca", room(4))));
+            all.push((format!("{name}, cutting"), cut(&call.book, b"abca", 4)));
             all.push((format!("{name}, writing"), Call::print(&call.book, record.clone(), b"a", vec![0xEE; 2])));
             let spacing = Call::print_separated(&call.book, between, 2, record, b"a ", vec![0xEE; 2]);
             all.push((format!("{name}, spacing"), spacing));
@@ -104,6 +120,7 @@ pub fn calls() -> Vec<(String, Call)> {
     separated(&mut add);
     dead::branches(&mut add);
     fewest::lists(&mut add);
+    masks::cuts(&mut add);
     rewriting::books(&mut add);
     wide::books(&mut add);
     all
@@ -141,7 +158,7 @@ fn books(add: Add) {
     for rules in [31, 32, 33, 34] {
         let many = book((1..=rules).map(|t| letter(t, 0, t as u8, true)).collect()).bytes();
         add(&format!("{rules} rules"), Call::read_book(&many));
-        add(&format!("cutting by {rules} rules"), Call::lex(&many, &[1, 31, 32, 33, 2], room(5)));
+        add(&format!("cutting by {rules} rules"), cut(&many, &[1, 31, 32, 33, 2], 5));
         let mut zero = book((1..=rules).map(|t| letter(t, 0, t as u8, true)).collect());
         zero.rules.last_mut().expect("there are rules").tag = 0;
         add(&format!("{rules} rules, the last with tag 0"), Call::read_book(&zero.bytes()));
@@ -160,7 +177,7 @@ fn books(add: Add) {
     let bytes = book(full).bytes();
     assert!(bytes.len() > 65_500 && bytes.len() <= paper::BOOK_BYTES);
     add("a book full of moves", Call::read_book(&bytes));
-    add("cutting by a book full of moves", Call::lex(&bytes, b"abc\x00\xFF", room(5)));
+    add("cutting by a book full of moves", cut(&bytes, b"abc\x00\xFF", 5));
     // a chain through every state of one byte
     let chain = Rule {
         tag: 1,
@@ -172,11 +189,11 @@ fn books(add: Add) {
     };
     let bytes = book(vec![chain, letter(2, 0, b'a', true)]).bytes();
     for length in [253, 254, 255, 300] {
-        add(&format!("a chain of states over {length} bytes"), Call::lex(&bytes, &vec![b'a'; length], room(length)));
+        add(&format!("a chain of states over {length} bytes"), cut(&bytes, &vec![b'a'; length], length));
     }
     let error_starts = Rule { tag: 1, kind: 0, start: 0, error: 0, finals: vec![1], moves: vec![(2, 0, 255, 1)] };
     let bytes = book(vec![error_starts, letter(2, 0, b'a', true)]).bytes();
-    add("a rule that starts in its error state", Call::lex(&bytes, b"aab", room(3)));
+    add("a rule that starts in its error state", cut(&bytes, b"aab", 3));
 }
 
 /// Each rule of a book by its number, and numbers past the last one.
@@ -279,32 +296,43 @@ fn cuts(add: Add) {
     for length in [65_535, 65_536, 65_537] {
         let text = vec![b'a'; length];
         let name = |what: &str| format!("{what}, {length} bytes");
-        add(&name("one token a byte"), Call::lex(&once, &text, room(length)));
-        add(&name("one token a byte, a record short"), Call::lex(&once, &text, room(length - 1)));
-        add(&name("one token a byte, a byte short"), {
-            let mut call = Call::lex(&once, &text, room(length));
-            call.records.pop();
-            call
-        });
-        add(&name("one token in all"), Call::lex(&run, &text, room(1)));
-        add(&name("one token in all, no record"), Call::lex(&run, &text, vec![0xEE; 9]));
+        add(&name("one token a byte"), cut(&once, &text, length));
+        add(&name("one token a byte, a record short"), Call { records: room(length - 1), ..cut(&once, &text, length) });
+        add(
+            &name("one token a byte, a mask short"),
+            Call { masks: mask_room(length - 1), ..cut(&once, &text, length) },
+        );
+        add(&name("one token a byte, both one short"), cut(&once, &text, length - 1));
+        for (records, masks) in [(1, 0), (0, 1), (0, 3), (1, 1)] {
+            let mut call = cut(&once, &text, length);
+            call.records.truncate(length * paper::RECORD_BYTES - records);
+            call.masks.truncate(length * paper::MASK_BYTES - masks);
+            add(&name("one token a byte, bytes short"), call);
+        }
+        add(&name("one token a byte, room left"), cut(&once, &text, length + 2));
+        add(&name("one token in all"), cut(&run, &text, 1));
+        add(&name("one token in all, no record"), Call { records: vec![0xEE; 9], ..cut(&run, &text, 1) });
+        add(&name("one token in all, no mask"), Call { masks: vec![0xEE; 3], ..cut(&run, &text, 1) });
+        add(&name("one token in all, room for the text"), cut(&run, &text, length));
         add(&name("one token, then a rest"), {
             let mut text = text.clone();
             text[length - 2] = b'b';
-            Call::lex(&run, &text, room(3))
+            cut(&run, &text, 3)
         });
-        add(&name("by the built-in book"), Call::lex_builtin(&text, room(2)));
+        add(&name("by the built-in book"), cut_builtin(&text, 2));
         let sheet: Vec<u8> = b"[00:12.50]oh yes\n[00:1 ".iter().cycle().take(length).copied().collect();
-        add(&name("a sheet by the built-in book"), Call::lex_builtin(&sheet, room(length)));
+        add(&name("a sheet by the built-in book"), cut_builtin(&sheet, length));
         let tokens = paper::cut(BUILTIN, &sheet).tokens.len();
-        add(&name("a sheet, a record short"), Call::lex_builtin(&sheet, room(tokens - 1)));
-        add(&name("a sheet by the command bytes"), Call::lex(BUILTIN, &sheet, room(length)));
+        add(&name("a sheet, just enough"), cut_builtin(&sheet, tokens));
+        add(&name("a sheet, a record short"), Call { records: room(tokens - 1), ..cut_builtin(&sheet, tokens) });
+        add(&name("a sheet, a mask short"), Call { masks: mask_room(tokens - 1), ..cut_builtin(&sheet, length) });
+        add(&name("a sheet by the command bytes"), cut(BUILTIN, &sheet, length));
     }
-    add("nothing lent but the book", Call::lex(&once, b"", Vec::new()));
-    add("nothing lent", Call::lex(b"", b"", Vec::new()));
-    add("the empty text, room left", Call::lex(&once, b"", vec![1, 2, 3]));
-    add("a rest at once, room left", Call::lex(&once, b"ba", room(2)));
-    add("the empty text by the built-in book", Call::lex_builtin(b"", room(1)));
+    add("nothing lent but the book", cut(&once, b"", 0));
+    add("nothing lent", cut(b"", b"", 0));
+    add("the empty text, room left", Call::lex(&once, b"", vec![1, 2, 3], vec![4, 5, 6, 7, 8]));
+    add("a rest at once, room left", cut(&once, b"ba", 2));
+    add("the empty text by the built-in book", cut_builtin(b"", 1));
     let mut ahead = letter(2, 0, b'a', false);
     ahead.finals = vec![3];
     ahead.moves.push((1, b'b', b'b', 3));
@@ -312,10 +340,10 @@ fn cuts(add: Add) {
     for end in [b'a', b'b'] {
         let mut text = vec![b'a'; 120];
         text.push(end);
-        add("walks to the end at each token", Call::lex(&bytes, &text, room(121)));
+        add("walks to the end at each token", cut(&bytes, &text, 121));
     }
     for byte in 0..=255u8 {
-        add("each byte by the built-in book", Call::lex_builtin(&[byte, b'x', byte], room(3)));
+        add("each byte by the built-in book", cut_builtin(&[byte, b'x', byte], 3));
     }
 }
 
@@ -359,7 +387,7 @@ fn prints(add: Add) {
     }
     let held = once.iter().position(|&b| b == b'a').expect("the book names its letter");
     add("the pool is the book", Call::print(&once, bytes_of(&[record(1, held, 1)]), &once, out(2)));
-    add("the text is the book", Call::lex(&once, &once, room(1)));
+    add("the text is the book", cut(&once, &once, 1));
     add("the empty list", Call::print(&once, Vec::new(), b"", Vec::new()));
     add("the empty list, room left", Call::print(&once, vec![1; 9], b"a", out(3)));
     add("the empty list by the empty book", Call::print(b"", Vec::new(), b"", Vec::new()));

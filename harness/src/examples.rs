@@ -1,5 +1,5 @@
-//! The examples of document 01, each with what the library and the second implementation answer.
-//! Those that the document marks ● are proved of the definitions too.
+//! The examples of document 01, each with what the library and the second implementation answer; of the cuts also the masks
+//! (document 02, wish 11). Those that the document marks ● are proved of the definitions too.
 
 use crate::calls::{self, Answer, Call, Operation, Outcome, BUILTIN};
 use crate::generate::{bytes_of, Book, Rule};
@@ -52,11 +52,11 @@ fn listed(words: &[(u16, &str)]) -> (Vec<u8>, Vec<u8>) {
 }
 
 fn cut(book: &[u8], text: &[u8]) -> Call {
-    Call::lex(book, text, vec![0; text.len() * 10])
+    Call::lex(book, text, vec![0; text.len() * 10], vec![0; text.len() * 4])
 }
 
 fn built_in(text: &[u8]) -> Call {
-    Call::lex_builtin(text, vec![0; text.len() * 10])
+    Call::lex_builtin(text, vec![0; text.len() * 10], vec![0; text.len() * 4])
 }
 
 fn plain(book: &[u8], words: &[(u16, &str)]) -> Call {
@@ -80,13 +80,13 @@ fn all() -> Vec<(bool, &'static str, &'static str, Call)> {
     let cba: &[(u16, &str)] = &[(3, "c"), (2, "b"), (1, "a")];
     vec![
         (false, "the book of 16 bytes", "1 rule", Call::read_book(&SIXTEEN)),
-        (false, "the book of 16 bytes, \"aa\"", "1 \"a\", 1 \"a\", rest 2", cut(&SIXTEEN, b"aa")),
+        (false, "the book of 16 bytes, \"aa\"", "1 \"a\", 1 \"a\", rest 2; masks 1, 1", cut(&SIXTEEN, b"aa")),
         (true, "book A, \"\"", "no token, rest 0", cut(a, b"")),
-        (true, "book A, \"abc\"", "1 \"abc\", rest 3", cut(a, b"abc")),
-        (true, "book A, \"ab\"", "1 \"a\", 2 \"b\", rest 2", cut(a, b"ab")),
+        (true, "book A, \"abc\"", "1 \"abc\", rest 3; masks 1", cut(a, b"abc")),
+        (true, "book A, \"ab\"", "1 \"a\", 2 \"b\", rest 2; masks 1, 2", cut(a, b"ab")),
         (true, "book A, \"d\"", "no token, rest 0", cut(a, b"d")),
-        (false, "book A, \"a  c\"", "1 \"a\", 4 \"  \", 3 \"c\", rest 4", cut(a, b"a  c")),
-        (true, "book A, \"abd\"", "1 \"a\", 2 \"b\", rest 2", cut(a, b"abd")),
+        (false, "book A, \"a  c\"", "1 \"a\", 4 \"  \", 3 \"c\", rest 4; masks 1, 8, 4", cut(a, b"a  c")),
+        (true, "book A, \"abd\"", "1 \"a\", 2 \"b\", rest 2; masks 1, 2", cut(a, b"abd")),
         (true, "book A, plain a, b, c", "refused 21 at 0", plain(a, abc)),
         (true, "book A, plain c, b, a", "\"cba\"", plain(a, cba)),
         (true, "book A, plain, the empty list", "\"\"", plain(a, &[])),
@@ -95,20 +95,25 @@ fn all() -> Vec<(bool, &'static str, &'static str, Call)> {
         (false, "book A, spacing a, b, c in mode 0", "\"a bc\"", spaced(0, abc)),
         (false, "book A, spacing b, a, b, c in mode 2", "\"ba bc\"", spaced(2, babc)),
         (false, "book A, spacing b, a, b, c in mode 0", "\"ba bc\"", spaced(0, babc)),
-        (true, "book B, \"abc\"", "1 \"ab\", rest 2", cut(b, b"abc")),
+        (true, "book B, \"abc\"", "1 \"ab\", rest 2; masks 1", cut(b, b"abc")),
         (true, "book B, plain a, bc", "refused 21 at 0", plain(b, &[(1, "a"), (2, "bc")])),
-        (true, "book C, \"if\"", "1 \"if\", rest 2", cut(c, b"if")),
-        (false, "book C, \"ifs\"", "2 \"ifs\", rest 3", cut(c, b"ifs")),
+        (true, "book C, \"if\"", "1 \"if\", rest 2; masks 3", cut(c, b"if")),
+        (false, "book C, \"ifs\"", "2 \"ifs\", rest 3; masks 2", cut(c, b"ifs")),
         (false, "book C, plain 2 \"if\"", "refused 19 at 0", plain(c, &[(2, "if")])),
-        (false, "built-in, \"[00:12.50]oh\"", "1 \"[00:12.50]\", 2 \"oh\", rest 12", built_in(b"[00:12.50]oh")),
-        (false, "built-in, \"[00:1\"", "5 \"[\", 2 \"00:1\", rest 5", built_in(b"[00:1")),
+        (
+            false,
+            "built-in, \"[00:12.50]oh\"",
+            "1 \"[00:12.50]\", 2 \"oh\", rest 12; masks 1, 2",
+            built_in(b"[00:12.50]oh"),
+        ),
+        (false, "built-in, \"[00:1\"", "5 \"[\", 2 \"00:1\", rest 5; masks 16, 2", built_in(b"[00:1")),
         (
             false,
             "command bytes, \"[00:12.50]oh\"",
-            "1 \"[00:12.50]\", 2 \"oh\", rest 12",
+            "1 \"[00:12.50]\", 2 \"oh\", rest 12; masks 1, 2",
             cut(BUILTIN, b"[00:12.50]oh"),
         ),
-        (false, "command bytes, \"[00:1\"", "5 \"[\", 2 \"00:1\", rest 5", cut(BUILTIN, b"[00:1")),
+        (false, "command bytes, \"[00:1\"", "5 \"[\", 2 \"00:1\", rest 5; masks 16, 2", cut(BUILTIN, b"[00:1")),
         (false, "a text of 65,536 bytes", "65536 tokens, rest 65536", cut(&SIXTEEN, &vec![b'a'; 65_536])),
         (false, "a text of 65,537 bytes", "refused 14 at 0", cut(&SIXTEEN, &vec![b'a'; 65_537])),
         (false, "built-in, a text of 65,536 bytes", "65536 tokens, rest 65536", built_in(&vec![b'['; 65_536])),
@@ -134,15 +139,19 @@ fn said(call: &Call, outcome: &Outcome) -> String {
             format!("{:?}", String::from_utf8_lossy(&outcome.buffers[3][..count]))
         }
         Operation::Lex | Operation::LexBuiltin => {
-            let records = outcome.buffers.last().expect("records are lent last");
+            let (records, masks) = outcome.cut();
             let tokens = paper::records_of(&records[..count * 10]);
             let word = |t: &Record| String::from_utf8_lossy(t.bytes(&call.text).unwrap_or(b"?")).to_string();
-            let list = match count {
-                0 => "no token".to_string(),
-                1..=9 => tokens.iter().map(|t| format!("{} {:?}", t.tag, word(t))).collect::<Vec<_>>().join(", "),
-                _ => format!("{count} tokens"),
-            };
-            format!("{list}, rest {}", answer.second())
+            let rest = answer.second();
+            match count {
+                0 => format!("no token, rest {rest}"),
+                1..=9 => {
+                    let list: Vec<String> = tokens.iter().map(|t| format!("{} {:?}", t.tag, word(t))).collect();
+                    let masks: Vec<String> = paper::masks_of(masks).iter().take(count).map(u32::to_string).collect();
+                    format!("{}, rest {rest}; masks {}", list.join(", "), masks.join(", "))
+                }
+                _ => format!("{count} tokens, rest {rest}"),
+            }
         }
     }
 }
@@ -159,7 +168,7 @@ pub fn run(library: &mut Library) -> usize {
         let mark = if proved { "●" } else { " " };
         println!("{mark} {name}: library {library_says} | second {second_says}{}", if same { "" } else { " | WRONG" });
         if !same {
-            println!("  document 01: {wanted}");
+            println!("  the documents: {wanted}");
             wrong += 1;
         }
     }

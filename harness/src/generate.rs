@@ -4,7 +4,7 @@ use crate::calls::{self, Answer, Call};
 use crate::random::Random;
 use crate::reference::{self as paper, Command, Move, Record, Width};
 use crate::rewriting;
-use std::collections::BTreeSet;
+use std::collections::{BTreeMap, BTreeSet};
 
 /// A rule as its parts, from which its commands are written.
 #[derive(Clone)]
@@ -246,6 +246,34 @@ fn join(rule: &mut Rule, from: usize, byte: u8, to: usize) {
     }
 }
 
+/// A rule that matches all or some of the strings of one of these, or more: the same one, one with another final state, or a word
+/// of it.
+fn echo(r: &mut Random, these: &[&Rule]) -> Rule {
+    let of = *r.pick(these);
+    let mut rule = of.clone();
+    match r.below(4) {
+        0 | 1 => {}
+        2 => {
+            let state = r.pick(&rule.moves).3;
+            if rule.finals.contains(&state) {
+                rule.finals.retain(|s| *s != state);
+            } else if state != rule.start && state != rule.error {
+                rule.finals.push(state);
+            }
+        }
+        _ => {
+            if let Some(word) = of.word(r, 5) {
+                rule = empty_rule();
+                rule.moves = (0..).zip(&word).map(|(i, &b)| (i, b, b, i + 1)).collect();
+                rule.finals.push(word.len() as u16);
+                rule.error = word.len() as u16 + 1;
+                rule.kind = of.kind;
+            }
+        }
+    }
+    rule
+}
+
 fn empty_rule() -> Rule {
     Rule { tag: 0, kind: 0, start: 0, error: 0, finals: Vec::new(), moves: Vec::new() }
 }
@@ -256,25 +284,25 @@ const EDGES: [std::ops::Range<u16>; 3] = [0..8, 248..264, 4_080..4_096];
 /// Renames the states at random: below 256, around the edges, or to any.
 fn rename(r: &mut Random, rule: &Rule) -> Rule {
     let edges: Vec<u16> = EDGES.into_iter().flatten().collect();
-    let highest = rule.parts().into_iter().flat_map(Command::states).max().expect("it has a start");
-    let choice = match highest {
-        0..=31 => r.below(4),
-        32..=255 => *r.pick(&[0, 3]),
+    let states: BTreeSet<u16> = rule.parts().into_iter().flat_map(Command::states).collect();
+    let choice = match states.len() {
+        0..=32 => r.below(4),
+        33..=256 => *r.pick(&[0, 3]),
         _ => 3,
     };
     let mut taken = BTreeSet::new();
-    let mut names = Vec::new();
-    while names.len() <= highest as usize {
+    let mut name = || loop {
         let name = match choice {
             0 | 1 => r.below(256) as u16,
             2 => *r.pick(&edges),
             _ => r.from(0, paper::LAST_STATE as usize) as u16,
         };
         if taken.insert(name) {
-            names.push(name);
+            break name;
         }
-    }
-    rule.clone().renamed(|s| names[s as usize])
+    };
+    let names: BTreeMap<u16, u16> = states.into_iter().map(|state| (state, name())).collect();
+    rule.clone().renamed(|s| names[&s])
 }
 
 /// Gives a rule a tag that no other has; then its states have other names, its moves another order, a final state is named twice.
@@ -298,19 +326,27 @@ fn finish(r: &mut Random, rule: &mut Rule, others: &[Rule]) {
 /// A book that is accepted, and what its texts are made of.
 pub fn book(r: &mut Random) -> (Book, Alphabet) {
     let alphabet = Alphabet::random(r);
-    let count = if r.once_in(40) { r.from(28, 32) } else { r.from(2, 6) - r.once_in(4) as usize };
+    // once in how many times a rule is like an earlier one of its kind; where that is 0, all are the same
+    let (count, echoes) = if r.once_in(40) {
+        (*r.pick(&[9, 17, 25, 30, 31, 32, 32, 32]), *r.pick(&[0, 1, 2, 8]))
+    } else {
+        (r.from(2, 6) - r.once_in(4) as usize, 4)
+    };
     // most books have both kinds
     let separator = if r.once_in(8) { count } else { r.below(count) };
     let mut rules: Vec<Rule> = Vec::new();
     for k in 0..count {
         let kind = (k == separator || r.once_in(5)) as u8;
         let letters = alphabet.of(kind);
+        let before: Vec<&Rule> = rules.iter().filter(|other| other.kind == kind && !other.moves.is_empty()).collect();
         let mut rule = match r.below(4) {
+            _ if echoes == 0 && k > 0 => rules[0].clone(),
+            _ if echoes > 0 && !before.is_empty() && r.once_in(echoes) => echo(r, &before),
             0 | 1 => words_rule(r, &letters),
             2 => wild_rule(r, &letters),
             _ => run_rule(r, &letters),
         };
-        rule.kind = kind;
+        rule.kind = if echoes == 0 && k > 0 { rules[0].kind } else { kind };
         finish(r, &mut rule, &rules);
         rules.push(rule);
     }
@@ -425,7 +461,13 @@ fn large_book(r: &mut Random) -> (Book, Alphabet) {
         let kind = (k % 2) as u8;
         let (letters, strange) = (alphabet.of(kind), alphabet.of(1 - kind));
         let run = most < paper::RULE_MOVES || (k < 2 && r.once_in(2));
-        let mut rule = if run { run_rule(r, &letters) } else { large_rule(r, &letters, &strange) };
+        let fits = |other: &&Rule| other.kind == kind && (1..most).contains(&other.moves.len());
+        let before: Vec<&Rule> = rules.iter().filter(fits).collect();
+        let mut rule = match r.below(2) {
+            0 if !before.is_empty() => echo(r, &before),
+            _ if run => run_rule(r, &letters),
+            _ => large_rule(r, &letters, &strange),
+        };
         rule.kind = kind;
         most -= rule.moves.len();
         finish(r, &mut rule, &rules);
@@ -649,6 +691,14 @@ fn put(r: &mut Random, pool: &mut Vec<u8>, tag: u16, word: &[u8]) -> Record {
     Record { tag, place, length: word.len() as u32 }
 }
 
+/// The tag that a word has when it is cut alone; where it has none, and now and then, that of a rule that matches it.
+fn tag_alone(r: &mut Random, book: &[u8], word: &[u8], rule: u16) -> u16 {
+    match paper::cut(book, word).tokens[..] {
+        [only] if only.length as usize == word.len() && !r.once_in(30) => only.tag,
+        _ => rule,
+    }
+}
+
 /// A list for the printers. `plain`: only tokens of plain rules, where there are any.
 pub fn list(r: &mut Random, book: &Book, bytes: &[u8], alphabet: &Alphabet, longest: usize, plain: bool) -> List {
     let mut list = if r.once_in(2) {
@@ -667,11 +717,7 @@ pub fn list(r: &mut Random, book: &Book, bytes: &[u8], alphabet: &Alphabet, long
                 continue;
             }
             if let Some(word) = rule.word(r, 8) {
-                // the tag that the word has when it is cut alone
-                let tag = match paper::cut(bytes, &word).tokens[..] {
-                    [only] if only.length as usize == word.len() && !r.once_in(30) => only.tag,
-                    _ => rule.tag,
-                };
+                let tag = tag_alone(r, bytes, &word, rule.tag);
                 let token = put(r, &mut list.pool, tag, &word);
                 list.tokens.push(token);
             }
@@ -681,7 +727,7 @@ pub fn list(r: &mut Random, book: &Book, bytes: &[u8], alphabet: &Alphabet, long
     if r.once_in(3) {
         rearrange(r, &mut list.tokens);
     }
-    separator_of(r, book, &mut list);
+    separator_of(r, book, bytes, &mut list);
     if r.once_in(5) {
         spoil(r, book, &mut list);
     }
@@ -707,7 +753,7 @@ fn rearrange(r: &mut Random, tokens: &mut Vec<Record>) {
     }
 }
 
-fn separator_of(r: &mut Random, book: &Book, list: &mut List) {
+fn separator_of(r: &mut Random, book: &Book, bytes: &[u8], list: &mut List) {
     let kind = if r.once_in(12) { 0 } else { 1 };
     let rules: Vec<&Rule> = book.rules.iter().filter(|rule| rule.kind == kind).collect();
     if rules.is_empty() {
@@ -716,7 +762,8 @@ fn separator_of(r: &mut Random, book: &Book, list: &mut List) {
     for _ in 0..6 {
         let rule = r.pick(&rules);
         if let Some(word) = rule.word(r, 3) {
-            list.separator = put(r, &mut list.pool, rule.tag, &word);
+            let tag = tag_alone(r, bytes, &word, rule.tag);
+            list.separator = put(r, &mut list.pool, tag, &word);
             return;
         }
     }
@@ -759,23 +806,62 @@ fn room(r: &mut Random, need: usize) -> usize {
     }
 }
 
-/// The call with room as it comes: its answer tells the need, around which the room is then chosen.
-fn with_room(r: &mut Random, mut call: Call, records: bool) -> Call {
-    let answer = Answer(calls::expected(&call).answer);
-    let need = if answer.number() == 0 { answer.first() as usize } else { answer.place().min(9) as usize };
-    if records {
-        let leftover = if r.once_in(3) { r.from(0, 9) } else { 0 };
-        call.records = {
-            let n = room(r, need) * paper::RECORD_BYTES + leftover;
-            r.bytes(n)
-        };
+/// What a call that has all the room there may be needs of it; where it is refused, a few.
+fn need(call: &Call) -> usize {
+    let answer = Answer(calls::expected(call).answer);
+    if answer.number() == 0 {
+        answer.first() as usize
     } else {
-        call.out = {
-            let n = room(r, need);
-            r.bytes(n)
-        };
+        answer.place().min(9) as usize
     }
-    call
+}
+
+/// The call of a printer with an output around the need.
+fn with_output(r: &mut Random, call: Call) -> Call {
+    let length = room(r, need(&call));
+    Call { out: r.bytes(length), ..call }
+}
+
+/// Room for at least so many tokens: just enough, about one for each byte of the text, or more than that.
+fn enough(r: &mut Random, need: usize, text: usize) -> usize {
+    match r.below(8) {
+        0..=2 => need,
+        3 => need + 1,
+        4 => need.max((text + r.below(3)).saturating_sub(1)),
+        5 | 6 => need + r.from(0, 20),
+        _ => need + text + r.from(100, 400),
+    }
+}
+
+/// Room for fewer, where there are any: one too few, none, or any number of them.
+fn too_few(r: &mut Random, need: usize) -> usize {
+    match r.below(4) {
+        0 | 1 => need.saturating_sub(1),
+        2 => 0,
+        _ => r.below(need.max(1)),
+    }
+}
+
+/// The call of a cut with records and masks enough, or with too few of one or of both, and with bytes left over or not.
+fn with_tokens(r: &mut Random, call: Call) -> Call {
+    let (need, text) = (need(&call), call.text.len());
+    let (records, masks) = match r.below(10) {
+        0..=5 => (enough(r, need, text), enough(r, need, text)),
+        6 | 7 => (enough(r, need, text), too_few(r, need)),
+        8 => (too_few(r, need), enough(r, need, text)),
+        _ => (too_few(r, need), too_few(r, need)),
+    };
+    let mut lent = |count: usize, size: usize| {
+        let leftover = if r.once_in(3) { r.below(size) } else { 0 };
+        r.bytes(count * size + leftover)
+    };
+    let (records, masks) = (lent(records, paper::RECORD_BYTES), lent(masks, paper::MASK_BYTES));
+    Call { records, masks, ..call }
+}
+
+/// The bytes of records and of masks for a text that is all tokens of a byte.
+fn all_room(text: &[u8]) -> (Vec<u8>, Vec<u8>) {
+    (vec![0; text.len() * paper::RECORD_BYTES], vec![0; text.len() * paper::MASK_BYTES])
 }
 
 /// The rewriting of a book with so many of the rooms, of which one is just enough, and its stricter reading.
@@ -806,8 +892,8 @@ pub fn case(r: &mut Random) -> Vec<Call> {
     calls.extend(uses(r, (&rules, &sound, &alphabet), &bytes, longest, leftover));
 
     let sheet = sheet(r, longest);
-    let call = Call::lex_builtin(&sheet, vec![0; sheet.len() * paper::RECORD_BYTES]);
-    calls.push(with_room(r, call, true));
+    let (records, masks) = all_room(&sheet);
+    calls.push(with_tokens(r, Call::lex_builtin(&sheet, records, masks)));
 
     let index = if r.once_in(20) { r.next() as u32 } else { r.from(0, rules.rules.len()) as u32 };
     calls.push(Call::rule(&bytes, index));
@@ -817,7 +903,7 @@ pub fn case(r: &mut Random) -> Vec<Call> {
     let spaced = list(r, &rules, &bytes, &alphabet, 12, true);
     let call = spacing(r, &bytes, spaced, leftover);
     calls.extend(without_step(r, &bytes, 1));
-    calls.push(with_room(r, call, false));
+    calls.push(with_output(r, call));
 
     if r.once_in(100) {
         let bytes = long_book(r);
@@ -832,7 +918,7 @@ pub fn case(r: &mut Random) -> Vec<Call> {
     calls
 }
 
-/// Cutting, writing and writing with separators by the bytes of a book; texts and lists come from its sound form.
+/// Cutting twice, writing and writing with separators by the bytes of a book; texts and lists come from its sound form.
 fn uses(
     r: &mut Random,
     (rules, sound, alphabet): (&Book, &[u8], &Alphabet),
@@ -841,7 +927,8 @@ fn uses(
     leftover: usize,
 ) -> Vec<Call> {
     let text = text(r, rules, alphabet, longest);
-    let cut = Call::lex(bytes, &text, vec![0; text.len() * paper::RECORD_BYTES]);
+    let (records, masks) = all_room(&text);
+    let cut = Call::lex(bytes, &text, records, masks);
 
     let written = list(r, rules, sound, alphabet, longest, false);
     let mut records = bytes_of(&written.tokens);
@@ -851,7 +938,7 @@ fn uses(
     let only_plain = !r.once_in(6);
     let spaced = list(r, rules, sound, alphabet, longest, only_plain);
     let spaced = spacing(r, bytes, spaced, leftover);
-    vec![with_room(r, cut, true), with_room(r, print, false), with_room(r, spaced, false)]
+    vec![with_tokens(r, cut.clone()), with_tokens(r, cut), with_output(r, print), with_output(r, spaced)]
 }
 
 /// Writing with separators in some mode, with all the room there may be.

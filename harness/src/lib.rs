@@ -10,6 +10,7 @@ mod examples;
 mod fewest;
 mod generate;
 mod library;
+mod masks;
 mod plant;
 mod random;
 mod reference;
@@ -133,7 +134,7 @@ impl Run {
                 .iter()
                 .zip(ours.buffers.iter().zip(&second.buffers))
                 .find(|(_, (a, b))| a != b)
-                .map(|((name, _), _)| format!("{name} holds other bytes")),
+                .map(|((name, _), _)| format!("other bytes in {name}")),
         }
     }
 }

@@ -15,8 +15,17 @@ extern "C" {
         text_len: usize,
         records: *mut u8,
         records_len: usize,
+        masks: *mut u8,
+        masks_len: usize,
     ) -> u64;
-    fn zgv_lex_builtin(text: *const u8, text_len: usize, records: *mut u8, records_len: usize) -> u64;
+    fn zgv_lex_builtin(
+        text: *const u8,
+        text_len: usize,
+        records: *mut u8,
+        records_len: usize,
+        masks: *mut u8,
+        masks_len: usize,
+    ) -> u64;
     fn zgv_print(
         book: *const u8,
         book_len: usize,
@@ -165,8 +174,8 @@ impl Library {
                 Operation::ReadBookStrict => zgv_read_book_strict(p[0], n[0]),
                 Operation::RewriteBook => zgv_rewrite_book(p[0], n[0], p[1], n[1]),
                 Operation::Rule => zgv_rule(p[0], n[0], call.index),
-                Operation::Lex => zgv_lex(p[0], n[0], p[1], n[1], p[2], n[2]),
-                Operation::LexBuiltin => zgv_lex_builtin(p[0], n[0], p[1], n[1]),
+                Operation::Lex => zgv_lex(p[0], n[0], p[1], n[1], p[2], n[2], p[3], n[3]),
+                Operation::LexBuiltin => zgv_lex_builtin(p[0], n[0], p[1], n[1], p[2], n[2]),
                 Operation::Print => zgv_print(p[0], n[0], p[1], n[1], p[2], n[2], p[3], n[3]),
                 Operation::PrintSeparated => zgv_print_separated(
                     p[0], n[0], s.tag, s.place, s.length, call.mode, p[1], n[1], p[2], n[2], p[3], n[3],

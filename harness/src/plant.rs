@@ -1,7 +1,7 @@
 //! Faults between the harness and the library, to see that the harness finds them. The library itself is not changed: each
 //! fault alters what goes into a call or what comes out of it.
 
-use crate::calls::{Answer, Call, Operation, Outcome};
+use crate::calls::{Answer, Call, Operation, Outcome, BUILTIN};
 use crate::library::{Against, Library};
 use crate::reference::{self, Command, Reading, Width};
 use std::collections::BTreeSet;
@@ -10,7 +10,7 @@ use std::collections::BTreeSet;
 pub enum Fault {
     /// On a tie the latest rule wins.
     Tie,
-    /// 15 says one record more than was lent.
+    /// 15 says one token more than there was room for.
     Need,
     /// An accepted cut changes a byte past its last record.
     PastTheCount,
@@ -58,9 +58,29 @@ pub enum Fault {
     TwiceFirst,
     /// At the first state of two bytes that is final or left by a move, the final states that the rule has had are lost.
     Widening,
+    /// A mask has the bit of the winning rule alone.
+    WinnerAlone,
+    /// The last rule of the book is bit 0.
+    BitsTurned,
+    /// Rules that match a shorter beginning of the token have their bits too.
+    ShorterToo,
+    /// A mask has the bits of the tokens before it too.
+    BitsLeft,
+    /// The 32nd rule has no bit.
+    LastBit,
+    /// A mask is stored low byte first.
+    MaskTurned,
+    /// An accepted cut changes a byte past its last mask.
+    PastTheMasks,
+    /// 15 is forgotten where only the masks are too few.
+    MasksUncounted,
+    /// Leftover bytes count as a mask.
+    RoundedUp,
+    /// A cut that is refused by 15 leaves masks.
+    MasksTouched,
 }
 
-pub const FAULTS: [Fault; 25] = [
+pub const FAULTS: [Fault; 35] = [
     Fault::Tie,
     Fault::Need,
     Fault::PastTheCount,
@@ -86,6 +106,16 @@ pub const FAULTS: [Fault; 25] = [
     Fault::WidthsApart,
     Fault::TwiceFirst,
     Fault::Widening,
+    Fault::WinnerAlone,
+    Fault::BitsTurned,
+    Fault::ShorterToo,
+    Fault::BitsLeft,
+    Fault::LastBit,
+    Fault::MaskTurned,
+    Fault::PastTheMasks,
+    Fault::MasksUncounted,
+    Fault::RoundedUp,
+    Fault::MasksTouched,
 ];
 
 impl Fault {
@@ -116,6 +146,16 @@ impl Fault {
             Fault::WidthsApart => "widths-apart",
             Fault::TwiceFirst => "twice-first",
             Fault::Widening => "widening",
+            Fault::WinnerAlone => "winner-alone",
+            Fault::BitsTurned => "bits-turned",
+            Fault::ShorterToo => "shorter-too",
+            Fault::BitsLeft => "bits-left",
+            Fault::LastBit => "last-bit",
+            Fault::MaskTurned => "mask-turned",
+            Fault::PastTheMasks => "past-the-masks",
+            Fault::MasksUncounted => "masks-uncounted",
+            Fault::RoundedUp => "rounded-up",
+            Fault::MasksTouched => "masks-touched",
         }
     }
 
@@ -157,6 +197,16 @@ pub fn run(fault: Option<Fault>, library: &mut Library, call: &Call, against: Ag
         Fault::WidthsApart => by_other_book(library, call, against, sound, widths_apart)?,
         Fault::TwiceFirst => twice_first(call, sound),
         Fault::Widening => by_other_book(library, call, against, sound, widening)?,
+        Fault::WinnerAlone => masked(call, sound, |_, mask| mask & mask.wrapping_neg()),
+        Fault::BitsTurned => bits_turned(call, sound),
+        Fault::ShorterToo => shorter_too(library, call, against, sound)?,
+        Fault::BitsLeft => bits_left(call, sound),
+        Fault::LastBit => masked(call, sound, |_, mask| mask & !(1 << 31)),
+        Fault::MaskTurned => masked(call, sound, |_, mask| mask.swap_bytes()),
+        Fault::PastTheMasks => past_the_masks(call, sound),
+        Fault::MasksUncounted => too_few_masks(library, call, against, sound, |_, _| true)?,
+        Fault::RoundedUp => too_few_masks(library, call, against, sound, |masks, need| masks > 4 * (need - 1))?,
+        Fault::MasksTouched => masks_touched(library, call, against, sound)?,
     })
 }
 
@@ -168,7 +218,7 @@ fn is_print(call: &Call) -> bool {
     matches!(call.operation, Operation::Print | Operation::PrintSeparated)
 }
 
-/// The cut by the same rules in the opposite order.
+/// The cut by the same rules in the opposite order; which rules agree is the same.
 fn tie(library: &mut Library, call: &Call, against: Against, sound: Outcome) -> Result<Outcome, String> {
     if call.operation != Operation::Lex || reference::read_book(&call.book, Reading::Ordinary).is_err() {
         return Ok(sound);
@@ -178,12 +228,14 @@ fn tie(library: &mut Library, call: &Call, against: Against, sound: Outcome) -> 
     turned.book.push(reference::END);
     let mut outcome = library.run(&turned, against)?;
     outcome.buffers[0] = call.book.clone();
+    outcome.cut_mut().1.copy_from_slice(sound.cut().1);
     Ok(outcome)
 }
 
 fn need(call: &Call, mut outcome: Outcome) -> Outcome {
     if Answer(outcome.answer).number() == 15 {
-        outcome.answer = 15 << 56 | (call.records.len() / reference::RECORD_BYTES + 1) as u64;
+        let room = (call.records.len() / reference::RECORD_BYTES).min(call.masks.len() / reference::MASK_BYTES);
+        outcome.answer = 15 << 56 | (room + 1) as u64;
     }
     outcome
 }
@@ -191,7 +243,7 @@ fn need(call: &Call, mut outcome: Outcome) -> Outcome {
 fn past_the_count(call: &Call, mut outcome: Outcome) -> Outcome {
     let answer = Answer(outcome.answer);
     if is_cut(call) && answer.number() == 0 {
-        let records = outcome.buffers.last_mut().expect("records are lent last");
+        let records = outcome.cut_mut().0;
         if let Some(byte) = records.get_mut(answer.first() as usize * reference::RECORD_BYTES) {
             *byte ^= 1;
         }
@@ -511,4 +563,115 @@ fn widening(book: &[u8]) -> Vec<u8> {
     let mut bytes: Vec<u8> = all.iter().enumerate().flat_map(lost).collect();
     bytes.extend(&book[bytes.len()..]);
     bytes
+}
+
+/// An accepted cut with other masks, each made of its number and the mask that is due.
+fn masked(call: &Call, mut outcome: Outcome, mut other: impl FnMut(usize, u32) -> u32) -> Outcome {
+    let answer = Answer(outcome.answer);
+    if is_cut(call) && answer.number() == 0 {
+        let masks = outcome.cut_mut().1;
+        let due = reference::masks_of(masks).into_iter().take(answer.first() as usize).enumerate();
+        let stored: Vec<u8> = due.flat_map(|(i, mask)| other(i, mask).to_be_bytes()).collect();
+        masks[..stored.len()].copy_from_slice(&stored);
+    }
+    outcome
+}
+
+/// The rules of a cut that is accepted.
+fn rules_of(call: &Call) -> Vec<&[u8]> {
+    reference::rules(if call.operation == Operation::LexBuiltin { BUILTIN } else { &call.book })
+}
+
+fn bits_turned(call: &Call, sound: Outcome) -> Outcome {
+    let count = rules_of(call).len();
+    masked(call, sound, |_, mask| mask.reverse_bits() >> (reference::BOOK_RULES - count))
+}
+
+fn bits_left(call: &Call, sound: Outcome) -> Outcome {
+    let mut left = 0;
+    masked(call, sound, |_, mask| {
+        left |= mask;
+        left
+    })
+}
+
+/// Each rule is asked, as a book of its own, whether a cut of the token's bytes begins with a token.
+fn shorter_too(library: &mut Library, call: &Call, against: Against, sound: Outcome) -> Result<Outcome, String> {
+    let answer = Answer(sound.answer);
+    if !is_cut(call) || answer.number() != 0 {
+        return Ok(sound);
+    }
+    let mut masks = Vec::new();
+    for token in reference::records_of(sound.cut().0).into_iter().take(answer.first() as usize) {
+        let word = token.bytes(&call.text).expect("a token of the text");
+        let mut mask = 0;
+        for (k, rule) in rules_of(call).into_iter().enumerate() {
+            let alone = [rule, &[reference::END]].concat();
+            let (records, masks) = (vec![0; 10 * word.len()], vec![0; 4 * word.len()]);
+            let begun = library.run(&Call::lex(&alone, word, records, masks), against)?;
+            mask |= u32::from(Answer(begun.answer).first() > 0) << k;
+        }
+        masks.push(mask);
+    }
+    Ok(masked(call, sound, |i, _| masks[i]))
+}
+
+fn past_the_masks(call: &Call, mut outcome: Outcome) -> Outcome {
+    let answer = Answer(outcome.answer);
+    if is_cut(call) && answer.number() == 0 {
+        let masks = outcome.cut_mut().1;
+        if let Some(byte) = masks.get_mut(answer.first() as usize * reference::MASK_BYTES) {
+            *byte ^= 1;
+        }
+    }
+    outcome
+}
+
+/// The number of tokens that a cut is refused for by 15, and the cut with room for them.
+fn with_room(
+    library: &mut Library,
+    call: &Call,
+    against: Against,
+    sound: &Outcome,
+) -> Result<(usize, Outcome), String> {
+    let need = Answer(sound.answer).place() as usize;
+    let (records, masks) = (vec![0; need * reference::RECORD_BYTES], vec![0; need * reference::MASK_BYTES]);
+    Ok((need, library.run(&Call { records, masks, ..call.clone() }, against)?))
+}
+
+/// A cut that is accepted although there are too few masks; as many of their bytes as there is room for are stored.
+fn too_few_masks(
+    library: &mut Library,
+    call: &Call,
+    against: Against,
+    sound: Outcome,
+    accepts: fn(usize, usize) -> bool,
+) -> Result<Outcome, String> {
+    if Answer(sound.answer).number() != 15 {
+        return Ok(sound);
+    }
+    let (need, whole) = with_room(library, call, against, &sound)?;
+    if call.records.len() / reference::RECORD_BYTES < need || !accepts(call.masks.len(), need) {
+        return Ok(sound);
+    }
+    let mut outcome = Outcome { answer: whole.answer, ..sound };
+    let (records, masks) = outcome.cut_mut();
+    let (all_records, all_masks) = whole.cut();
+    records[..all_records.len()].copy_from_slice(all_records);
+    let fit = masks.len();
+    masks.copy_from_slice(&all_masks[..fit]);
+    Ok(outcome)
+}
+
+fn masks_touched(library: &mut Library, call: &Call, against: Against, sound: Outcome) -> Result<Outcome, String> {
+    if Answer(sound.answer).number() != 15 {
+        return Ok(sound);
+    }
+    let (_, whole) = with_room(library, call, against, &sound)?;
+    let mut outcome = sound;
+    let masks = outcome.cut_mut().1;
+    let stored = whole.cut().1;
+    let fit = (masks.len() / reference::MASK_BYTES * reference::MASK_BYTES).min(stored.len());
+    masks[..fit].copy_from_slice(&stored[..fit]);
+    Ok(outcome)
 }

@@ -13,6 +13,7 @@ pub const LAST_STATE: u16 = 4_095;
 pub const TEXT_BYTES: usize = 65_536;
 pub const LIST_TOKENS: usize = 65_536;
 pub const RECORD_BYTES: usize = 10;
+pub const MASK_BYTES: usize = 4;
 
 pub const RULE: u8 = 1;
 pub const START: u8 = 2;
@@ -74,6 +75,12 @@ impl Record {
 /// The list that a buffer holds: a record for every ten bytes of it.
 pub fn records_of(buffer: &[u8]) -> Vec<Record> {
     buffer.chunks_exact(RECORD_BYTES).map(Record::of_bytes).collect()
+}
+
+/// The masks that a buffer holds.
+pub fn masks_of(buffer: &[u8]) -> Vec<u32> {
+    let mask = |b: &[u8]| u32::from_be_bytes([b[0], b[1], b[2], b[3]]);
+    buffer.chunks_exact(MASK_BYTES).map(mask).collect()
 }
 
 // ---- The book
@@ -523,25 +530,34 @@ pub fn rewrite_book(book: &[u8], room: usize) -> Result<Vec<u8>, Refusal> {
 
 // ---- Cutting
 
-/// The tokens of a cut, and the place of the rest.
+/// The tokens of a cut with their masks, and the place of the rest.
 pub struct Cut {
     pub tokens: Vec<Record>,
+    pub masks: Vec<u32>,
     pub rest: usize,
+}
+
+/// The rules that match a word as a whole, the first of the book as bit 0. Each is asked on its own, once the word is known.
+fn agreeing(rules: &[Walker], word: &[u8]) -> u32 {
+    rules.iter().rev().fold(0, |mask, rule| mask << 1 | rule.matches(word) as u32)
 }
 
 pub fn cut(book: &[u8], text: &[u8]) -> Cut {
     let rules = rules(book);
     let walkers = walkers(&rules);
-    let mut tokens = Vec::new();
-    let mut rest = 0;
-    while let Some((rank, length)) = choose(&walkers, &text[rest..]) {
-        tokens.push(Record { tag: tag_of(rules[rank]), place: rest as u32, length: length as u32 });
-        rest += length;
+    let mut cut = Cut { tokens: Vec::new(), masks: Vec::new(), rest: 0 };
+    while let Some((rank, length)) = choose(&walkers, &text[cut.rest..]) {
+        let token = Record { tag: tag_of(rules[rank]), place: cut.rest as u32, length: length as u32 };
+        let mask = agreeing(&walkers, token.bytes(text).expect("it is in the text"));
+        assert_eq!(mask.trailing_zeros() as usize, rank, "the earliest rule that agrees gives the tag");
+        cut.tokens.push(token);
+        cut.masks.push(mask);
+        cut.rest += length;
     }
-    Cut { tokens, rest }
+    cut
 }
 
-/// Cutting with room for `room` records.
+/// Cutting with room for `room` records and masks.
 pub fn lex(book: &[u8], text: &[u8], room: usize) -> Result<Cut, Refusal> {
     read(book, Reading::Ordinary)?;
     if text.len() > TEXT_BYTES {

@@ -7,7 +7,8 @@ use std::time::{Duration, Instant};
 /// How long shrinking may take; what is smallest by then is shown.
 const PATIENCE: Duration = Duration::from_secs(5);
 
-/// Leaves out parts of the lent buffers as long as the difference stays: whole commands and records first, then bytes.
+/// Leaves out parts of the lent buffers as long as the difference stays: whole commands, records and masks first, then
+/// bytes.
 pub fn shrink(call: &Call, mut differs: impl FnMut(&Call) -> bool) -> Call {
     let end = Instant::now() + PATIENCE;
     let mut best = call.clone();
@@ -19,13 +20,14 @@ pub fn shrink(call: &Call, mut differs: impl FnMut(&Call) -> bool) -> Call {
                 shrink_buffer(&mut best, name, grain, end, &mut differs);
             }
         }
+        shrink_tokens(&mut best, end, &mut differs);
         if best == before || Instant::now() > end {
             return best;
         }
     }
 }
 
-/// What is left out together: whole rules or commands of a book, whole records of a list, or single bytes.
+/// What is left out together: whole rules or commands of a book, whole records and masks, or single bytes.
 #[derive(Clone, Copy, PartialEq, Eq)]
 enum Grain {
     Rules,
@@ -41,7 +43,8 @@ fn pieces(name: &str, bytes: &[u8], grain: Grain) -> Vec<Vec<u8>> {
         let size = match (name, grain) {
             (_, Grain::Bytes) => 1,
             ("book", _) => 1 + [0, 3, 1, 1, 1, 3, 4, 0, 0, 2, 2, 2, 6].get(bytes[at] as usize).unwrap_or(&0),
-            ("records", _) => 10,
+            ("records", _) => reference::RECORD_BYTES,
+            ("masks", _) => reference::MASK_BYTES,
             _ => 1,
         };
         let piece = &bytes[at..(at + size).min(bytes.len())];
@@ -78,6 +81,21 @@ fn shrink_buffer(best: &mut Call, name: &str, grain: Grain, end: Instant, differ
             }
         }
         run /= 2;
+    }
+}
+
+/// Of a cut: a byte of the text and a mask together, which may be a token less.
+fn shrink_tokens(best: &mut Call, end: Instant, differs: &mut impl FnMut(&Call) -> bool) {
+    for last in [true, false] {
+        while !best.text.is_empty() && best.masks.len() >= reference::MASK_BYTES && Instant::now() <= end {
+            let mut smaller = best.clone();
+            smaller.text.remove(if last { best.text.len() - 1 } else { 0 });
+            smaller.masks.drain(..reference::MASK_BYTES);
+            if !differs(&smaller) {
+                break;
+            }
+            *best = smaller;
+        }
     }
 }
 

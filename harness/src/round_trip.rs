@@ -25,10 +25,11 @@ pub fn given(call: &Call) -> Vec<Token<'_>> {
 
 /// How the library answers when it cuts a text by the book of a printer's call, and the tokens without separators.
 pub fn cut<'a>(library: &mut Library, call: &Call, text: &'a [u8]) -> Option<(Answer, Vec<Token<'a>>)> {
-    let cut = library.run(&Call::lex(&call.book, text, vec![0; text.len() * 10]), Against::Back).ok()?;
+    let lent = Call::lex(&call.book, text, vec![0; text.len() * 10], vec![0; text.len() * 4]);
+    let cut = library.run(&lent, Against::Back).ok()?;
     let answer = Answer(cut.answer);
     let dropped = separators(call);
-    let tokens = reference::records_of(&cut.buffers[2][..answer.first() as usize * 10]);
+    let tokens = reference::records_of(&cut.cut().0[..answer.first() as usize * 10]);
     let kept = tokens.into_iter().filter(|t| !dropped.contains(&t.tag)).map(|t| (t.tag, t.bytes(text))).collect();
     (answer.number() == 0).then_some((answer, kept))
 }

@@ -2,7 +2,7 @@
 //! it is said here what its reading answers, and of each text how it is cut.
 
 use crate::calls::{accepted, expected, refused, Answer, Call};
-use crate::edges::{book, letter, record, Add};
+use crate::edges::{self, book, letter, record, Add};
 use crate::generate::{bytes_of, Book, Rule};
 use crate::random::Random;
 use crate::reference::{self as paper, Command, Record, Refusal, Width, LAST_STATE, RULE_MOVES};
@@ -96,7 +96,7 @@ fn add_cut(add: Add, name: &str, book: &[u8], text: &[u8], said: &[(u16, usize)]
     let cut = paper::cut(book, text);
     let tokens: Vec<(u16, usize)> = cut.tokens.iter().map(|t| (t.tag, t.length as usize)).collect();
     assert!(tokens == said, "{name}: {} tokens, {} wanted", tokens.len(), said.len());
-    add(name, Call::lex(book, text, vec![0xEE; (said.len() + 1) * paper::RECORD_BYTES]));
+    add(name, edges::cut(book, text, said.len() + 1));
 }
 
 /// Each number in each operand alone, and as the name of a state wherever that is named.
@@ -439,7 +439,7 @@ fn switches(add: Add) {
         let list = bytes_of(&tokens);
         let blank = record(2, 3, 2);
         let mut all = vec![
-            Call::lex(bytes, text, vec![0xEE; 110]),
+            edges::cut(bytes, text, 11),
             Call::print(bytes, bytes_of(&tokens[..3]), pool, vec![0xEE; 9]),
             Call::print(bytes, bytes_of(&tokens[2..]), pool, vec![0xEE; 9]),
         ];

@@ -6,7 +6,7 @@ use Rattle.automaton.specs.Rule.{overlaps}
 use Rattle.command.specs.Commands.{commandAt, retired, decode, operandsOf, placed}
 use Rattle.book.specs.Draft.{apply, move, check}
 use Rattle.reader.specs.Reading.{readBy, readBook, readFrom, accepted}
-use Rattle.lexer.specs.Outcome.{lexRules, lexOutcome}
+use Rattle.lexer.specs.Masked.{maskedRules, maskedOutcome}
 use Rattle.builtin.specs.Book.{builtinBytes, builtinRules, timestamp, word, blanks, newline, bracket}
 
 pub read-builtin : readBook builtinBytes ≡ accepted builtinRules
@@ -15,6 +15,7 @@ unfolding readBy readFrom commandAt retired decode operandsOf placed apply move 
 read-builtin = refl
 
 -- so lexing by its bytes is lexing by its rules
-pub builtin-outcome : (text records : List ℕ) → lexOutcome builtinBytes text records ≡ lexRules builtinRules text records
-unfolding lexOutcome
-builtin-outcome text records = rw read-builtin
+pub builtin-outcome : (text records masks : List ℕ)
+    → maskedOutcome builtinBytes text records masks ≡ maskedRules builtinRules text records masks
+unfolding maskedOutcome
+builtin-outcome text records masks = rw read-builtin

@@ -15,9 +15,10 @@ use Rattle.automaton.proofs.Tests.{and-true, clash}
 use Rattle.builtin.specs.Book.{builtinRules, timestamp, word, blanks, newline, bracket}
 use Rattle.builtin.specs.Classes.{classAt}
 use Rattle.builtin.specs.Contracts.{State, dead, start, accepting, stateTable, statesOf, nextTable, nextState, tagTable, tagAt}
+use Rattle.builtin.specs.Contracts.{maskTable, maskAt}
 use Rattle.builtin.proofs.Tests.{entries, entry}
 use Rattle.builtin.proofs.Alike.{classBytes, byteOf, class-below, by-class}
-use Rattle.builtin.proofs.Product.{walks, steps, firstFinal, tagged, Joins}
+use Rattle.builtin.proofs.Product.{walks, steps, firstFinal, finalMask, tagged, Joins}
 
 -- ---- equal lists and options, as tests
 
@@ -63,12 +64,16 @@ leads s qs c b = isState (getD nextTable (s + c) 0) && sameList (statesOf (getD 
 abbrev tells : ℕ → List ℕ → Bool
 tells s qs = sameOption (firstFinal builtinRules qs) (tagged (tagAt s)) && if (leb accepting s) (ltb 0 (tagAt s)) (eqb (tagAt s) 0)
 
+-- the mask is that of all rules that match here
+abbrev agrees : ℕ → List ℕ → Bool
+agrees s qs = eqb (maskAt s) (finalMask builtinRules qs)
+
 abbrev right : ℕ → List ℕ → Bool
-right s qs = tells s qs && entries (leads s qs) 0 classBytes
+right s qs = tells s qs && (agrees s qs && entries (leads s qs) 0 classBytes)
 
 -- at every state, counted by rows
 test : entries (λ k qs. right (k * 16) qs) 0 stateTable ≡ true
-unfolding stateTable nextTable tagTable classBytes target builtinRules timestamp word blanks newline bracket
+unfolding stateTable nextTable tagTable maskTable classBytes target builtinRules timestamp word blanks newline bracket
 test = refl
 
 count : length stateTable ≡ 16
@@ -91,22 +96,15 @@ module _ (s : ℕ) (l : State s) where
   pub passes : s < accepting → tagAt s ≡ 0
   passes h = eqb-true _ _ (rw (lt-leb accepting s h) at (told .1))
 
+  behind : (agrees s (statesOf s) ≡ true) × (entries (leads s (statesOf s)) 0 classBytes ≡ true)
+  behind = and-true _ _ ((and-true (tells s (statesOf s)) _ holds) .1)
+
+  pub mask-is : maskAt s ≡ finalMask builtinRules (statesOf s)
+  mask-is = eqb-true _ _ (behind .0)
+
   led : (b : ℕ) → b < 256 → (isState (nextState s b) ≡ true)
       × (sameList (statesOf (nextState s b)) (steps builtinRules (statesOf s) (byteOf (classAt b))) ≡ true)
-  led b m = and-true _ _ (entry (leads s (statesOf s)) 0 classBytes ((and-true (tells s (statesOf s)) _ holds) .1) (classAt b)
-      (class-below b m))
-
--- a tag fits a byte
-small : entries (λ s t. ltb t 256) 0 tagTable ≡ true
-unfolding tagTable
-small = refl
-
-count-tags : length tagTable ≡ 16
-unfolding tagTable
-count-tags = refl
-
-pub tag-below : (s : ℕ) → State s → tagAt s < 256
-tag-below s l = ltb-true _ _ (entry (λ k t. ltb t 256) 0 tagTable small (s / 16) (rw count-tags (omega (arith, l .below))))
+  led b m = and-true _ _ (entry (leads s (statesOf s)) 0 classBytes (behind .1) (classAt b) (class-below b m))
 
 -- ---- every byte
 

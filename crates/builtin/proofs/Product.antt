@@ -3,7 +3,7 @@
 use mathlib.Core.Path.{_≡_, refl, sym, _∙_, ap}
 use mathlib.Core.Option.{Option, none, some}
 use mathlib.Core.List.{List, [], _∷_}
-use Prim.Native.Nat.{ℕ, zero, suc, _+_, _-_, _<_, _≤_}
+use Prim.Native.Nat.{ℕ, zero, suc, _+_, _-_, _*_, _<_, _≤_}
 use native.Mathlib.Nat.{zero-add, suc-add}
 use native.Mathlib.Numerals.{add-one}
 use native.Mathlib.Omega.{arith}
@@ -12,6 +12,7 @@ use Rattle.automaton.specs.Choice.{if, among}
 use Rattle.automaton.specs.Rule.{Rule, step, walk, matches}
 use Rattle.automaton.proofs.Walks.{walk-more}
 use Rattle.longest_match.specs.Lexer.{Found, or, found, firstMatch, chooseWithin, choose}
+use Rattle.longest_match.specs.Masks.{bit, agreeing}
 use Rattle.longest_match.specs.Contracts.{front}
 
 -- ---- the rules together
@@ -32,6 +33,12 @@ firstFinal [] qs = none
 firstFinal (r ∷ rs) [] = none
 firstFinal (r ∷ rs) (q ∷ qs) = if (among q r.finals) (some r.tag) (firstFinal rs qs)
 
+-- the mask of those that are in a final state
+abbrev pub finalMask : List Rule → List ℕ → ℕ
+finalMask [] qs = 0
+finalMask (r ∷ rs) [] = 0
+finalMask (r ∷ rs) (q ∷ qs) = bit (among q r.finals) + 2 * finalMask rs qs
+
 walks-more : (rules : List Rule) (t : List ℕ) (n : ℕ) → n < length t
     → walks rules (take (suc n) t) ≡ steps rules (walks rules (take n t)) (getD t n 0)
 walks-more [] t n l = refl
@@ -41,6 +48,11 @@ first-walks : (rules : List Rule) (w : List ℕ) → firstMatch rules w ≡ firs
 unfolding firstMatch matches
 first-walks [] w = refl
 first-walks (r ∷ rs) w = rw (first-walks rs w)
+
+pub agreeing-walks : (rules : List Rule) (w : List ℕ) → agreeing rules w ≡ finalMask rules (walks rules w)
+unfolding agreeing matches
+agreeing-walks [] w = refl
+agreeing-walks (r ∷ rs) w = rw (agreeing-walks rs w)
 
 -- ---- tags, 0 for none
 
@@ -80,6 +92,7 @@ pub record Scan (rules : List Rule) (State : ℕ → Type 0) (states : ℕ → L
   pub reached : len ≤ i
   pub idle : len ≡ 0 → tag last ≡ 0
   pub taken : 0 < len → 0 < tag last
+  pub there : 0 < len → states last ≡ walks rules (take len text)
   pub most : chooseWithin rules text i ≡ found (tagged (tag last)) (take len text) (drop len text)
 
 module _ {rules : List Rule} {State : ℕ → Type 0} {states : ℕ → List ℕ} {next : ℕ → ℕ → ℕ} {tag : ℕ → ℕ} {start dead : ℕ}
@@ -94,6 +107,7 @@ module _ {rules : List Rule} {State : ℕ → Type 0} {states : ℕ → List ℕ
     reached = omega arith;
     idle = λ e. joins .untagged;
     taken = λ p. absurd (omega arith);
+    there = λ p. absurd (omega arith);
     most = rw (joins .untagged);
   }
 
@@ -141,6 +155,7 @@ module _ {rules : List Rule} {State : ℕ → Type 0} {states : ℕ → List ℕ
       reached = omega arith;
       idle = λ z. absurd (omega arith);
       taken = λ q. p;
+      there = λ q. here;
       most = more-yes text s₁ i reaches here p;
     })
 
@@ -153,6 +168,7 @@ module _ {rules : List Rule} {State : ℕ → Type 0} {states : ℕ → List ℕ
       reached = omega (arith, w .reached);
       idle = w .idle;
       taken = w .taken;
+      there = w .there;
       most = more-no text s₁ i reaches here z ∙ w .most;
     })
 

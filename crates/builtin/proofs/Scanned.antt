@@ -13,13 +13,13 @@ use Rattle.automaton.specs.Rule.{Rule, matches}
 use Rattle.automaton.specs.Contracts.{blank, ruleAt}
 use Rattle.automaton.proofs.Tests.{all-at}
 use Rattle.longest_match.specs.Lexer.{choose, found}
-use Rattle.longest_match.specs.Contracts.{front, Chooses}
+use Rattle.longest_match.specs.Contracts.{front, Chooses, Agrees}
 use Rattle.longest_match.proofs.First.{Earliest}
 use Rattle.longest_match.proofs.Choosing.{choose-some}
 use Rattle.builtin.specs.Book.{builtinRules}
-use Rattle.builtin.specs.Contracts.{Scanned, Stays, State, statesOf, nextState, tagAt, dead, start, accepting}
-use Rattle.builtin.proofs.Product.{Scan, tagged, found-front, scan-start, scan-accept, scan-pass, scan-dead, scan-end}
-use Rattle.builtin.proofs.Joined.{joined, accepts, passes}
+use Rattle.builtin.specs.Contracts.{Scanned, Stays, State, statesOf, nextState, tagAt, maskAt, dead, start, accepting}
+use Rattle.builtin.proofs.Product.{Scan, finalMask, agreeing-walks, tagged, found-front, scan-start, scan-accept, scan-pass, scan-dead, scan-end}
+use Rattle.builtin.proofs.Joined.{joined, accepts, passes, mask-is}
 
 -- ---- the walk over the built-in tables
 
@@ -71,18 +71,21 @@ stays-more {s} {from} {i} {text} w l e =
     }
 
 settled : {text : List ℕ} {s last len i : ℕ} → Walked text s last len i
-    → choose builtinRules text ≡ found (tagged (tagAt last)) (take len text) (drop len text) → Scanned text (tagAt last) len
+    → choose builtinRules text ≡ found (tagged (tagAt last)) (take len text) (drop len text) → Scanned text last len
 settled {text} {last = last} {len = len} w e = record {
+  known = w .known;
   within = omega (arith, w .within, w .reached);
   nothing = λ z. e ∙ rw (w .idle z);
   chosen = λ p. e ∙ found-front (tagAt last) len text (w .taken p);
+  agreed = λ p.
+      mask-is last (w .known) ∙ ap (finalMask builtinRules) (w .there p) ∙ sym (agreeing-walks builtinRules (take len text));
 }
 
-pub scanned-end : {text : List ℕ} {s last len i : ℕ} → Walked text s last len i → length text ≤ i → Scanned text (tagAt last) len
+pub scanned-end : {text : List ℕ} {s last len i : ℕ} → Walked text s last len i → length text ≤ i → Scanned text last len
 scanned-end w l = settled w (scan-end joined w l)
 
 pub scanned-dead : {text : List ℕ} {s last len i s₁ : ℕ} → Walked text s last len i → i < length text → getD text i 0 < 256
-    → s₁ ≡ nextState s (getD text i 0) → s₁ ≡ dead → Scanned text (tagAt last) len
+    → s₁ ≡ nextState s (getD text i 0) → s₁ ≡ dead → Scanned text last len
 scanned-dead w l b e z = settled w (scan-dead joined w l b e z)
 
 -- ---- the rule
@@ -124,8 +127,8 @@ module _ (rules : List Rule) (text : List ℕ) (tag len : ℕ) (p : 0 < len) (wi
     names = λ q. named;
   }
 
-pub picked : {text : List ℕ} {tag len : ℕ} → Scanned text tag len → Picked builtinRules text tag len
-picked {text} {tag} {len = zero} s = record {
+pub picked : {text : List ℕ} {last len : ℕ} → Scanned text last len → Picked builtinRules text (tagAt last) len
+picked {text} {last} {len = zero} s = record {
   rule = 0;
   chooses = record {
     within = s .within;
@@ -138,7 +141,11 @@ picked {text} {tag} {len = zero} s = record {
   };
   names = λ q. absurd (omega arith);
 }
-picked {text} {tag} {len = suc n} s =
+picked {text} {last} {len = suc n} s =
     let e = s .chosen (omega arith) in
-    picked-some builtinRules text tag (suc n) (omega arith) (s .within) e
-    ((choose-some builtinRules text (front tag (suc n) text) e) .earliest)
+    picked-some builtinRules text (tagAt last) (suc n) (omega arith) (s .within) e
+    ((choose-some builtinRules text (front (tagAt last) (suc n) text) e) .earliest)
+
+-- the mask of the state behind the token is that of the rules that agree on it
+pub agrees : {text : List ℕ} {last len : ℕ} → Scanned text last len → 0 < len → Agrees builtinRules text len (maskAt last)
+agrees s p = record { empty = λ z. absurd (omega arith); agreed = s .agreed }

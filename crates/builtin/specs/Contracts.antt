@@ -5,8 +5,9 @@ use mathlib.Core.Path.{_≡_}
 use mathlib.Core.List.{List, [], _∷_}
 use mathlib.Core.Option.{none, some}
 use Prim.Native.Nat.{ℕ, _+_, _/_, _%_, _<_, _≤_}
-use lib.ListN.{length, getD}
+use lib.ListN.{length, getD, take}
 use Rattle.longest_match.specs.Lexer.{choose}
+use Rattle.longest_match.specs.Masks.{agreeing}
 use Rattle.longest_match.specs.Contracts.{front}
 use Rattle.builtin.specs.Book.{builtinRules}
 use Rattle.builtin.specs.Classes.{classTable, classAt}
@@ -95,11 +96,21 @@ tagTable = 0 ∷ 0 ∷ 0 ∷ 0 ∷ 0 ∷ 0 ∷ 0 ∷ 0 ∷ 0 ∷ 0 ∷ 5 ∷ 5 �
 abbrev pub tagAt : ℕ → ℕ
 tagAt s = getD tagTable (s / 16) 0
 
--- the tables as they are lent
-pub record Lent (classes next tags : List ℕ) : Type 0 where
+-- the mask of the rules that match what is read; no two of them ever do
+unfoldable pub maskTable : List ℕ
+maskTable = 0 ∷ 0 ∷ 0 ∷ 0 ∷ 0 ∷ 0 ∷ 0 ∷ 0 ∷ 0 ∷ 0 ∷ 16 ∷ 16 ∷ 2 ∷ 4 ∷ 8 ∷ 1 ∷ []
+
+abbrev pub maskAt : ℕ → ℕ
+maskAt s = getD maskTable (s / 16) 0
+
+-- the tables as they are lent: those of the walk, and those of what a state stands for
+pub record Lent (classes next : List ℕ) : Type 0 where
   pub classes-are : classes ≡ classTable
   pub next-are : next ≡ nextTable
+
+pub record Told (tags masks : List ℕ) : Type 0 where
   pub tags-are : tags ≡ tagTable
+  pub masks-are : masks ≡ maskTable
 
 -- each byte of a text from one place up to another leads from s back to s
 pub record Stays (s : ℕ) (text : List ℕ) (from to : ℕ) : Type 0 where
@@ -107,8 +118,11 @@ pub record Stays (s : ℕ) (text : List ℕ) (from to : ℕ) : Type 0 where
   pub within : to ≤ length text
   pub same : (k : ℕ) → from ≤ k → k < to → nextState s (getD text k 0) ≡ s
 
--- The longest token at the front of a text has this tag and so many bytes; none where there are 0.
-pub record Scanned (text : List ℕ) (tag len : ℕ) : Type 0 where
+-- The longest token at the front of a text has so many bytes, and s is the state behind them, which has its tag and its mask; none where
+-- there are 0.
+pub record Scanned (text : List ℕ) (s len : ℕ) : Type 0 where
+  pub known : State s
   pub within : len ≤ length text
   pub nothing : len ≡ 0 → choose builtinRules text ≡ none
-  pub chosen : 0 < len → choose builtinRules text ≡ some (front tag len text)
+  pub chosen : 0 < len → choose builtinRules text ≡ some (front (tagAt s) len text)
+  pub agreed : 0 < len → maskAt s ≡ agreeing builtinRules (take len text)

@@ -1,9 +1,9 @@
 // One automaton for all five rules of the built-in book of document 01, by byte classes: one table step a byte.
 ghost use mathlib.Core.Path.{_≡_};
-ghost use Prim.Native.Nat.{_≤_};
-ghost use lib.ListN.{length, drop};
+ghost use Prim.Native.Nat.{_/_, _≤_};
+ghost use lib.ListN.{length, getD, drop};
 ghost use Rattle.builtin.specs.Classes.{classTable};
-ghost use Rattle.builtin.specs.Contracts.{State, nextTable, tagTable, nextState, tagAt, Lent, Stays, Scanned};
+ghost use Rattle.builtin.specs.Contracts.{State, nextTable, nextState, Lent, Stays, Scanned};
 
 // States of the automaton: from the first no byte leads to a match, in the second nothing is read, and from the third on
 // some rule matches what is read. A state is the place of its row in the table of next states.
@@ -13,9 +13,9 @@ const START: usize = 16;
 
 const ACCEPTING: usize = 160;
 
-// What stands at the front of a text: a token's tag and how many bytes it takes, 0 for none.
+// What stands at the front of a text: the state behind a token, and how many bytes it takes, 0 for none.
 pub struct Match {
-    pub tag: u64,
+    pub state: usize,
     pub len: usize,
 }
 
@@ -28,15 +28,12 @@ fn step(classes: &[u8; 256], next: &[u8; 256], s: usize, byte: u8) -> usize
     next[s + (class as usize)] as usize
 }
 
-fn found(tags: &[u8; 16], s: usize, len: usize) -> Match
-    requires { ⌜ (now tags ≡ tagTable) × State s ⌝ }
-    ensures { λ r. ⌜ (r .tag ≡ tagAt s) × (r .len ≡ len) ⌝ }
+// What a table with an entry for each state has for state `s`.
+pub fn entry(table: &[u8; 16], s: usize) -> u8
+    requires { ⌜ State s ⌝ }
+    ensures { λ r. ⌜ r ≡ getD (now (table .entry)) (s / 16) 0 ⌝ }
 {
-    let tag = tags[s / 16];
-    Match {
-        tag: tag as u64,
-        len,
-    }
+    table[s / 16]
 }
 
 // The first place from `from` on whose byte leads away from state `s`. No turn waits for the table step of the one before, which is
@@ -56,9 +53,9 @@ fn run(classes: &[u8; 256], next: &[u8; 256], s: usize, text: &[u8], from: usize
 }
 
 // The longest token at the front of `text`: the walk remembers the last state that accepts, and stops where no match can follow.
-fn scan(classes: &[u8; 256], next: &[u8; 256], tags: &[u8; 16], text: &[u8]) -> Match
-    requires { ⌜ Lent (now classes) (now next) (now tags) ⌝ }
-    ensures { λ r. ⌜ Scanned (now (text .entry)) (r .tag) (r .len) ⌝ }
+fn scan(classes: &[u8; 256], next: &[u8; 256], text: &[u8]) -> Match
+    requires { ⌜ Lent (now classes) (now next) ⌝ }
+    ensures { λ r. ⌜ Scanned (now (text .entry)) (r .state) (r .len) ⌝ }
 {
     let mut s = START;
     let mut last = DEAD;
@@ -67,7 +64,7 @@ fn scan(classes: &[u8; 256], next: &[u8; 256], tags: &[u8; 16], text: &[u8]) -> 
     while i < text.len() {
         s = step(classes, next, s, text[i]);
         if s == DEAD {
-            return found(tags, last, len);
+            return Match { state: last, len };
         }
         i += 1;
         if ACCEPTING <= s {
@@ -76,20 +73,14 @@ fn scan(classes: &[u8; 256], next: &[u8; 256], tags: &[u8; 16], text: &[u8]) -> 
             len = i;
         }
     }
-    found(tags, last, len)
+    Match { state: last, len }
 }
 
 // The same from a place of a text.
-pub fn scan_at(
-    classes: &[u8; 256],
-    next: &[u8; 256],
-    tags: &[u8; 16],
-    text: &[u8],
-    at: usize,
-) -> Match
-    requires { ⌜ Lent (now classes) (now next) (now tags) ⌝ }
+pub fn scan_at(classes: &[u8; 256], next: &[u8; 256], text: &[u8], at: usize) -> Match
+    requires { ⌜ Lent (now classes) (now next) ⌝ }
     requires { ⌜ at ≤ length (now text) ⌝ }
-    ensures { λ r. ⌜ Scanned (drop at (now (text .entry))) (r .tag) (r .len) ⌝ }
+    ensures { λ r. ⌜ Scanned (drop at (now (text .entry))) (r .state) (r .len) ⌝ }
 {
-    scan(classes, next, tags, &text[at..])
+    scan(classes, next, &text[at..])
 }

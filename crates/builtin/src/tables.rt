@@ -3,7 +3,7 @@
 // at every turn.
 ghost use mathlib.Core.Path.{_≡_};
 ghost use Rattle.builtin.specs.Classes.{classTable};
-ghost use Rattle.builtin.specs.Contracts.{nextTable, tagTable};
+ghost use Rattle.builtin.specs.Contracts.{nextTable, tagTable, maskTable};
 
 // The class of each byte.
 const CLASSES: [u8; 256] = [
@@ -560,6 +560,9 @@ const NEXT: [u8; 256] = [
 // The tag of the earliest rule that matches in each state, 0 for none.
 const TAGS: [u8; 16] = [0, 0, 0, 0, 0, 0, 0, 0, 0, 0, 5, 5, 2, 3, 4, 1];
 
+// The mask of the rules that match in each state, bit k for rule number k.
+const MASKS: [u8; 16] = [0, 0, 0, 0, 0, 0, 0, 0, 0, 0, 16, 16, 2, 4, 8, 1];
+
 pub fn classes() -> [u8; 256]
     ensures { λ r. ⌜ r ≡ classTable ⌝ }
 {
@@ -576,4 +579,10 @@ pub fn tags() -> [u8; 16]
     ensures { λ r. ⌜ r ≡ tagTable ⌝ }
 {
     TAGS
+}
+
+pub fn masks() -> [u8; 16]
+    ensures { λ r. ⌜ r ≡ maskTable ⌝ }
+{
+    MASKS
 }

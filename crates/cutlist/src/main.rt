@@ -2,6 +2,7 @@
 // each token and the rest, or one line for a refusal.
 use book::Book;
 use libc::STDOUT_FILENO;
+use listing::MASK_BYTES;
 use listing::OUTPUT_BYTES;
 use listing::RECORD_BYTES;
 ghost use Prim.Native.Nat.{_≤_};
@@ -17,28 +18,31 @@ fn main() {
     let mut book = [0u8; BOOK_BYTES];
     let mut text = [0u8; TEXT_BYTES];
     let mut records = [0u8; RECORD_BYTES];
+    let mut masks = [0u8; MASK_BYTES];
     let mut out = [0u8; OUTPUT_BYTES];
-    run(&mut book, &mut text, &mut records, &mut out);
+    run(&mut book, &mut text, &mut records, &mut masks, &mut out);
 }
 
 fn run(
     book: &mut [u8; BOOK_BYTES],
     text: &mut [u8; TEXT_BYTES],
     records: &mut [u8; RECORD_BYTES],
+    masks: &mut [u8; MASK_BYTES],
     out: &mut [u8; OUTPUT_BYTES],
 ) {
-    print_cut(book, text, records, out);
+    print_cut(book, text, records, masks, out);
 }
 
 fn print_cut(
     book: &mut [u8],
     text: &mut [u8],
     records: &mut [u8; RECORD_BYTES],
+    masks: &mut [u8; MASK_BYTES],
     out: &mut [u8; OUTPUT_BYTES],
 ) {
     let b = read_file(b"book.bin", book);
     let t = read_file(b"text.bin", text);
-    let n = listing::list(&book[..b], &text[..t], records, out);
+    let n = listing::list(&book[..b], &text[..t], records, masks, out);
     print_front(out, n);
 }
 

@@ -96,7 +96,7 @@ past-the-spaced book sep mode records pool entry exit n c = ap (drop n) (c .leav
 -- ==== demands 2 and 3
 
 module _ (book : List ℕ) (rules : List Rule) (b : Book book rules) where
-  valid : Valid rules
+  pub valid : Valid rules
   valid = accepted-valid book rules (byte-below book (b .bytes)) (b .reads)
 
   pub start-in-error : StartInError book rules
@@ -116,7 +116,7 @@ module _ (book : List ℕ) (rules : List Rule) (b : Book book rules) where
     stored-list =
         ap (λ (x : List ℕ). tokensOf x text) stored-in ∙ list-in f (firstIn f n exit) (typed-first f n exit (c .exit-typed)) text
 
-    tokens-are : listIn f (firstIn f n exit) text ≡ (lex rules text) .tokens
+    pub tokens-are : listIn f (firstIn f n exit) text ≡ (lex rules text) .tokens
     tokens-are = sym stored-list ∙ stored-say book (b .bytes) cut rules (b .reads)
 
     -- the reported place is that of the rest

@@ -23,12 +23,13 @@ use Rattle.rewriting.specs.Rewritten.{rewritten}
 use Rattle.rewriting.proofs.Reading.{rewritten-read, rewritten-commands, no-step, rewritten-same, strict-plain, plain-strict}
 use Rattle.rewriting.proofs.Accepting.{Accepts, book-rewritten, rewrite-accepts}
 use Rattle.lexer.specs.Outcome.{lexReading, lexOutcome, restOf}
+use Rattle.lexer.specs.Masked.{maskedReading, maskedOutcome}
 use Rattle.printer.specs.Outcome.{printReading, printOutcome}
 use Rattle.separated.specs.Outcome.{separatedReading, separatedOutcome}
 use Rattle.listing.specs.Lines.{listing}
 use Rattle.zagvulem.specs.Numbers.{strictNumbers, rewriteNumbers}
 use Rattle.zagvulem.proofs.Refused.{BookWithin, PrintWithin, book-refused, strict-within, rewrite-within}
-use Rattle.demands.specs.Calls.{Form, Lent, recordsIn, Read, Ask, Cut, Print, Space}
+use Rattle.demands.specs.Calls.{Form, Lent, recordsIn, maskBytesIn, Read, Ask, Cut, MaskedCut, Print, Space}
 use Rattle.demands.specs.Rewriting.{StepIsSpan, StrictAccepts, StrictRefusesStep, StrictRefusesAlike, RefusedStrictly}
 use Rattle.demands.specs.Rewriting.{RefusedRewrite, PastTheRewritten, RewriteAccepts, Rewrites, SameCommands, NoStepLeft}
 use Rattle.demands.specs.Rewriting.{NothingToRewrite, RewritesTheRules, OperationsAlike, RewrittenOnce}
@@ -143,6 +144,20 @@ module _ (old new : List ℕ) (e : readBook old ≡ readBook new) where
         leaves = k .leaves ∙ ap (λ (o : Reading). (lexReading o text (recordsIn f entry)) .records) e;
       }
 
+  masked-over : (f : Form) (text : List ℕ) (entry exit : Lent f) (masks after : List ℕ) (r : LexAnswer)
+      → MaskedCut f old text entry exit masks after r → MaskedCut f new text entry exit masks after r
+  unfolding maskedOutcome
+  masked-over f text entry exit masks after r k =
+      record {
+        entry-typed = k .entry-typed;
+        exit-typed = k .exit-typed;
+        masks-typed = k .masks-typed;
+        after-typed = k .after-typed;
+        answers = k .answers ∙ ap (λ (o : Reading). (maskedReading o text (recordsIn f entry) (maskBytesIn f masks)) .answer) e;
+        leaves = k .leaves ∙ ap (λ (o : Reading). (maskedReading o text (recordsIn f entry) (maskBytesIn f masks)) .records) e;
+        leaves-masks = k .leaves-masks ∙ ap (λ (o : Reading). (maskedReading o text (recordsIn f entry) (maskBytesIn f masks)) .masks) e;
+      }
+
   rest-over : (text : List ℕ) → restOf old text ≡ restOf new text
   unfolding restOf
   rest-over text = rw e
@@ -179,6 +194,8 @@ operations-alike old new w =
       reads = λ r. (read-over old new e r, read-over new old b r);
       asks = λ index r. (ask-over old new e index r, ask-over new old b index r);
       cuts = λ f text entry exit r. (cut-over old new e f text entry exit r, cut-over new old b f text entry exit r);
+      cuts-masked = λ f text entry exit masks after r.
+          (masked-over old new e f text entry exit masks after r, masked-over new old b f text entry exit masks after r);
       rests = rest-over old new e;
       prints = λ f list pool entry exit r.
           (print-over old new e f list pool entry exit r, print-over new old b f list pool entry exit r);

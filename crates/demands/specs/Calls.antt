@@ -3,7 +3,7 @@ use mathlib.Core.Path.{_≡_}
 use mathlib.Core.Bool.{Bool}
 use mathlib.Core.List.{List}
 use Prim.Native.Nat.{ℕ, _*_}
-use lib.ListN.{length, take, drop}
+use lib.ListN.{length, getD, take, drop}
 use Rattle.answer.specs.declared.BookAnswer.{BookAnswer}
 use Rattle.answer.specs.declared.RuleAnswer.{RuleAnswer}
 use Rattle.answer.specs.declared.LexAnswer.{LexAnswer}
@@ -12,12 +12,15 @@ use Rattle.automaton.specs.Choice.{All}
 use Rattle.reader.specs.Reading.{readBy, answer}
 use Rattle.reader.specs.Rules.{ruleOutcome}
 use Rattle.longest_match.specs.Lexer.{Token}
+use Rattle.big_endian.specs.Numbers.{fourAt}
 use Rattle.record.specs.Records.{recordCount}
 use Rattle.record.specs.Tokens.{recordsOf, tokensIn}
 use Rattle.record.specs.Encoding.{encoded, Fits}
+use Rattle.record.specs.Masks.{maskBytes, maskCount, FitsMask}
 use Rattle.record.specs.declared.TokenRecord.{TokenRecord}
 use Rattle.rewriting.specs.Outcome.{rewriteOutcome}
 use Rattle.lexer.specs.Outcome.{lexOutcome}
+use Rattle.lexer.specs.Masked.{maskedOutcome}
 use Rattle.printer.specs.Outcome.{printOutcome}
 use Rattle.separated.specs.Outcome.{separatedOutcome}
 
@@ -67,6 +70,31 @@ structsIn slice l = l
 abbrev pub listIn : (f : Form) → Lent f → List ℕ → List Token
 listIn f l pool = tokensIn pool (structsIn f l)
 
+-- Masks are lent in the same form as the list beside them: four bytes each, or numbers of 32 bits.
+abbrev pub TypedMasks : Form → List ℕ → Type 0
+TypedMasks bytes m = Unit {0}
+TypedMasks slice m = All FitsMask m
+
+-- the bytes that they say
+abbrev pub maskBytesIn : Form → List ℕ → List ℕ
+maskBytesIn bytes m = m
+maskBytesIn slice m = maskBytes m
+
+-- how many there are, or there is room for
+abbrev pub maskCountIn : Form → List ℕ → ℕ
+maskCountIn bytes m = maskCount m
+maskCountIn slice m = length m
+
+-- mask number i
+abbrev pub maskIn : Form → List ℕ → ℕ → ℕ
+maskIn bytes m i = fourAt m (4 * i)
+maskIn slice m i = getD m i 0
+
+-- what lies past the first n
+abbrev pub pastMasks : Form → ℕ → List ℕ → List ℕ
+pastMasks bytes n m = drop (4 * n) m
+pastMasks slice n m = drop n m
+
 -- ---- calls
 
 -- A call of a reading, the ordinary or the stricter one, and of asking for a rule by its number, as `reader::read` and
@@ -82,13 +110,24 @@ pub record Rewrite (book entry exit : List ℕ) (r : PrintAnswer) : Type 0 where
   pub answers : r ≡ (rewriteOutcome book entry) .answer
   pub leaves : exit ≡ (rewriteOutcome book entry) .out
 
--- A call of the cut: the records lent before and after it, and its answer. This is what `lexer::lex` (bytes), `slices::lex_tokens` (slice)
--- and, with the bytes of the built-in book, `builtin::lex_builtin` (bytes) ensure.
+-- A call of the cut, masks aside: the records lent before and after it, and its answer. Each call with masks (`MaskedCut`) is one, unless
+-- it has fewer masks than tokens (Masks.antt).
 pub record Cut (f : Form) (book text : List ℕ) (entry exit : Lent f) (r : LexAnswer) : Type 0 where
   pub entry-typed : Typed f entry
   pub exit-typed : Typed f exit
   pub answers : r ≡ (lexOutcome book text (recordsIn f entry)) .answer
   pub leaves : recordsIn f exit ≡ (lexOutcome book text (recordsIn f entry)) .records
+
+-- A call of the cut with the masks before and after it (document 02, wish 11). This is what `lexer::lex` (bytes), `slices::lex_tokens`
+-- (slice) and, with the bytes of the built-in book, `builtin::lex_builtin` (bytes) ensure.
+pub record MaskedCut (f : Form) (book text : List ℕ) (entry exit : Lent f) (masks after : List ℕ) (r : LexAnswer) : Type 0 where
+  pub entry-typed : Typed f entry
+  pub exit-typed : Typed f exit
+  pub masks-typed : TypedMasks f masks
+  pub after-typed : TypedMasks f after
+  pub answers : r ≡ (maskedOutcome book text (recordsIn f entry) (maskBytesIn f masks)) .answer
+  pub leaves : recordsIn f exit ≡ (maskedOutcome book text (recordsIn f entry) (maskBytesIn f masks)) .records
+  pub leaves-masks : maskBytesIn f after ≡ (maskedOutcome book text (recordsIn f entry) (maskBytesIn f masks)) .masks
 
 -- A call of the plain printer: the list, its pool, the output before and after the call, and the answer. This is what `printer::print`
 -- (bytes) and `slices::print_tokens` (slice) ensure.

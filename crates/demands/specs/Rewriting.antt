@@ -21,7 +21,7 @@ use Rattle.rewriting.specs.Rewritten.{commandsOf, hasStep, modern, rewritten}
 use Rattle.lexer.specs.Outcome.{restOf}
 use Rattle.listing.specs.Lines.{listing}
 use Rattle.zagvulem.specs.Numbers.{strictNumbers, rewriteNumbers}
-use Rattle.demands.specs.Calls.{Form, Lent, Read, Ask, Rewrite, Cut, Print, Space}
+use Rattle.demands.specs.Calls.{Form, Lent, Read, Ask, Rewrite, Cut, MaskedCut, Print, Space}
 use Rattle.answer.specs.declared.BookAnswer.the-variants as read
 use Rattle.command.specs.declared.Command.the-variants as command
 use Rattle.answer.specs.declared.PrintAnswer.the-variants as print
@@ -110,6 +110,8 @@ pub record Alike (old new : List ℕ) : Type 0 where
   pub reads : (r : BookAnswer) → Read false old r ↔ Read false new r
   pub asks : (index : ℕ) (r : RuleAnswer) → Ask old index r ↔ Ask new index r
   pub cuts : (f : Form) (text : List ℕ) (entry exit : Lent f) (r : LexAnswer) → Cut f old text entry exit r ↔ Cut f new text entry exit r
+  pub cuts-masked : (f : Form) (text : List ℕ) (entry exit : Lent f) (masks after : List ℕ) (r : LexAnswer)
+      → MaskedCut f old text entry exit masks after r ↔ MaskedCut f new text entry exit masks after r
   pub rests : (text : List ℕ) → restOf old text ≡ restOf new text
   pub prints : (f : Form) (list : Lent f) (pool entry exit : List ℕ) (r : PrintAnswer)
       → Print f old list pool entry exit r ↔ Print f new list pool entry exit r

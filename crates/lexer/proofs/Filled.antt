@@ -1,78 +1,94 @@
 -- The loop of `fill`: what holds at its head, and how a turn keeps it. Assumes nothing.
-use mathlib.Core.Path.{_≡_, refl, sym, _∙_, ap}
-use mathlib.Core.List.{List, [], _++_, append-assoc, append-nil}
+use mathlib.Core.Path.{_≡_, refl, sym, _∙_, ap, subst}
+use mathlib.Core.List.{List, [], _++_}
 use Prim.Native.Nat.{ℕ, _+_, _*_, _<_, _≤_}
 use native.Mathlib.Omega.{arith}
-use lib.ListN.{length, take, drop, length-append, length-drop, take-append-drop}
-use lib.Seq.{length-take-le, drop-drop, take-at, drop-at}
+use lib.ListN.{length, take, drop, length-map}
+use lib.Seq.{length-take-le}
+use Rattle.big_endian.specs.Numbers.{four}
 use Rattle.automaton.specs.Rule.{Rule}
 use Rattle.automaton.specs.Contracts.{ruleAt}
 use Rattle.longest_match.specs.Lexer.{lex}
-use Rattle.longest_match.specs.Contracts.{Chooses}
-use Rattle.longest_match.proofs.Cutting.{Cutting, cutting-start, cutting-next, cutting-stop, lex-more}
+use Rattle.longest_match.specs.Masks.{masksOf}
+use Rattle.longest_match.specs.Contracts.{Chooses, Agrees}
+use Rattle.longest_match.proofs.Cutting.{Cutting, cutting-start, cutting-next, lex-more}
 use Rattle.record.specs.Records.{recordOf, recordsAt}
-use Rattle.lexer.specs.Contracts.{Fills}
+use Rattle.record.specs.Masks.{maskBytes}
+use Rattle.record.proofs.Records.{length-records}
+use Rattle.record.proofs.Masks.{length-mask-bytes}
+use Rattle.lexer.specs.Contracts.{Room, Fills}
+use Rattle.output.proofs.Filling as output
 
--- n tokens are cut, and their records stand at the front
-pub record Filling (rules : List Rule) (text entry records : List ℕ) (at n : ℕ) : Type 0 where
+-- the bytes of the records, and of the masks, of the tokens from a place on
+abbrev recordsFrom : List Rule → List ℕ → ℕ → List ℕ
+recordsFrom rules text at = recordsAt at ((lex rules (drop at text)) .tokens)
+
+abbrev masksFrom : List Rule → List ℕ → ℕ → List ℕ
+masksFrom rules text at = maskBytes (masksOf rules ((lex rules (drop at text)) .tokens))
+
+-- n tokens are cut, and their records and masks stand at the fronts
+pub record Filling (rules : List Rule) (text entry records masks-entry masks : List ℕ) (at n : ℕ) : Type 0 where
   pub cut : Cutting rules text at n
-  pub same : length records ≡ length entry
-  pub written : recordsAt 0 ((lex rules text) .tokens) ≡ take (10 * n) records ++ recordsAt at ((lex rules (drop at text)) .tokens)
-  pub kept : drop (10 * n) records ≡ drop (10 * n) entry
+  pub stored : output.Filling (recordsFrom rules text 0) (recordsFrom rules text at) entry records (10 * n)
+  pub masked : output.Filling (masksFrom rules text 0) (masksFrom rules text at) masks-entry masks (4 * n)
 
-pub filling-start : (rules : List Rule) (text entry : List ℕ) → Filling rules text entry entry 0 0
-filling-start rules text entry = record { cut = cutting-start rules text; same = refl; written = refl; kept = refl }
+module _ (rules : List Rule) (text : List ℕ) where
+  records-length : length (recordsFrom rules text 0) ≡ 10 * length ((lex rules text) .tokens)
+  records-length = length-records ((lex rules text) .tokens) 0
 
-module _ {rules : List Rule} {text entry records : List ℕ} {at n : ℕ} (w : Filling rules text entry records at n)
-    (room : 10 * length ((lex rules text) .tokens) ≤ length entry) {rule len : ℕ} (c : Chooses rules (drop at text) rule len)
+  masks-length : length (masksFrom rules text 0) ≡ 4 * length ((lex rules text) .tokens)
+  masks-length =
+      length-mask-bytes (masksOf rules ((lex rules text) .tokens)) ∙ ap (λ (n : ℕ). 4 * n) (length-map ((lex rules text) .tokens) _)
+
+  pub filling-start : (entry masks-entry : List ℕ) → Room rules text entry masks-entry → Filling rules text entry entry masks-entry masks-entry 0 0
+  filling-start entry masks-entry room = record {
+    cut = cutting-start rules text;
+    stored = output.filling-start (recordsFrom rules text 0) entry (omega (arith, records-length, room .in-records));
+    masked = output.filling-start (masksFrom rules text 0) masks-entry (omega (arith, masks-length, room .in-masks));
+  }
+
+module _ {rules : List Rule} {text entry records masks-entry masks : List ℕ} {at n : ℕ}
+    (w : Filling rules text entry records masks-entry masks at n) {rule len : ℕ} (c : Chooses rules (drop at text) rule len)
     (p : 0 < len) where
-  pub filling-room : 10 * n + 10 ≤ length records
-  filling-room =
-      let k = rw (lex-more rules text at rule len c p) at (w .cut .count) in
-      omega (arith, w .same)
-
-  module _ {after : List ℕ} {tag : ℕ} (tagged : tag ≡ (ruleAt rules rule) .tag)
-      (e : after ≡ take (10 * n) records ++ recordOf tag at len ++ drop (10 * n + 10) records) where
-    head-length : length (take (10 * n) records ++ recordOf tag at len) ≡ 10 * (n + 1)
-    head-length =
-        let l : length (take (10 * n) records) ≡ 10 * n = length-take-le (10 * n) records (omega (arith, filling-room)) in
-        length-append (take (10 * n) records) (recordOf tag at len) ∙ omega arith
-
-    behind : drop (10 * (n + 1)) after ≡ drop (10 * n + 10) records
-    behind = rw e (drop-at (take (10 * n) records ++ recordOf tag at len) (drop (10 * n + 10) records) (10 * (n + 1)) head-length)
-
-    ahead : take (10 * (n + 1)) after ≡ take (10 * n) records ++ recordOf tag at len
-    ahead = rw e (take-at (take (10 * n) records ++ recordOf tag at len) (drop (10 * n + 10) records) (10 * (n + 1)) head-length)
-
-    recorded : recordsAt at ((lex rules (drop at text)) .tokens) ≡ recordOf tag at len
-        ++ recordsAt (at + len) ((lex rules (drop (at + len) text)) .tokens)
-    unfolding recordsAt
-    recorded = rw (lex-more rules text at rule len c p, length-take-le len (drop at text) (c .within), tagged)
-
-    pub filling-next : Filling rules text entry after (at + len) (n + 1)
-    filling-next = record {
-      cut = cutting-next (w .cut) c p;
-      same =
-          let l : length after ≡ 10 * (n + 1) + length (drop (10 * n + 10) records) =
-          rw e (length-append (take (10 * n) records ++ recordOf tag at len) (drop (10 * n + 10) records)
-          ∙ ap (λ (x : ℕ). x + length (drop (10 * n + 10) records)) head-length) in
-          omega (arith, length-drop (10 * n + 10) records, filling-room, w .same);
-      written =
-          w .written ∙ ap (λ (x : List ℕ). take (10 * n) records ++ x) recorded
-          ∙ sym (append-assoc (take (10 * n) records) (recordOf tag at len)
-          (recordsAt (at + len) ((lex rules (drop (at + len) text)) .tokens)))
-          ∙ ap (λ (x : List ℕ). x ++ recordsAt (at + len) ((lex rules (drop (at + len) text)) .tokens)) (sym ahead);
-      kept =
-          let q : 10 * (n + 1) ≡ 10 * n + 10 = omega arith in
-          behind ∙ sym (drop-drop 10 (10 * n) records) ∙ ap (drop 10) (w .kept) ∙ drop-drop 10 (10 * n) entry
-          ∙ ap (λ (x : ℕ). drop x entry) (sym q);
-    }
-
-module _ {rules : List Rule} {text entry records : List ℕ} {at n : ℕ} (w : Filling rules text entry records at n)
-    (e : lex rules (drop at text) ≡ record { tokens = []; rest = drop at text }) where
-  pub filling-stop : Fills rules text entry records
+  -- the bytes of one token, and those of the tokens behind it
+  recorded : (tag : ℕ) → tag ≡ (ruleAt rules rule) .tag
+      → recordsFrom rules text at ≡ recordOf tag at len ++ recordsFrom rules text (at + len)
   unfolding recordsAt
-  filling-stop =
-      let k : length ((lex rules text) .tokens) ≡ n = sym (cutting-stop (w .cut) e .tokens-are) in
-      let r : recordsAt 0 ((lex rules text) .tokens) ≡ take (10 * n) records = rw (e, append-nil) at (w .written) in
-      record { written = rw (r, k, ← (w .kept)) (sym (take-append-drop (10 * n) records)) }
+  recorded tag tagged = rw (lex-more rules text at rule len c p, length-take-le len (drop at text) (c .within), tagged)
+
+  agreed : (mask : ℕ) → Agrees rules (drop at text) len mask → masksFrom rules text at ≡ four mask ++ masksFrom rules text (at + len)
+  unfolding maskBytes
+  agreed mask a = rw (lex-more rules text at rule len c p, a .agreed p)
+
+  -- there is room for one more
+  pub filling-room : 10 * n + 10 ≤ length records
+  filling-room = output.filling-room (w .stored) (recordOf _ at len) _ (recorded _ refl)
+
+  pub filling-mask-room : {mask : ℕ} → Agrees rules (drop at text) len mask → 4 * n + 4 ≤ length masks
+  filling-mask-room {mask} a = output.filling-room (w .masked) (four mask) _ (agreed mask a)
+
+  pub filling-next : {tag mask : ℕ} {records-after masks-after : List ℕ} → tag ≡ (ruleAt rules rule) .tag
+      → Agrees rules (drop at text) len mask
+      → records-after ≡ take (10 * n) records ++ recordOf tag at len ++ drop (10 * n + 10) records
+      → masks-after ≡ take (4 * n) masks ++ four mask ++ drop (4 * n + 4) masks
+      → Filling rules text entry records-after masks-entry masks-after (at + len) (n + 1)
+  filling-next {tag} {mask} tagged a e f =
+      let ten : 10 * n + 10 ≡ 10 * (n + 1) = omega arith in
+      let four-more : 4 * n + 4 ≡ 4 * (n + 1) = omega arith in
+      record {
+        cut = cutting-next (w .cut) c p;
+        stored = subst (output.Filling (recordsFrom rules text 0) (recordsFrom rules text (at + len)) entry _) ten
+            (output.filling-next (w .stored) (recordOf tag at len) _ (recorded tag tagged) (recordOf tag at len) refl refl e);
+        masked = subst (output.Filling (masksFrom rules text 0) (masksFrom rules text (at + len)) masks-entry _) four-more
+            (output.filling-next (w .masked) (four mask) _ (agreed mask a) (four mask) refl refl f);
+      }
+
+module _ {rules : List Rule} {text entry records masks-entry masks : List ℕ} {at n : ℕ}
+    (w : Filling rules text entry records masks-entry masks at n)
+    (e : lex rules (drop at text) ≡ record { tokens = []; rest = drop at text }) where
+  pub filling-stop : Fills rules text entry records masks-entry masks
+  unfolding recordsAt maskBytes
+  filling-stop = record {
+    written = rw records-length at (output.filling-end (w .stored) (rw e));
+    agreed = rw masks-length at (output.filling-end (w .masked) (rw e));
+  }

@@ -22,6 +22,7 @@ use Rattle.longest_match.specs.Lexer.{lex}
 use Rattle.longest_match.proofs.Lexing.{rest-drop}
 use Rattle.record.specs.Records.{recordCount}
 use Rattle.lexer.specs.Outcome.{lexRefused, lexAccepted, lexRules, restRules, lexReading, lexOutcome, restReading, restOf}
+use Rattle.lexer.specs.Masked.{maskedRules, maskedOutcome}
 use Rattle.lexer.specs.Contracts.{LexAnswered, RestAt}
 use Rattle.answer.specs.declared.BookAnswer.the-variants as book
 use Rattle.answer.specs.declared.LexAnswer.the-variants as lexed
@@ -30,11 +31,11 @@ module _ {bytes tb : List ℕ} {b : BookAnswer} {n : ℕ} (l : Loaded bytes b tb
   abbrev read : (rules : List Rule) × ((readBook bytes ≡ accepted rules) × Holds tb rules)
   read = loaded-rules l a
 
-  pub answered-book : (text records exit : List ℕ) (r : LexAnswer)
-      → ((rules : List Rule) → Holds tb rules → LexAnswered (lexRules rules text records) r exit)
-      → LexAnswered (lexOutcome bytes text records) r exit
-  unfolding lexOutcome
-  answered-book text records exit r h = rw (read .1 .0) (h (read .0) (read .1 .1))
+  pub answered-book : (text records masks records-exit masks-exit : List ℕ) (r : LexAnswer)
+      → ((rules : List Rule) → Holds tb rules → LexAnswered (maskedRules rules text records masks) r records-exit masks-exit)
+      → LexAnswered (maskedOutcome bytes text records masks) r records-exit masks-exit
+  unfolding maskedOutcome
+  answered-book text records masks records-exit masks-exit r h = rw (read .1 .0) (h (read .0) (read .1 .1))
 
   pub rest-book : (text : List ℕ) (place : ℕ) → ((rules : List Rule) → Holds tb rules → RestAt text place (restRules rules text))
       → RestAt text place (restOf bytes text)
@@ -42,19 +43,21 @@ module _ {bytes tb : List ℕ} {b : BookAnswer} {n : ℕ} (l : Loaded bytes b tb
   rest-book text place h = rw (read .1 .0) (h (read .0) (read .1 .1))
 
 module _ {bytes tb : List ℕ} {b : BookAnswer} {f : Refusal} (l : Loaded bytes b tb) (a : b ≡ book.Refused f) where
-  pub answered-refused : (text records : List ℕ) → LexAnswered (lexOutcome bytes text records) (lexed.Refused f) records
-  unfolding lexOutcome
-  answered-refused text records = rw (loaded-refusal l a) (record { answer = refl; records = refl })
+  pub answered-refused : (text records masks : List ℕ)
+      → LexAnswered (maskedOutcome bytes text records masks) (lexed.Refused f) records masks
+  unfolding maskedOutcome
+  answered-refused text records masks = rw (loaded-refusal l a) (record { answer = refl; records = refl; masks = refl })
 
   pub rest-refused : (text : List ℕ) → RestAt text 0 (restOf bytes text)
   unfolding restOf
   rest-refused text = rw (loaded-refusal l a) (record { within = omega arith; tail = refl })
 
 -- a book that is too long is refused before it is read
-pub answered-too-long : (bytes text records : List ℕ) → maxBytes < length bytes
-    → LexAnswered (lexOutcome bytes text records) (lexed.Refused (record { number = 1; place = 0 })) records
-unfolding lexOutcome
-answered-too-long bytes text records l = rw (read-too-long false bytes l) (record { answer = refl; records = refl })
+pub answered-too-long : (bytes text records masks : List ℕ) → maxBytes < length bytes
+    → LexAnswered (maskedOutcome bytes text records masks) (lexed.Refused (record { number = 1; place = 0 })) records masks
+unfolding maskedOutcome
+answered-too-long bytes text records masks l =
+    rw (read-too-long false bytes l) (record { answer = refl; records = refl; masks = refl })
 
 -- ---- the rest
 

@@ -5,27 +5,29 @@ use book::Book;
 ghost use mathlib.Core.List.{List};
 ghost use Rattle.automaton.specs.Rule.{Rule};
 ghost use Rattle.automaton.specs.Contracts.{Holds, Held};
-ghost use Rattle.lexer.specs.Outcome.{lexRules, restRules};
+ghost use Rattle.lexer.specs.Outcome.{restRules};
+ghost use Rattle.lexer.specs.Masked.{maskedRules};
 ghost use Rattle.lexer.specs.Contracts.{LexAnswered, RestAt};
 
-// Every token has a byte, so that as many records as the text has bytes are surely enough, and the text is walked once; else
+// Every token has a byte, so that as many records and masks as the text has bytes are surely enough, and the text is walked once; else
 // the tokens are counted before the first record is written.
-pub fn lex_rules(table: &[u64], text: &[u8], records: &mut [u8]) -> LexAnswer
+pub fn lex_rules(table: &[u64], text: &[u8], records: &mut [u8], masks: &mut [u8]) -> LexAnswer
     requires { ⌜ Held (now table) ⌝ }
     ensures { λ r. ⌜ ((rs : List Rule) → Holds (now (table .entry)) rs
-        → LexAnswered (lexRules rs (now (text .entry)) (now (records .entry))) r (now (records .exit))) ⌝ }
+        → LexAnswered (maskedRules rs (now (text .entry)) (now (records .entry)) (now (masks .entry))) r (now (records .exit))
+        (now (masks .exit))) ⌝ }
 {
     if Book::TEXT < text.len() {
         return LexAnswer::refused(Refusal::TEXT_TOO_LONG, 0);
     }
-    let room = records.len() / 10;
+    let room = record::room(records, masks);
     if room < text.len() {
         let needed = longest_match::count(table, text);
         if room < needed.tokens {
             return LexAnswer::refused(Refusal::TOO_FEW_RECORDS, needed.tokens);
         }
     }
-    let cut = crate::filling::fill(table, text, records);
+    let cut = crate::filling::fill(table, text, records, masks);
     LexAnswer::Lexed {
         tokens: cut.tokens,
         rest: cut.rest,

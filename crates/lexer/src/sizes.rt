@@ -7,99 +7,109 @@ use book::Book;
 ghost use Prim.Native.Nat.{_≤_, _<_};
 ghost use lib.ListN.{length};
 ghost use Rattle.book.specs.Limits.{maxBytes};
-ghost use Rattle.lexer.specs.Outcome.{lexOutcome, restOf};
+ghost use Rattle.lexer.specs.Outcome.{restOf};
+ghost use Rattle.lexer.specs.Masked.{maskedOutcome};
 ghost use Rattle.lexer.specs.Contracts.{LexAnswered, RestAt};
 
-pub fn lex_sized(book: &[u8], text: &[u8], records: &mut [u8]) -> LexAnswer
-    ensures { λ r. ⌜ LexAnswered (lexOutcome (now (book .entry)) (now (text .entry)) (now (records .entry))) r (now (records .exit)) ⌝ }
+pub fn lex_sized(book: &[u8], text: &[u8], records: &mut [u8], masks: &mut [u8]) -> LexAnswer
+    ensures { λ r. ⌜ LexAnswered (maskedOutcome (now (book .entry)) (now (text .entry)) (now (records .entry)) (now (masks .entry))) r
+        (now (records .exit)) (now (masks .exit)) ⌝ }
 {
     let len = book.len();
     if Book::BYTES < len {
-        return refuse_long(book, text, records);
+        return refuse_long(book, text, records, masks);
     }
     if len <= 1024 {
-        return lex_1k(book, text, records);
+        return lex_1k(book, text, records, masks);
     }
     if len <= 2048 {
-        return lex_2k(book, text, records);
+        return lex_2k(book, text, records, masks);
     }
     if len <= 4096 {
-        return lex_4k(book, text, records);
+        return lex_4k(book, text, records, masks);
     }
     if len <= 8192 {
-        return lex_8k(book, text, records);
+        return lex_8k(book, text, records, masks);
     }
     if len <= 16384 {
-        return lex_16k(book, text, records);
+        return lex_16k(book, text, records, masks);
     }
     if len <= 32768 {
-        return lex_32k(book, text, records);
+        return lex_32k(book, text, records, masks);
     }
-    lex_64k(book, text, records)
+    lex_64k(book, text, records, masks)
 }
 
 // A book that is too long needs no table.
-fn refuse_long(book: &[u8], text: &[u8], records: &[u8]) -> LexAnswer
+fn refuse_long(book: &[u8], text: &[u8], records: &[u8], masks: &[u8]) -> LexAnswer
     requires { ⌜ maxBytes < length (now book) ⌝ }
-    ensures { λ r. ⌜ LexAnswered (lexOutcome (now (book .entry)) (now (text .entry)) (now (records .entry))) r (now (records .entry)) ⌝ }
+    ensures { λ r. ⌜ LexAnswered (maskedOutcome (now (book .entry)) (now (text .entry)) (now (records .entry)) (now (masks .entry))) r
+        (now (records .entry)) (now (masks .entry)) ⌝ }
 {
     LexAnswer::refused(Refusal::BOOK_TOO_LONG, 0)
 }
 
-fn lex_1k(book: &[u8], text: &[u8], records: &mut [u8]) -> LexAnswer
+fn lex_1k(book: &[u8], text: &[u8], records: &mut [u8], masks: &mut [u8]) -> LexAnswer
     requires { ⌜ length (now book) ≤ 1024 ⌝ }
-    ensures { λ r. ⌜ LexAnswered (lexOutcome (now (book .entry)) (now (text .entry)) (now (records .entry))) r (now (records .exit)) ⌝ }
+    ensures { λ r. ⌜ LexAnswered (maskedOutcome (now (book .entry)) (now (text .entry)) (now (records .entry)) (now (masks .entry))) r
+        (now (records .exit)) (now (masks .exit)) ⌝ }
 {
     let mut table = [0u64; 322];
-    crate::lex_with(book, &mut table, text, records)
+    crate::lex_with(book, &mut table, text, records, masks)
 }
 
-fn lex_2k(book: &[u8], text: &[u8], records: &mut [u8]) -> LexAnswer
+fn lex_2k(book: &[u8], text: &[u8], records: &mut [u8], masks: &mut [u8]) -> LexAnswer
     requires { ⌜ length (now book) ≤ 2048 ⌝ }
-    ensures { λ r. ⌜ LexAnswered (lexOutcome (now (book .entry)) (now (text .entry)) (now (records .entry))) r (now (records .exit)) ⌝ }
+    ensures { λ r. ⌜ LexAnswered (maskedOutcome (now (book .entry)) (now (text .entry)) (now (records .entry)) (now (masks .entry))) r
+        (now (records .exit)) (now (masks .exit)) ⌝ }
 {
     let mut table = [0u64; 578];
-    crate::lex_with(book, &mut table, text, records)
+    crate::lex_with(book, &mut table, text, records, masks)
 }
 
-fn lex_4k(book: &[u8], text: &[u8], records: &mut [u8]) -> LexAnswer
+fn lex_4k(book: &[u8], text: &[u8], records: &mut [u8], masks: &mut [u8]) -> LexAnswer
     requires { ⌜ length (now book) ≤ 4096 ⌝ }
-    ensures { λ r. ⌜ LexAnswered (lexOutcome (now (book .entry)) (now (text .entry)) (now (records .entry))) r (now (records .exit)) ⌝ }
+    ensures { λ r. ⌜ LexAnswered (maskedOutcome (now (book .entry)) (now (text .entry)) (now (records .entry)) (now (masks .entry))) r
+        (now (records .exit)) (now (masks .exit)) ⌝ }
 {
     let mut table = [0u64; 1090];
-    crate::lex_with(book, &mut table, text, records)
+    crate::lex_with(book, &mut table, text, records, masks)
 }
 
-fn lex_8k(book: &[u8], text: &[u8], records: &mut [u8]) -> LexAnswer
+fn lex_8k(book: &[u8], text: &[u8], records: &mut [u8], masks: &mut [u8]) -> LexAnswer
     requires { ⌜ length (now book) ≤ 8192 ⌝ }
-    ensures { λ r. ⌜ LexAnswered (lexOutcome (now (book .entry)) (now (text .entry)) (now (records .entry))) r (now (records .exit)) ⌝ }
+    ensures { λ r. ⌜ LexAnswered (maskedOutcome (now (book .entry)) (now (text .entry)) (now (records .entry)) (now (masks .entry))) r
+        (now (records .exit)) (now (masks .exit)) ⌝ }
 {
     let mut table = [0u64; 2114];
-    crate::lex_with(book, &mut table, text, records)
+    crate::lex_with(book, &mut table, text, records, masks)
 }
 
-fn lex_16k(book: &[u8], text: &[u8], records: &mut [u8]) -> LexAnswer
+fn lex_16k(book: &[u8], text: &[u8], records: &mut [u8], masks: &mut [u8]) -> LexAnswer
     requires { ⌜ length (now book) ≤ 16384 ⌝ }
-    ensures { λ r. ⌜ LexAnswered (lexOutcome (now (book .entry)) (now (text .entry)) (now (records .entry))) r (now (records .exit)) ⌝ }
+    ensures { λ r. ⌜ LexAnswered (maskedOutcome (now (book .entry)) (now (text .entry)) (now (records .entry)) (now (masks .entry))) r
+        (now (records .exit)) (now (masks .exit)) ⌝ }
 {
     let mut table = [0u64; 4162];
-    crate::lex_with(book, &mut table, text, records)
+    crate::lex_with(book, &mut table, text, records, masks)
 }
 
-fn lex_32k(book: &[u8], text: &[u8], records: &mut [u8]) -> LexAnswer
+fn lex_32k(book: &[u8], text: &[u8], records: &mut [u8], masks: &mut [u8]) -> LexAnswer
     requires { ⌜ length (now book) ≤ 32768 ⌝ }
-    ensures { λ r. ⌜ LexAnswered (lexOutcome (now (book .entry)) (now (text .entry)) (now (records .entry))) r (now (records .exit)) ⌝ }
+    ensures { λ r. ⌜ LexAnswered (maskedOutcome (now (book .entry)) (now (text .entry)) (now (records .entry)) (now (masks .entry))) r
+        (now (records .exit)) (now (masks .exit)) ⌝ }
 {
     let mut table = [0u64; 8258];
-    crate::lex_with(book, &mut table, text, records)
+    crate::lex_with(book, &mut table, text, records, masks)
 }
 
-fn lex_64k(book: &[u8], text: &[u8], records: &mut [u8]) -> LexAnswer
+fn lex_64k(book: &[u8], text: &[u8], records: &mut [u8], masks: &mut [u8]) -> LexAnswer
     requires { ⌜ length (now book) ≤ 65536 ⌝ }
-    ensures { λ r. ⌜ LexAnswered (lexOutcome (now (book .entry)) (now (text .entry)) (now (records .entry))) r (now (records .exit)) ⌝ }
+    ensures { λ r. ⌜ LexAnswered (maskedOutcome (now (book .entry)) (now (text .entry)) (now (records .entry)) (now (masks .entry))) r
+        (now (records .exit)) (now (masks .exit)) ⌝ }
 {
     let mut table = [0u64; 16450];
-    crate::lex_with(book, &mut table, text, records)
+    crate::lex_with(book, &mut table, text, records, masks)
 }
 
 // The place of the rest.

@@ -9,11 +9,14 @@ ghost use mathlib.Core.List.{_++_};
 ghost use Prim.Native.Nat.{_*_, _≤_};
 ghost use lib.ListN.{length, drop};
 ghost use Rattle.lexer.specs.Outcome.{lexOutcome};
+ghost use Rattle.lexer.specs.Masked.{maskedOutcome};
 ghost use Rattle.listing.specs.Contracts.{Room, Puts, LinesFit};
 ghost use Rattle.listing.specs.Lines.{wordLine, recordLines, linesOf, listing};
 
-// The bytes of the 6,000 records that are lent to `list`, and of the output, which no listing passes.
+// The bytes of the 6,000 records and masks that are lent to `list`, and of the output, which no listing passes.
 pub const RECORD_BYTES: usize = 60000;
+
+pub const MASK_BYTES: usize = 24000;
 
 pub const OUTPUT_BYTES: usize = 144024;
 
@@ -58,19 +61,22 @@ fn put_lines(out: &mut [u8], answer: LexAnswer, records: &[u8], len: usize) -> u
     }
 }
 
-// Cuts `text` by the rules of a book, with the records lent, and writes the lines of the outcome from the start of `out`;
+// Cuts `text` by the rules of a book, with the records and the masks lent, and writes the lines of the outcome from the start of `out`;
 // answers how many bytes they are.
 pub fn list(
     book: &[u8],
     text: &[u8],
     records: &mut [u8; RECORD_BYTES],
+    masks: &mut [u8; MASK_BYTES],
     out: &mut [u8; OUTPUT_BYTES],
 ) -> usize
     ensures { λ r. ⌜ r ≡ length (listing (now (book .entry)) (now (text .entry)) (now (records .entry))) ⌝ }
     ensures { λ r. ⌜ now (records .exit) ≡ (lexOutcome (now (book .entry)) (now (text .entry)) (now (records .entry))) .records ⌝ }
+    ensures { λ r. ⌜ now (masks .exit)
+        ≡ (maskedOutcome (now (book .entry)) (now (text .entry)) (now (records .entry)) (now (masks .entry))) .masks ⌝ }
     ensures { λ r. ⌜ now (out .exit)
         ≡ listing (now (book .entry)) (now (text .entry)) (now (records .entry)) ++ drop r (now (out .entry)) ⌝ }
 {
-    let answer = lexer::lex(book, text, records);
+    let answer = lexer::lex(book, text, records, masks);
     put_lines(out, answer, records, text.len())
 }

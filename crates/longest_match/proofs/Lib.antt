@@ -8,4 +8,5 @@ pub mod Held
 pub mod Parts
 pub mod Lengths
 pub mod Picking
+pub mod Agreeing
 pub mod Cutting

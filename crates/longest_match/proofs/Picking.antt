@@ -29,7 +29,7 @@ module _ (r : Rule) (text : List ℕ) where
       go true h = omega arith
       go false h = omega arith
 
-  longest-matches : (n : ℕ) → 0 < longestWithin r text n → matches r (take (longestWithin r text n) text) ≡ true
+  pub longest-matches : (n : ℕ) → 0 < longestWithin r text n → matches r (take (longestWithin r text n) text) ≡ true
   unfolding longestWithin
   longest-matches zero p = absurd (omega arith)
   longest-matches (suc n) p = go (matches r (take (suc n) text)) refl (longest-matches n) p
@@ -41,7 +41,7 @@ module _ (r : Rule) (text : List ℕ) where
       go false e ih q = ih q
 
   -- nothing longer is matched
-  longest-most : (n m : ℕ) → longestWithin r text n < m → m ≤ n → matches r (take m text) ≡ false
+  pub longest-most : (n m : ℕ) → longestWithin r text n < m → m ≤ n → matches r (take m text) ≡ false
   unfolding longestWithin
   longest-most zero m p l = absurd (omega arith)
   longest-most (suc n) m p l = go (matches r (take (suc n) text)) refl (longest-most n m) p
@@ -87,7 +87,7 @@ module _ (rules : List Rule) (text : List ℕ) where
   abbrev rule : ℕ
   rule = firstWith len (prefixes rules text)
 
-  most : (k : ℕ) → k < length rules → longest (ruleAt rules k) text ≤ len
+  pub most : (k : ℕ) → k < length rules → longest (ruleAt rules k) text ≤ len
   most k l = rw prefixes-at at (greatest-most (prefixes rules text) k (rw prefixes-length l))
 
   within : len ≤ length text

@@ -8,6 +8,7 @@ use lib.ListN.{length, take, drop}
 use Rattle.automaton.specs.Rule.{Rule, matches}
 use Rattle.automaton.specs.Contracts.{ruleAt}
 use Rattle.longest_match.specs.Lexer.{Found, choose, lex}
+use Rattle.longest_match.specs.Masks.{agreeing, maskOf}
 
 -- ---- What the code answers, said of the rules that a table holds.
 
@@ -29,6 +30,16 @@ pub record Chooses (rules : List Rule) (text : List ℕ) (rule len : ℕ) : Type
   pub matched : 0 < len → matches (ruleAt rules rule) (take len text) ≡ true
   pub earlier : 0 < len → (k : ℕ) → k < rule → matches (ruleAt rules k) (take len text) ≡ false
   pub chosen : 0 < len → choose rules text ≡ some (front ((ruleAt rules rule) .tag) len text)
+
+-- The rules that match just the first `len` bytes are those of the mask; 0 where nothing is chosen.
+pub record Agrees (rules : List Rule) (text : List ℕ) (len mask : ℕ) : Type 0 where
+  pub empty : len ≡ 0 → mask ≡ 0
+  pub agreed : 0 < len → mask ≡ agreeing rules (take len text)
+
+-- The mask of the lengths that are n; 0 where n is.
+pub record MaskOf (lengths : List ℕ) (n mask : ℕ) : Type 0 where
+  pub zero : n ≡ 0 → mask ≡ 0
+  pub those : 0 < n → mask ≡ maskOf n lengths
 
 -- the number of tokens and the place of the rest
 pub record Cuts (rules : List Rule) (text : List ℕ) (tokens rest : ℕ) : Type 0 where

@@ -8,12 +8,14 @@ ghost use Prim.Native.Nat.{ℕ, _≤_};
 ghost use lib.ListN.{length};
 ghost use Rattle.automaton.specs.Rule.{Rule};
 ghost use Rattle.automaton.specs.Contracts.{ruleRoom, Holds, Held};
-ghost use Rattle.longest_match.specs.Contracts.{part, Chooses, Cuts};
+ghost use Rattle.longest_match.specs.Contracts.{part, Chooses, Agrees, Cuts};
 
-// What is chosen at the start of a text: the number of the rule and how many bytes it takes; both 0 for no rule.
+// What is chosen at the start of a text: the number of the rule, how many bytes it takes, and the mask of all rules that match just these
+// bytes, bit k for rule number k; all 0 for no rule.
 pub struct Choice {
     pub rule: usize,
     pub len: usize,
+    pub mask: u32,
 }
 
 // The rule that matches the longest prefix of the bytes of `text` from `from` to `to`, the earliest of them on a tie.
@@ -22,6 +24,8 @@ pub fn choose(table: &[u64], text: &[u8], from: usize, to: usize) -> Choice
     requires { ⌜ (from ≤ to) × (to ≤ length (now text)) ⌝ }
     ensures { λ r. ⌜ ((rs : List Rule) (t : List ℕ) → Holds (now (table .entry)) rs
         → part (now (text .entry)) from to ≡ t → Chooses rs t (r .rule) (r .len)) ⌝ }
+    ensures { λ r. ⌜ ((rs : List Rule) (t : List ℕ) → Holds (now (table .entry)) rs
+        → part (now (text .entry)) from to ≡ t → Agrees rs t (r .len) (r .mask)) ⌝ }
 {
     let mut lengths = [0usize; automaton::RULES];
     choose_with(table, text, from, to, &mut lengths)
@@ -39,6 +43,8 @@ pub fn choose_with(
     requires { ⌜ (from ≤ to) × (to ≤ length (now text)) ⌝ }
     ensures { λ r. ⌜ ((rs : List Rule) (t : List ℕ) → Holds (now (table .entry)) rs
         → part (now (text .entry)) from to ≡ t → Chooses rs t (r .rule) (r .len)) ⌝ }
+    ensures { λ r. ⌜ ((rs : List Rule) (t : List ℕ) → Holds (now (table .entry)) rs
+        → part (now (text .entry)) from to ≡ t → Agrees rs t (r .len) (r .mask)) ⌝ }
 {
     choose_of(table, &text[from..to], lengths)
 }
@@ -48,6 +54,7 @@ fn choose_of(table: &[u64], text: &[u8], lengths: &mut [usize]) -> Choice
     requires { ⌜ Held (now table) ⌝ }
     requires { ⌜ ruleRoom ≤ length (now lengths) ⌝ }
     ensures { λ r. ⌜ ((rs : List Rule) → Holds (now (table .entry)) rs → Chooses rs (now (text .entry)) (r .rule) (r .len)) ⌝ }
+    ensures { λ r. ⌜ ((rs : List Rule) → Holds (now (table .entry)) rs → Agrees rs (now (text .entry)) (r .len) (r .mask)) ⌝ }
 {
     let rules = automaton::count_of(table);
     crate::steps::choose_by_steps(table, text, &mut lengths[..rules])

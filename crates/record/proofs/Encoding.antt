@@ -134,14 +134,14 @@ all-take ts zero f = tt
 all-take [] (suc n) f = tt
 all-take (t ∷ ts) (suc n) (f, fs) = (f, all-take ts n fs)
 
-pub all-drop : (ts : List TokenRecord) (n : ℕ) → All Fits ts → All Fits (drop n ts)
-all-drop ts zero f = f
-all-drop [] (suc n) f = tt
-all-drop (t ∷ ts) (suc n) (f, fs) = all-drop ts n fs
+pub all-drop : {A : Type 0} (P : A → Type 0) (xs : List A) (n : ℕ) → All P xs → All P (drop n xs)
+all-drop P xs zero f = f
+all-drop P [] (suc n) f = tt
+all-drop P (x ∷ xs) (suc n) (f, fs) = all-drop P xs n fs
 
 -- records that keep their bytes behind the first n are those of tokens that keep what lies behind the first n
 pub kept-behind : (ts us : List TokenRecord) (n : ℕ) (front : List ℕ) → All Fits ts → All Fits us → length front ≡ 10 * n
     → encoded us ≡ front ++ drop (10 * n) (encoded ts) → drop n us ≡ drop n ts
 kept-behind ts us n front f g l e =
-    encoded-injective (drop n us) (drop n ts) (all-drop us n g) (all-drop ts n f)
+    encoded-injective (drop n us) (drop n ts) (all-drop Fits us n g) (all-drop Fits ts n f)
     (sym (drop-encoded us n) ∙ ap (drop (10 * n)) e ∙ drop-at front (drop (10 * n) (encoded ts)) (10 * n) l ∙ drop-encoded ts n)

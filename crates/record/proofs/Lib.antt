@@ -1,3 +1,4 @@
--- Records stored, counted and read back (Records), and those of a slice (Encoding).
+-- Records stored, counted and read back (Records), those of a slice (Encoding), and masks (Masks).
 pub mod Records
 pub mod Encoding
+pub mod Masks

@@ -1,10 +1,12 @@
-// A token's record: a tag, and where the token's bytes lie in a pool. For the player it is ten bytes; inside the server lists of
-// tokens are slices of the struct.
+// What is stored of a token: its record, a tag and where the token's bytes lie in a pool, and the mask of the rules that agree on it. For the
+// player a record is ten bytes and a mask four; inside the server lists of tokens are slices of the struct, and masks of numbers.
 ghost use mathlib.Core.Path.{_≡_};
 ghost use mathlib.Core.List.{_++_};
-ghost use Prim.Native.Nat.{_+_, _*_, _≤_};
+ghost use Prim.Native.Nat.{_+_, _*_, _≤_, min};
 ghost use lib.ListN.{length, take, drop};
-ghost use Rattle.record.specs.Records.{recordOf};
+ghost use Rattle.big_endian.specs.Numbers.{four};
+ghost use Rattle.record.specs.Records.{recordOf, recordCount};
+ghost use Rattle.record.specs.Masks.{maskCount};
 ghost use Rattle.record.specs.Tokens.{recordAt};
 
 pub struct TokenRecord {
@@ -36,4 +38,26 @@ pub fn read_record(records: &[u8], k: usize) -> TokenRecord
         place: big_endian::read_four(records, at + 2),
         len: big_endian::read_four(records, at + 6),
     }
+}
+
+// Stores mask number `k`.
+pub fn put_mask(masks: &mut [u8], k: usize, mask: u32)
+    requires { ⌜ 4 * k + 4 ≤ length (now masks) ⌝ }
+    ensures { λ r. ⌜ now (masks .exit) ≡ take (4 * k) (now (masks .entry)) ++ four mask ++ drop (4 * k + 4) (now (masks .entry)) ⌝ }
+{
+    big_endian::put_four(masks, 4 * k, mask as u64);
+}
+
+// How many tokens there is room for, in records and in masks.
+pub fn room(records: &[u8], masks: &[u8]) -> usize
+    ensures { λ r. ⌜ r ≡ min (recordCount (now (records .entry))) (maskCount (now (masks .entry))) ⌝ }
+{
+    least(records.len() / 10, masks.len() / 4)
+}
+
+// The smaller of two numbers.
+pub fn least(a: usize, b: usize) -> usize
+    ensures { λ r. ⌜ r ≡ min a b ⌝ }
+{
+    if a < b { a } else { b }
 }

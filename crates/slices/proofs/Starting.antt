@@ -16,19 +16,19 @@ use Rattle.answer.specs.declared.BookAnswer.the-variants as book
 use Rattle.answer.specs.declared.LexAnswer.the-variants as answer
 
 module _ {bytes text tb : List ℕ} {room : ℕ} {b : BookAnswer} {r : Pending} (l : Loaded bytes b tb) where
-  pub begun-book : {n : ℕ} → b ≡ book.Accepted n → ((rules : List Rule) → Holds tb rules → Opens rules text room r)
-      → Begun bytes text room tb r
-  begun-book a f =
+  pub begun-book : {n least : ℕ} → b ≡ book.Accepted n → room ≡ least → ((rules : List Rule) → Holds tb rules → Opens rules text room r)
+      → Begun bytes text least tb r
+  begun-book a e f =
       let w = loaded-rules l a in
       let o = f (w .0) (w .1 .1) in
-      record {
+      subst (λ (m : ℕ). Begun bytes text m tb r) e (record {
         idle = o .idle;
-        refuses = λ p records q. answered-book l a text records records (answer.Refused (pendingRefusal r))
-            (λ rules h. f rules h .refuses p records q);
+        refuses = λ p records masks q. answered-book l a text records masks records masks (answer.Refused (pendingRefusal r))
+            (λ rules h. f rules h .refuses p records masks q);
         starts = λ p. (w .0, (w .1 .0, (w .1 .1, o .starts p)));
-      }
+      })
 
   pub begun-refused : {f : Refusal} → b ≡ book.Refused f → r ≡ refusedPending (f .number) (f .place) → Begun bytes text room tb r
   begun-refused a e =
       subst (Begun bytes text room tb) (sym e)
-      (record { idle = λ _. refl; refuses = λ _ records _. answered-refused l a text records; starts = λ p. clash refl p })
+      (record { idle = λ _. refl; refuses = λ _ records masks _. answered-refused l a text records masks; starts = λ p. clash refl p })

@@ -3,7 +3,7 @@ use mathlib.Core.Path.{_≡_}
 use mathlib.Core.Bool.{true, false}
 use mathlib.Core.Option.{Option, none, some}
 use mathlib.Core.List.{List}
-use Prim.Native.Nat.{ℕ, _+_, _%_, _^_, _<_, _≤_, _*_}
+use Prim.Native.Nat.{ℕ, _+_, _%_, _^_, _<_, _≤_, _*_, min}
 use lib.ListN.{length, drop, take}
 use lib.Dec.{ltb, eqb}
 use lib.Seq.{paste}
@@ -16,11 +16,12 @@ use Rattle.automaton.specs.Contracts.{ruleAt, Holds, Held}
 use Rattle.book.specs.Limits.{maxText, maxTokens}
 use Rattle.reader.specs.Reading.{readBook, accepted}
 use Rattle.longest_match.specs.Lexer.{choose, lex}
-use Rattle.longest_match.specs.Contracts.{Chooses}
+use Rattle.longest_match.specs.Contracts.{Chooses, Agrees}
 use Rattle.record.specs.Records.{recordCount}
+use Rattle.record.specs.Masks.{maskCount}
 use Rattle.record.specs.Contracts.{noRecord}
 use Rattle.record.specs.declared.TokenRecord.{TokenRecord}
-use Rattle.lexer.specs.Outcome.{lexRules, lexOutcome}
+use Rattle.lexer.specs.Masked.{maskedRules, maskedOutcome}
 use Rattle.lexer.specs.Contracts.{LexAnswered}
 use Rattle.output.specs.Contracts.{WritesOut}
 use Rattle.token_list.specs.Faults.{faultOf}
@@ -35,7 +36,7 @@ use Rattle.answer.specs.declared.PrintAnswer.the-variants as print
 
 abbrev pub refusedPending : ℕ → ℕ → Pending
 refusedPending number place =
-    record { more = false; index = 0; token = noRecord; next = 0; refused = true; number = number; place = place }
+    record { more = false; index = 0; token = noRecord; mask = 0; next = 0; refused = true; number = number; place = place }
 
 abbrev pub pendingRefusal : Pending → Refusal
 pendingRefusal p = record { number = p .number; place = p .place }
@@ -44,13 +45,14 @@ pendingRefusal p = record { number = p .number; place = p .place }
 abbrev pub answerOf : Pending → LexAnswer
 answerOf p = if (p .refused) (answer.Refused (pendingRefusal p)) (answer.Lexed (p .index) (p .next))
 
--- the pending token is the one that is chosen at `at`
+-- the pending token is the one that is chosen at `at`, and the mask that of the rules which agree on it
 pub record Chosen (rules : List Rule) (text : List ℕ) (at : ℕ) (p : Pending) : Type 0 where
   pub rule : ℕ
   pub chooses : Chooses rules (drop at text) rule (p .token .len)
   pub some : 0 < p .token .len
   pub tag : p .token .tag ≡ (ruleAt rules rule) .tag % 65536
   pub place : p .token .place ≡ at
+  pub agrees : Agrees rules (drop at text) (p .token .len) (p .mask)
   pub next : p .next ≡ at + p .token .len
 
 -- p is pending after `index` tokens, where the text goes on at `at`
@@ -78,15 +80,15 @@ pub record Started (rules : List Rule) (text : List ℕ) (room : ℕ) (p : Pendi
 -- by rules that the table holds: 14, 15, or the first token
 pub record Opens (rules : List Rule) (text : List ℕ) (room : ℕ) (p : Pending) : Type 0 where
   pub idle : p .refused ≡ true → p .more ≡ false
-  pub refuses : p .refused ≡ true → (records : List ℕ) → recordCount records ≡ room
-      → LexAnswered (lexRules rules text records) (answer.Refused (pendingRefusal p)) records
+  pub refuses : p .refused ≡ true → (records masks : List ℕ) → min (recordCount records) (maskCount masks) ≡ room
+      → LexAnswered (maskedRules rules text records masks) (answer.Refused (pendingRefusal p)) records masks
   pub starts : p .refused ≡ false → Started rules text room p
 
 -- by a book: refused, or the first token by its rules
 pub record Begun (book text : List ℕ) (room : ℕ) (tb : List ℕ) (p : Pending) : Type 0 where
   pub idle : p .refused ≡ true → p .more ≡ false
-  pub refuses : p .refused ≡ true → (records : List ℕ) → recordCount records ≡ room
-      → LexAnswered (lexOutcome book text records) (answer.Refused (pendingRefusal p)) records
+  pub refuses : p .refused ≡ true → (records masks : List ℕ) → min (recordCount records) (maskCount masks) ≡ room
+      → LexAnswered (maskedOutcome book text records masks) (answer.Refused (pendingRefusal p)) records masks
   pub starts : p .refused ≡ false → (rules : List Rule) × ((readBook book ≡ accepted rules) × (Holds tb rules × Started rules text room p))
 
 -- ==== Module printing: the stages.

@@ -1,4 +1,5 @@
-// Lexing into a slice of tokens, by functions over plain data: which token is to be stored next, and what is answered where there is none.
+// Lexing into a slice of tokens and one of masks, by functions over plain data: which token is to be stored next, with which mask, and what
+// is answered where there is none.
 use answer::BookAnswer;
 use answer::LexAnswer;
 use answer::Refusal;
@@ -6,7 +7,7 @@ use book::Book;
 use record::TokenRecord;
 ghost use mathlib.Core.Path.{_≡_};
 ghost use mathlib.Core.List.{List};
-ghost use Prim.Native.Nat.{_+_, _≤_};
+ghost use Prim.Native.Nat.{_+_, _≤_, min};
 ghost use lib.ListN.{length};
 ghost use Rattle.automaton.specs.Rule.{Rule};
 ghost use Rattle.automaton.specs.Contracts.{Holds, Held};
@@ -14,12 +15,13 @@ ghost use Rattle.book.specs.Limits.{maxText};
 ghost use Rattle.reader.specs.Contracts.{Lent};
 ghost use Rattle.slices.specs.Contracts.{answerOf, refusedPending, PendingAt, Ready, Opens, Begun};
 
-// What is pending: whether `token` is to be stored, as number `index`, and where the text goes on behind it; where there is none,
-// `index` tokens are stored and the rest is at `next`, or the call is refused.
+// What is pending: whether `token` and `mask` are to be stored, as number `index`, and where the text goes on behind it; where there is
+// none, `index` tokens are stored and the rest is at `next`, or the call is refused.
 pub struct Pending {
     pub more: bool,
     pub index: usize,
     pub token: TokenRecord,
+    pub mask: u32,
     pub next: usize,
     pub refused: bool,
     pub number: u8,
@@ -38,6 +40,7 @@ fn refuse(number: u8, place: usize) -> Pending
             place: 0,
             len: 0,
         },
+        mask: 0,
         next: 0,
         refused: true,
         number,
@@ -63,6 +66,7 @@ fn pending_at(table: &[u64], text: &[u8], index: usize, at: usize) -> Pending
                 place: 0,
                 len: 0,
             },
+            mask: 0,
             next: at,
             refused: false,
             number: 0,
@@ -78,6 +82,7 @@ fn pending_at(table: &[u64], text: &[u8], index: usize, at: usize) -> Pending
             place: at as u32,
             len: len as u32,
         },
+        mask: c.mask,
         next: at + len,
         refused: false,
         number: 0,
@@ -85,7 +90,7 @@ fn pending_at(table: &[u64], text: &[u8], index: usize, at: usize) -> Pending
     }
 }
 
-// What is pending first in lexing `text` by the rules of the table into `room` tokens.
+// What is pending first in lexing `text` by the rules of the table into `room` tokens and masks.
 fn begin_rules(table: &[u64], text: &[u8], room: usize) -> Pending
     requires { ⌜ Held (now table) ⌝ }
     ensures { λ r. ⌜ ((rs : List Rule) → Holds (now (table .entry)) rs → Opens rs (now (text .entry)) room r) ⌝ }
@@ -127,13 +132,20 @@ pub fn answer(pending: Pending) -> LexAnswer
     }
 }
 
-// What is pending first in lexing `text` by a book into `room` tokens; the table is lent empty, and holds the book's rules afterwards.
-pub fn begin(book: &[u8], table: &mut [u64; Book::TABLE], text: &[u8], room: usize) -> Pending
+// What is pending first in lexing `text` by a book into so many tokens and masks; the table is lent empty, and holds the book's rules
+// afterwards.
+pub fn begin(
+    book: &[u8],
+    table: &mut [u64; Book::TABLE],
+    text: &[u8],
+    tokens: usize,
+    masks: usize,
+) -> Pending
     requires { ⌜ Lent (length (now book)) (now table) ⌝ }
-    ensures { λ r. ⌜ Begun (now (book .entry)) (now (text .entry)) room (now (table .exit)) r ⌝ }
+    ensures { λ r. ⌜ Begun (now (book .entry)) (now (text .entry)) (min tokens masks) (now (table .exit)) r ⌝ }
 {
     match reader::load(book, table) {
-        BookAnswer::Accepted(_) => begin_rules(table, text, room),
+        BookAnswer::Accepted(_) => begin_rules(table, text, record::least(tokens, masks)),
         BookAnswer::Refused(refusal) => refuse(refusal.number, refusal.place),
     }
 }

@@ -1,5 +1,5 @@
-// Lexing into and printing from a slice of token structs, for callers inside the server.
-// All that is decided stands in the modules, in functions over plain data; a function that holds the slice is one loop.
+// Lexing into and printing from a slice of token structs, for callers inside the server; lexing fills a slice of masks beside it.
+// All that is decided stands in the modules, in functions over plain data; a function that holds slices is one loop.
 pub mod lexing;
 pub mod printing;
 
@@ -9,21 +9,34 @@ use book::Book;
 use record::TokenRecord;
 ghost use mathlib.Core.Path.{_≡_};
 ghost use Rattle.record.specs.Encoding.{encoded};
-ghost use Rattle.lexer.specs.Outcome.{lexOutcome};
+ghost use Rattle.record.specs.Masks.{maskBytes};
+ghost use Rattle.lexer.specs.Masked.{maskedOutcome};
 ghost use Rattle.printer.specs.Outcome.{printOutcome};
 
 // Cuts `text` by the rules of a book, as `lexer::lex` does, into tokens of a slice: the number of tokens and the
-// place of the rest, or the refusal of document 01. The tokens past the count stay as they were.
-pub fn lex_tokens(book: &[u8], text: &[u8], tokens: &mut [TokenRecord]) -> LexAnswer
-    ensures { λ r. ⌜ (r ≡ (lexOutcome (now (book .entry)) (now (text .entry)) (encoded (now (tokens .entry)))) .answer)
-        × (encoded (now (tokens .exit)) ≡ (lexOutcome (now (book .entry)) (now (text .entry)) (encoded (now (tokens .entry)))) .records) ⌝ }
+// place of the rest, or the refusal of document 01. Each token has a mask at its number in `masks`: bit k is set where rule number k
+// of the book matches just its bytes. Tokens and masks past the count stay as they were; 15 is also said where the masks are too few.
+pub fn lex_tokens(
+    book: &[u8],
+    text: &[u8],
+    tokens: &mut [TokenRecord],
+    masks: &mut [u32],
+) -> LexAnswer
+    ensures { λ r. ⌜ (r
+        ≡ (maskedOutcome (now (book .entry)) (now (text .entry)) (encoded (now (tokens .entry))) (maskBytes (now (masks .entry)))) .answer)
+        × (encoded (now (tokens .exit))
+        ≡ (maskedOutcome (now (book .entry)) (now (text .entry)) (encoded (now (tokens .entry))) (maskBytes (now (masks .entry)))) .records)
+        × (maskBytes (now (masks .exit))
+        ≡ (maskedOutcome (now (book .entry)) (now (text .entry)) (encoded (now (tokens .entry))) (maskBytes (now (masks .entry))))
+        .masks) ⌝ }
 {
     let mut table = [0u64; Book::TABLE];
-    let mut pending = crate::lexing::begin(book, &mut table, text, tokens.len());
+    let mut pending = crate::lexing::begin(book, &mut table, text, tokens.len(), masks.len());
     let t = &table;
     while pending.more {
         let index = pending.index;
         tokens[index] = pending.token;
+        masks[index] = pending.mask;
         pending = crate::lexing::next(t, text, pending);
     }
     crate::lexing::answer(pending)

@@ -1,5 +1,5 @@
 // Runs `slices::lex_tokens`, `slices::print_tokens` and `lexer::rest` on examples and edges of document 01, and prints what they answer
-// and what stands in the tokens and in the output afterwards.
+// and what stands in the tokens, in the masks and in the output afterwards.
 use answer::LexAnswer;
 use answer::PrintAnswer;
 use answer::Refusal;
@@ -10,7 +10,8 @@ ghost use Prim.Native.Nat.{_≤_};
 // A byte more than a text may have.
 const LONG: usize = 65537;
 
-// Books A and B of document 01, a rule to a line; 9 is the error state of each.
+// Books A and B of document 01, a rule to a line; 9 is the error state of each. Book C has "if", words, "s" and a space: "if" and "s" are
+// words too, so that "if" hides words and words hide "s".
 fn main() {
     let a =
         b"\x01\x00\x01\x00\x02\x00\x03\x09\x04\x01\x04\x03\x05\x00a\x01\x05\x01b\x02\x05\x02c\x03\x07\
@@ -24,6 +25,12 @@ fn main() {
         \x01\x00\x02\x00\x02\x00\x03\x09\x04\x02\x05\x00b\x01\x05\x01c\x02\x07\
         \x08";
     by_b(b);
+    let c = b"\x01\x00\x01\x00\x02\x00\x03\x09\x04\x02\x06\x00ii\x01\x06\x01ff\x02\x07\
+        \x01\x00\x02\x00\x02\x00\x03\x09\x04\x01\x06\x00az\x01\x06\x01az\x01\x07\
+        \x01\x00\x03\x00\x02\x00\x03\x09\x04\x01\x06\x00ss\x01\x07\
+        \x01\x00\x04\x01\x02\x00\x03\x09\x04\x01\x06\x00  \x01\x07\
+        \x08";
+    by_c(c);
     by_none(b"");
 }
 
@@ -39,6 +46,14 @@ fn lex_by_a(book: &[u8]) {
     lex(book, b"cccc");
     lex(book, b"ccccc");
     lex_long(book, &[b' '; LONG]);
+    lex_few(book);
+}
+
+// Masks that are just enough for two tokens, and that are too few.
+fn lex_few(book: &[u8]) {
+    lex_to(book, b"ab", &mut [90, 91]);
+    lex_to(book, b"ab", &mut [90]);
+    lex_to(book, b"", &mut []);
 }
 
 fn print_by_a(book: &[u8]) {
@@ -77,6 +92,14 @@ fn by_b(book: &[u8]) {
     print(b"bc a", book, [bc, a, a, a], 2);
 }
 
+fn by_c(book: &[u8]) {
+    put(b"book C\n");
+    lex(book, b"if");
+    lex(book, b"s");
+    lex(book, b"if s");
+    lex(book, b"s ifs");
+}
+
 fn by_none(book: &[u8]) {
     put(b"no book\n");
     lex(book, b"abc");
@@ -97,14 +120,20 @@ fn marks() -> [TokenRecord; 4] {
     ]
 }
 
+// With four masks that no text gives by these books.
 fn lex(book: &[u8], text: &[u8]) {
-    let filled = lex_into(book, text, marks());
+    lex_to(book, text, &mut [90, 91, 92, 93]);
+}
+
+fn lex_to(book: &[u8], text: &[u8], masks: &mut [u32]) {
+    let filled = lex_into(book, text, marks(), masks);
     put(b"lex ");
     put_text(text);
     let answer = filled.answer;
     put_lexed(answer);
     let tokens = filled.tokens;
     put_tokens(tokens);
+    put_masks(masks);
     put_rest(text.len(), lexer::rest(book, text));
 }
 
@@ -139,8 +168,8 @@ struct Filled {
     tokens: [TokenRecord; 4],
 }
 
-fn lex_into(book: &[u8], text: &[u8], mut tokens: [TokenRecord; 4]) -> Filled {
-    let answer = slices::lex_tokens(book, text, &mut tokens);
+fn lex_into(book: &[u8], text: &[u8], mut tokens: [TokenRecord; 4], masks: &mut [u32]) -> Filled {
+    let answer = slices::lex_tokens(book, text, &mut tokens, masks);
     Filled { answer, tokens }
 }
 
@@ -218,6 +247,20 @@ fn put_token(before: &[u8], token: TokenRecord) {
     put_number(b" ", token.tag as u64);
     put_number(b" ", token.place as u64);
     put_number(b" ", token.len as u64);
+}
+
+fn put_masks(masks: &[u32]) {
+    put(b"  masks");
+    let mut k = 0;
+    while k < masks.len() {
+        put_mask(masks[k]);
+        k += 1;
+    }
+    put(b"\n");
+}
+
+fn put_mask(mask: u32) {
+    put_number(b" ", mask as u64);
 }
 
 // The rest of a text of `whole` bytes.

@@ -18,7 +18,7 @@ use Rattle.book.specs.Limits.{maxBytes, maxText}
 use Rattle.reader.specs.Reading.{readBook, readStrict, answer}
 use Rattle.reader.specs.Rules.{ruleOutcome}
 use Rattle.rewriting.specs.Outcome.{rewriteOutcome}
-use Rattle.lexer.specs.Outcome.{lexOutcome}
+use Rattle.lexer.specs.Masked.{maskedOutcome}
 use Rattle.printer.specs.Outcome.{printOutcome}
 use Rattle.separated.specs.Outcome.{separatedOutcome}
 use Rattle.zagvulem.specs.Words.{largestPlace, largestValue, refusalWord, acceptedWord, bookWord, ruleWord, lexWord, printWord}
@@ -28,7 +28,7 @@ use Rattle.zagvulem.specs.Numbers.{bookNumbers, strictNumbers, rewriteNu
 use Rattle.zagvulem.specs.Kept.{BookWordKept, RewriteWordKept, RuleWordKept, LexWordKept}
 use Rattle.zagvulem.specs.Kept.{PrintWordKept, SeparatedWordKept}
 use Rattle.zagvulem.proofs.Refused.{BookWithin, RuleWithin, TagAndKind, LexWithin, PrintWithin, farthest}
-use Rattle.zagvulem.proofs.Refused.{book-within, strict-within, rewrite-within, rule-within, lex-within}
+use Rattle.zagvulem.proofs.Refused.{book-within, strict-within, rewrite-within, rule-within, masked-within}
 use Rattle.zagvulem.proofs.Refused.{print-within, separated-within}
 use Rattle.answer.specs.declared.BookAnswer.the-variants as books
 use Rattle.answer.specs.declared.RuleAnswer.the-variants as ruled
@@ -105,7 +105,8 @@ pub rule-word-kept : RuleWordKept
 rule-word-kept book bytes index = rule-kept (ruleOutcome book index) (rule-within book bytes index)
 
 pub lex-word-kept : LexWordKept
-lex-word-kept book text records = lex-kept ((lexOutcome book text records) .answer) (lex-within book text records)
+lex-word-kept book text records masks =
+    lex-kept ((maskedOutcome book text records masks) .answer) (masked-within book text records masks)
 
 pub print-word-kept : PrintWordKept
 print-word-kept book records pool out =

@@ -1,5 +1,6 @@
 -- A call refuses by the numbers of its operation alone, and what it answers is held down by the limits. Assumes nothing.
 use mathlib.Core.Path.{_≡_, refl, ap, subst}
+use mathlib.Core.Logic.{inl, inr}
 use mathlib.Core.Bool.{Bool, true, false, not, _&&_, _||_}
 use mathlib.Core.Option.{Option, none, some}
 use mathlib.Core.List.{List, [], _∷_, _++_}
@@ -37,6 +38,8 @@ use Rattle.record.specs.Records.{recordCount}
 use Rattle.record.specs.declared.TokenRecord.{TokenRecord}
 use Rattle.record.specs.Tokens.{recordsFrom, recordsOf, bytesIn, tokensIn, tokensOf}
 use Rattle.lexer.specs.Outcome.{lexRefused, lexAccepted, lexRules, lexReading, lexOutcome}
+use Rattle.lexer.specs.Masked.{maskedOutcome}
+use Rattle.lexer.proofs.Masking.{masked-refused, masked-lexed}
 use Rattle.token_list.specs.Faults.{aloneIn, faultOf}
 use Rattle.token_list.specs.Checks.{refuse, refuseBy, firstFault, firstExtended}
 use Rattle.output.specs.Outcome.{PrintOutcome, refusedIf, unless, written, writtenUpTo}
@@ -304,6 +307,18 @@ lex-refused book text records f e = subst LexWithin e (lex-within book text reco
 pub lex-accepted : (book text records : List ℕ) (tokens rest : ℕ) → (lexOutcome book text records) .answer ≡ lexes.Lexed tokens rest
     → (tokens ≤ maxText) × (rest ≤ maxText)
 lex-accepted book text records tokens rest e = subst LexWithin e (lex-within book text records)
+
+-- with masks
+pub masked-within : (book text records masks : List ℕ) → LexWithin ((maskedOutcome book text records masks) .answer)
+masked-within book text records masks = go ((maskedOutcome book text records masks) .answer) refl
+  where
+    go : (a : LexAnswer) → (maskedOutcome book text records masks) .answer ≡ a → LexWithin a
+    go (lexes.Lexed tokens rest) e =
+        lex-accepted book text records tokens rest (masked-lexed book text records masks tokens rest e .1 .1 .cut)
+    go (lexes.Refused f) e = elim (masked-refused book text records masks f e .why) [
+      | inl w ↦ lex-refused book text records f (w .0)
+      | inr w ↦ rw (w .4) (by 15 (w .0) refl (lex-accepted book text records (w .0) (w .1) (w .2) .0))
+    ]
 
 -- ---- lists of tokens
 

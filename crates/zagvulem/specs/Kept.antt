@@ -9,7 +9,7 @@ use Rattle.reader.specs.Rules.{ruleOutcome}
 use Rattle.record.specs.Records.{recordCount}
 use Rattle.record.specs.declared.TokenRecord.{TokenRecord}
 use Rattle.rewriting.specs.Outcome.{rewriteOutcome}
-use Rattle.lexer.specs.Outcome.{lexOutcome}
+use Rattle.lexer.specs.Masked.{maskedOutcome}
 use Rattle.printer.specs.Outcome.{printOutcome}
 use Rattle.separated.specs.Outcome.{separatedOutcome}
 use Rattle.zagvulem.specs.Words.{largestPlace, bookWord, ruleWord, lexWord, printWord}
@@ -33,8 +33,8 @@ RuleWordKept =
 -- zgv_lex, and zgv_lex_builtin, whose book is `builtinBytes`
 abbrev pub LexWordKept : Type 0
 LexWordKept =
-    (book text records : List ℕ)
-    → lexAnswerIn (lexWord ((lexOutcome book text records) .answer)) ≡ (lexOutcome book text records) .answer
+    (book text records masks : List ℕ)
+    → lexAnswerIn (lexWord ((maskedOutcome book text records masks) .answer)) ≡ (maskedOutcome book text records masks) .answer
 
 -- zgv_print
 abbrev pub PrintWordKept : Type 0

@@ -8,7 +8,7 @@ ghost use mathlib.Core.Path.{_≡_};
 ghost use Rattle.reader.specs.Reading.{readBook, readStrict, answer};
 ghost use Rattle.reader.specs.Rules.{ruleOutcome};
 ghost use Rattle.rewriting.specs.Outcome.{rewriteOutcome};
-ghost use Rattle.lexer.specs.Outcome.{lexOutcome};
+ghost use Rattle.lexer.specs.Masked.{maskedOutcome};
 ghost use Rattle.builtin.specs.Book.{builtinBytes};
 ghost use Rattle.printer.specs.Outcome.{printOutcome};
 ghost use Rattle.separated.specs.Outcome.{separatedOutcome};
@@ -53,20 +53,26 @@ pub extern "C" fn zgv_rule(book: &[u8], index: u32) -> u64
 
 // Lexes a text by a book: the number of tokens and the place of the rest, or the refusal.
 #[no_mangle]
-pub extern "C" fn zgv_lex(book: &[u8], text: &[u8], records: &mut [u8]) -> u64
-    ensures { λ r. ⌜ r ≡ lexWord ((lexOutcome (now (book .entry)) (now (text .entry)) (now (records .entry))) .answer) ⌝ }
-    ensures { λ r. ⌜ now (records .exit) ≡ (lexOutcome (now (book .entry)) (now (text .entry)) (now (records .entry))) .records ⌝ }
+pub extern "C" fn zgv_lex(book: &[u8], text: &[u8], records: &mut [u8], masks: &mut [u8]) -> u64
+    ensures { λ r. ⌜ r
+        ≡ lexWord ((maskedOutcome (now (book .entry)) (now (text .entry)) (now (records .entry)) (now (masks .entry))) .answer) ⌝ }
+    ensures { λ r. ⌜ now (records .exit)
+        ≡ (maskedOutcome (now (book .entry)) (now (text .entry)) (now (records .entry)) (now (masks .entry))) .records ⌝ }
+    ensures { λ r. ⌜ now (masks .exit)
+        ≡ (maskedOutcome (now (book .entry)) (now (text .entry)) (now (records .entry)) (now (masks .entry))) .masks ⌝ }
 {
-    crate::words::lexed(lexer::lex(book, text, records))
+    crate::words::lexed(lexer::lex(book, text, records, masks))
 }
 
 // Lexes a text by the built-in book, through its byte classes: as `zgv_lex` with the book's command bytes.
 #[no_mangle]
-pub extern "C" fn zgv_lex_builtin(text: &[u8], records: &mut [u8]) -> u64
-    ensures { λ r. ⌜ r ≡ lexWord ((lexOutcome builtinBytes (now (text .entry)) (now (records .entry))) .answer) ⌝ }
-    ensures { λ r. ⌜ now (records .exit) ≡ (lexOutcome builtinBytes (now (text .entry)) (now (records .entry))) .records ⌝ }
+pub extern "C" fn zgv_lex_builtin(text: &[u8], records: &mut [u8], masks: &mut [u8]) -> u64
+    ensures { λ r. ⌜ r ≡ lexWord ((maskedOutcome builtinBytes (now (text .entry)) (now (records .entry)) (now (masks .entry))) .answer) ⌝ }
+    ensures { λ r. ⌜ now (records .exit)
+        ≡ (maskedOutcome builtinBytes (now (text .entry)) (now (records .entry)) (now (masks .entry))) .records ⌝ }
+    ensures { λ r. ⌜ now (masks .exit) ≡ (maskedOutcome builtinBytes (now (text .entry)) (now (records .entry)) (now (masks .entry))) .masks ⌝ }
 {
-    crate::words::lexed(builtin::lex_builtin(text, records))
+    crate::words::lexed(builtin::lex_builtin(text, records, masks))
 }
 
 // Prints the tokens that the records say with a pool: the number of bytes and 0, or the refusal.

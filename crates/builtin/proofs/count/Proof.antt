@@ -5,15 +5,16 @@ use lib.ListN.{length, drop}
 use denote.Ref.{now}
 use Rattle.longest_match.proofs.Cutting.{Cutting, cutting-start, cutting-within, cutting-next, cutting-stop, lex-stop, lex-end}
 use Rattle.builtin.specs.Book.{builtinRules}
+use Rattle.builtin.specs.Contracts.{tagAt}
 use Rattle.builtin.proofs.Scanned.{Picked, picked}
 use Rattle.builtin.proofs.count.Statement.{statement}
 use Rattle.builtin.proofs.count.Tie as tie
 
 abbrev Inv-loop : tie.InvT-loop
-Inv-loop classes next tags text tokens₀ at₀ tokens at = Cutting builtinRules text at tokens
+Inv-loop classes next text tokens₀ at₀ tokens at = Cutting builtinRules text at tokens
 
 abbrev μ-loop : tie.MeasureT-loop
-μ-loop classes next tags text tokens₀ at₀ tokens at = length text - at
+μ-loop classes next text tokens₀ at₀ tokens at = length text - at
 
 -- the call, from the loop's head, and that, from the end of the turn
 abbrev call : tie.At-loop Inv-loop μ-loop → tie.Start Inv-loop μ-loop
@@ -25,7 +26,7 @@ head c = c .before .before .before .before .before
 module _ (c : tie.After-struct-known2 Inv-loop μ-loop) where
   -- the token that is found at this place
   token : Picked builtinRules (drop (head c .loop .at) (now (call (head c) .args .text)))
-      (c .before .before .before .scan-at .result .tag) (c .before .before .before .scan-at .result .len)
+      (tagAt (c .before .before .before .scan-at .result .state)) (c .before .before .before .scan-at .result .len)
   token = picked (c .before .before .before .scan-at .ensures)
 
   more : head c .loop .at + c .before .before .before .scan-at .result .len ≤ length (now (call (head c) .args .text))

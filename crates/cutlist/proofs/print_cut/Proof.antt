@@ -15,7 +15,7 @@ front : (book text records before : List ℕ) {out : List ℕ} {n : ℕ} → n �
 front book text records before {out} {n} e f = rw f (omega (arith, length-append (listing book text records) (drop n before)))
 
 print-front-requires : tie.Need-print-front-requires
-print-front-requires c κs = front _ _ _ _ (c .before .before .list .ensures .0) (c .before .before .list .ensures .1 .1)
+print-front-requires c κs = front _ _ _ _ (c .before .before .list .ensures .0) (c .before .before .list .ensures .1 .1 .1)
 
 pub print-cut-spec : {M : Type 1} → statement M
 print-cut-spec =

@@ -7,19 +7,19 @@ use Rattle.lexer.proofs.lex_with.Tie as tie
 
 lex-rules-requires : tie.Need-lex-rules-requires
 lex-rules-requires c κs =
-    let k = c .before .before .before .before .before .before in
-    loaded-held (k .load .ensures) (c .before .before .enum-told .given .1)
+    let told = c .before .before .before in
+    loaded-held (told .before .before .before .before .load .ensures) (told .enum-told .given .1)
 
 returns : tie.Need-returns
 returns c =
-    let k = c .before .before .before .before .before in
-    let k₁ = k .before .before .before .before in
-    answered-book (k₁ .load .ensures) (k .enum-told .given .1) _ _ _ _ (c .before .before .lex-rules .ensures)
+    let lexed = c .before .before .before .before in
+    let told = lexed .before .before .before .before in
+    answered-book (told .before .before .before .before .load .ensures) (told .enum-told .given .1) _ _ _ _ _ _ (lexed .lex-rules .ensures)
 
 returns-2 : tie.Need-returns-2
-returns-2 c = answered-refused (c .before .before .before .before .before .load .ensures) (c .before .refusal .given .1) _ _
+returns-2 c = answered-refused (c .before .before .before .before .before .load .ensures) (c .before .refusal .given .1) _ _ _
 
 pub lex-with-spec : {M : Type 1} → statement M
 lex-with-spec =
     tie.close (tie.spec (λ c κs. search needs) (λ c. search needs) lex-rules-requires (λ c. search needs) (λ c. search needs)
-    (λ c. search needs) returns (λ c. search needs) returns-2)
+    (λ c. search needs) (λ c. search needs) returns (λ c. search needs) returns-2)

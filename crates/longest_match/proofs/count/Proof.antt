@@ -29,7 +29,7 @@ more : (c : tie.After-struct-known2 Inv-loop μ-loop) → c .before .before .bef
 more c =
     let start = c .before .before .before .before .before .before .before .before .before .pre in
     cutting-within (some (c .before .before .before .before .before .before))
-        (c .before .before .before .choose-with .ensures (start .rules) _ (start .holds) (part-end _ _)) (omega arith)
+        (c .before .before .before .choose-with .ensures .0 (start .rules) _ (start .holds) (part-end _ _)) (omega arith)
 
 ended : (c : tie.After-loop Inv-loop μ-loop) → length (now (c .before .before .before .before .args .text)) ≤
     c .before .loop .at
@@ -43,7 +43,7 @@ choose-with-requires c κs = (c .before .before .before .before .before .pre, (s
 
 returns : tie.Need-returns Inv-loop μ-loop
 returns c = λ rs h. cutting-stop (c .before .before .before .before .before .loop .inv rs h)
-    (lex-stop rs _ ((c .before .before .choose-with .ensures rs _ h (part-end _ _)) .nothing (c .if1 .taken)))
+    (lex-stop rs _ ((c .before .before .choose-with .ensures .0 rs _ h (part-end _ _)) .nothing (c .if1 .taken)))
 
 add-tokens : tie.Need-add-tokens Inv-loop μ-loop
 add-tokens c = let w = some (c .before .before .before .before .before) in omega (arith, w .few, w .within)
@@ -56,7 +56,7 @@ loop-less c = omega (arith, more c)
 
 loop-again : tie.Need-loop-again Inv-loop μ-loop
 loop-again c = λ rs h. cutting-next (c .before .before .before .before .before .before .loop .inv rs h)
-    (c .before .before .before .choose-with .ensures rs _ h (part-end _ _)) (omega arith)
+    (c .before .before .before .choose-with .ensures .0 rs _ h (part-end _ _)) (omega arith)
 
 returns-2 : tie.Need-returns-2 Inv-loop μ-loop
 returns-2 c = λ rs h. cutting-stop (c .before .loop .inv rs h) (lex-end rs _ _ (ended c))

@@ -22,12 +22,12 @@ choose-requires c κs =
 returns-3 : tie.Need-returns-3
 returns-3 c = λ rs h t us a. due-more _ a (c .before .before .before .before .before .if1 .left)
     (λ z. c .before .before .before .if2 .left (c .before .before .before .before .meaning-of .ensures ∙ z)) (held-empty h)
-    (c .before .before .choose .ensures rs _ h (part-end _ _)) (c .if3 .taken)
+    (c .before .before .choose .ensures .0 rs _ h (part-end _ _)) (c .if3 .taken)
 
 returns-4 : tie.Need-returns-4
 returns-4 c = λ rs h t us a. due-no _ a (c .before .before .before .before .before .if1 .left)
     (λ z. c .before .before .before .if2 .left (c .before .before .before .before .meaning-of .ensures ∙ z)) (held-empty h)
-    (c .before .before .choose .ensures rs _ h (part-end _ _)) (c .if3 .left)
+    (c .before .before .choose .ensures .0 rs _ h (part-end _ _)) (c .if3 .left)
 
 pub is-due-spec : {M : Type 1} → statement M
 is-due-spec = tie.close (tie.spec returns (λ c κs. search needs) returns-2 choose-requires returns-3 returns-4)

@@ -7,5 +7,5 @@ use Rattle.zagvulem.proofs.zgv_lex.Tie as tie
 
 pub zgv-lex-spec : {M : Type 1} → statement M
 zgv-lex-spec =
-    tie.close (tie.spec (λ c κs. search needs) (λ c κs. search needs) (λ c. search needs)
-    (λ c. let a = c .before .before .before .lex .ensures in (c .lexed .ensures ∙ ap lexWord (a .0), a .1)))
+    tie.close (tie.spec (λ c κs. search needs) (λ c κs. search needs) (λ c. search needs) (λ c. search needs)
+    (λ c. let a = c .before .before .before .before .before .lex .ensures in (c .lexed .ensures ∙ ap lexWord (a .0), a .1)))

@@ -8,10 +8,10 @@ use Rattle.builtin.proofs.scanner.scan.Statement.{statement}
 use Rattle.builtin.proofs.scanner.scan.Tie as tie
 
 abbrev Inv-loop : tie.InvT-loop
-Inv-loop classes next tags text s₀ last₀ len₀ i₀ s last len i = Walked text s last len i
+Inv-loop classes next text s₀ last₀ len₀ i₀ s last len i = Walked text s last len i
 
 abbrev μ-loop : tie.MeasureT-loop
-μ-loop classes next tags text s₀ last₀ len₀ i₀ s last len i = length text - i
+μ-loop classes next text s₀ last₀ len₀ i₀ s last len i = length text - i
 
 byte : (c : tie.After-shared-slice-known2 Inv-loop μ-loop) (k : ℕ) → getD (now (c .before .before .before .before .args .text)) k 0 < 256
 byte c k = omega (arith, c .shared-slice-known2 .given k)
@@ -40,19 +40,10 @@ step-requires c κs = (
   c .before .before .loop .inv .inside,
 )
 
-found-requires : tie.Need-found-requires Inv-loop μ-loop
-found-requires c κs = (
-  c .before .before .before .before .before .before .pre .tags-are,
-  c .before .before .before .before .loop .inv .known,
-)
-
 returns : tie.Need-returns Inv-loop μ-loop
 returns c =
-    let a = c .found .ensures in
-    rw (a .0, a .1) (scanned-dead (c .before .before .before .before .before .loop .inv)
-    (c .before .before .before .before .loop-test .taken)
-    (byte (c .before .before .before) (c .before .before .before .before .before .loop .i)) (c .before .before .step .ensures)
-    (c .before .if1 .taken))
+    scanned-dead (c .before .before .before .before .loop .inv) (c .before .before .before .loop-test .taken)
+    (byte (c .before .before) (c .before .before .before .before .loop .i)) (c .before .step .ensures) (c .if1 .taken)
 
 add-i : tie.Need-add-i Inv-loop μ-loop
 add-i c = omega (arith, c .before .before .before .loop-test .taken)
@@ -79,15 +70,10 @@ loop-again-2 c = walked-pass (c .before .before .before .before .before .loop .i
     (byte (c .before .before .before) (c .before .before .before .before .before .loop .i)) (c .before .before .step .ensures)
     (c .if2 .left)
 
-found-requires-2 : tie.Need-found-requires-2 Inv-loop μ-loop
-found-requires-2 c κs = (c .before .before .before .pre .tags-are, c .before .loop .inv .known)
-
 returns-2 : tie.Need-returns-2 Inv-loop μ-loop
-returns-2 c =
-    let a = c .found2 .ensures in
-    rw (a .0, a .1) (scanned-end (c .before .before .loop .inv) (c .before .loop-test .left))
+returns-2 c = scanned-end (c .before .loop .inv) (c .loop-test .left)
 
 pub scan-spec : {M : Type 1} → statement M
 scan-spec =
-    tie.close (tie.spec Inv-loop μ-loop loop-holds shared-slice-read-step step-requires found-requires returns add-i run-requires loop-less
-    loop-again loop-less-2 loop-again-2 found-requires-2 returns-2)
+    tie.close (tie.spec Inv-loop μ-loop loop-holds shared-slice-read-step step-requires returns add-i run-requires loop-less loop-again
+    loop-less-2 loop-again-2 returns-2)

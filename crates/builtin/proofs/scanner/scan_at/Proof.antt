@@ -15,7 +15,7 @@ returns : tie.Need-returns
 returns c = let a = c .before .before .before .args in
     let t = drop (a .at) (now (a .text)) in
     let l : length t ≤ length (now (a .text)) - a .at = simp length-drop (le-refl _) in
-    subst (λ (x : List ℕ). Scanned x (c .scan .result .tag) (c .scan .result .len)) (take-all _ t l) (c .scan .ensures)
+    subst (λ (x : List ℕ). Scanned x (c .scan .result .state) (c .scan .result .len)) (take-all _ t l) (c .scan .ensures)
 
 pub scan-at-spec : {M : Type 1} → statement M
 scan-at-spec = tie.close (tie.spec (λ c. search needs) (λ c. search needs) (λ c. search needs) (λ c κs. search needs) returns)

@@ -21,7 +21,7 @@ call c = c .before .before .before
 module _ (c : tie.After-choose) where
   chosen : (rs : List Rule) → Holds (now (call c .args .table)) rs
       → Chooses rs (drop (call c .args .at) (now (call c .args .text))) (c .choose .result .rule) (c .choose .result .len)
-  chosen rs h = c .choose .ensures rs _ h (part-end _ _)
+  chosen rs h = c .choose .ensures .0 rs _ h (part-end _ _)
 
   -- by one list of rules that the table holds
   one : Chooses (call c .pre .0 .rules) (drop (call c .args .at) (now (call c .args .text))) (c .choose .result .rule)
@@ -62,6 +62,7 @@ returns-2 c = λ rs h.
         some = omega arith;
         tag = ap (λ (x : ℕ). x % 65536) (c .tag-of .ensures _ (h .each _ (chooses .known (omega arith))));
         place = refl;
+        agrees = c .before .before .choose .ensures .1 rs _ h (part-end _ _);
         next = refl;
       };
     }

@@ -9,7 +9,7 @@ returns : tie.Need-returns
 returns c = λ rs h. record {
   rule = c .before .before .before .choose .result .rule;
   most = c .before .before .before .choose .result .len;
-  chooses = c .before .before .before .choose .ensures rs _ h (part-front _ _ _);
+  chooses = c .before .before .before .choose .ensures .0 rs _ h (part-front _ _ _);
   result = rw (ne-eqb _ _ (c .before .if1 .taken)) (c .refuse .ensures);
 }
 
@@ -17,7 +17,7 @@ returns-2 : tie.Need-returns-2
 returns-2 c = λ rs h. record {
   rule = c .before .before .before .choose .result .rule;
   most = c .before .before .before .choose .result .len;
-  chooses = c .before .before .before .choose .ensures rs _ h (part-front _ _ _);
+  chooses = c .before .before .before .choose .ensures .0 rs _ h (part-front _ _ _);
   result = rw (eq-eqb _ _ (c .before .if1 .left)) (c .move-on .ensures);
 }
 

@@ -20,14 +20,14 @@ choose-requires c κs = (c .before .before .before .before .before .before .befo
 returns-3 : tie.Need-returns-3
 returns-3 c = λ rs h. checked-idle h _ _ (omega (arith, c .before .before .before .before .before .before .before .if1 .left))
     (c .before .before .before .before .before .find-tag .ensures rs h) (c .before .before .before .before .count-of .ensures rs h)
-    (c .before .before .before .if2 .left) (c .before .before .choose .ensures rs _ h (part-bytes _ _ _)) (c .if3 .taken)
+    (c .before .before .before .if2 .left) (c .before .before .choose .ensures .0 rs _ h (part-bytes _ _ _)) (c .if3 .taken)
 
 returns-4 : tie.Need-returns-4
 returns-4 c = λ rs h. checked-part h _ _
     (omega (arith, c .before .before .before .before .before .before .before .before .before .if1 .left))
     (c .before .before .before .before .before .before .before .find-tag .ensures rs h)
     (c .before .before .before .before .before .before .count-of .ensures rs h) (c .before .before .before .before .before .if2 .left)
-    (c .before .before .before .before .choose .ensures rs _ h (part-bytes _ _ _)) (c .if4 .taken)
+    (c .before .before .before .before .choose .ensures .0 rs _ h (part-bytes _ _ _)) (c .if4 .taken)
 
 pub token-fault-spec : {M : Type 1} → statement M
 token-fault-spec =
@@ -36,10 +36,10 @@ token-fault-spec =
     (λ c rs h. let k = c .before .before .before .before .before .before in
         checked-other h _ _ (omega (arith, k .before .before .before .before .before .if1 .left))
         (k .before .before .before .find-tag .ensures rs h) (k .before .before .count-of .ensures rs h) (k .before .if2 .left)
-        (k .choose .ensures rs _ h (part-bytes _ _ _)) (c .before .before .before .before .if3 .left)
+        (k .choose .ensures .0 rs _ h (part-bytes _ _ _)) (c .before .before .before .before .if3 .left)
         (c .before .before .if4 .left) (c .if5 .taken))
     (λ c rs h. let k = c .before .before .before .before .before .before in
         checked-same h _ _ (omega (arith, k .before .before .before .before .before .if1 .left))
         (k .before .before .before .find-tag .ensures rs h) (k .before .before .count-of .ensures rs h) (k .before .if2 .left)
-        (k .choose .ensures rs _ h (part-bytes _ _ _)) (c .before .before .before .before .if3 .left)
+        (k .choose .ensures .0 rs _ h (part-bytes _ _ _)) (c .before .before .before .before .if3 .left)
         (c .before .before .if4 .left) (c .if5 .left)))

@@ -60,19 +60,19 @@ returns : tie.Need-returns Inv-loop μ-loop
 returns c = λ rs pool h s.
     let a = c .before .before in
     retracing-none (test a .before .loop .inv rs pool h s) (held-empty h) (test a .loop-test .taken) (read a .read-record .ensures)
-    (found a .find-tag .ensures rs h) (a .choose-with .ensures rs _ h (part-front _ _ _)) (c .if1 .taken)
+    (found a .find-tag .ensures rs h) (a .choose-with .ensures .0 rs _ h (part-front _ _ _)) (c .if1 .taken)
 
 returns-2 : tie.Need-returns-2 Inv-loop μ-loop
 returns-2 c = λ rs pool h s.
     let a = c .before .before .before .before in
     retracing-longer (test a .before .loop .inv rs pool h s) (held-empty h) (test a .loop-test .taken) (read a .read-record .ensures)
-    (found a .find-tag .ensures rs h) (a .choose-with .ensures rs _ h (part-front _ _ _)) (c .if2 .taken)
+    (found a .find-tag .ensures rs h) (a .choose-with .ensures .0 rs _ h (part-front _ _ _)) (c .if2 .taken)
 
 returns-3 : tie.Need-returns-3 Inv-loop μ-loop
 returns-3 c = λ rs pool h s.
     let a = c .before .before .before .before .before .before in
     retracing-other (test a .before .loop .inv rs pool h s) (held-empty h) (test a .loop-test .taken) (read a .read-record .ensures)
-    (found a .find-tag .ensures rs h) (a .choose-with .ensures rs _ h (part-front _ _ _)) (c .before .before .before .before .if1 .left)
+    (found a .find-tag .ensures rs h) (a .choose-with .ensures .0 rs _ h (part-front _ _ _)) (c .before .before .before .before .if1 .left)
     (c .before .before .if2 .left) (c .if3 .taken)
 
 add-at : tie.Need-add-at Inv-loop μ-loop
@@ -94,7 +94,7 @@ loop-again : tie.Need-loop-again Inv-loop μ-loop
 loop-again c = λ rs pool h s.
     let a = c .before .before .before .before .before .before in
     retracing-next (test a .before .loop .inv rs pool h s) (held-empty h) (test a .loop-test .taken) (read a .read-record .ensures)
-    (found a .find-tag .ensures rs h) (a .choose-with .ensures rs _ h (part-front _ _ _)) (c .before .before .before .before .if1 .left)
+    (found a .find-tag .ensures rs h) (a .choose-with .ensures .0 rs _ h (part-front _ _ _)) (c .before .before .before .before .if1 .left)
     (c .before .before .if2 .left) (c .if3 .left)
 
 returns-4 : tie.Need-returns-4 Inv-loop μ-loop
