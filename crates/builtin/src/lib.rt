@@ -38,7 +38,7 @@ fn fill(
     classes: &[u8; 256],
     next: &[u8; 256],
     tag_table: &[u8; 16],
-    mask_table: &[u8; 16],
+    mask_table: &[u32; 16],
     text: &[u8],
     records: &mut [u8],
     masks: &mut [u8],
@@ -61,10 +61,10 @@ fn fill(
             };
         }
         let len = m.len;
-        let tag = crate::scanner::entry(tag_table, m.state);
+        let tag = crate::scanner::tag_of(tag_table, m.state);
         record::put_record(records, tokens, tag as u64, place, len);
-        let mask = crate::scanner::entry(mask_table, m.state);
-        record::put_mask(masks, tokens, mask as u32);
+        let mask = crate::scanner::mask_of(mask_table, m.state);
+        record::put_mask(masks, tokens, mask);
         tokens += 1;
         place += len;
     }
@@ -79,7 +79,7 @@ fn lex_lent(
     classes: &[u8; 256],
     next: &[u8; 256],
     tag_table: &[u8; 16],
-    mask_table: &[u8; 16],
+    mask_table: &[u32; 16],
     text: &[u8],
     records: &mut [u8],
     masks: &mut [u8],

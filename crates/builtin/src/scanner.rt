@@ -28,12 +28,20 @@ fn step(classes: &[u8; 256], next: &[u8; 256], s: usize, byte: u8) -> usize
     next[s + (class as usize)] as usize
 }
 
-// What a table with an entry for each state has for state `s`.
-pub fn entry(table: &[u8; 16], s: usize) -> u8
+// The tag of state `s`, from the table of them.
+pub fn tag_of(tags: &[u8; 16], s: usize) -> u8
     requires { ⌜ State s ⌝ }
-    ensures { λ r. ⌜ r ≡ getD (now (table .entry)) (s / 16) 0 ⌝ }
+    ensures { λ r. ⌜ r ≡ getD (now (tags .entry)) (s / 16) 0 ⌝ }
 {
-    table[s / 16]
+    tags[s / 16]
+}
+
+// Its mask.
+pub fn mask_of(masks: &[u32; 16], s: usize) -> u32
+    requires { ⌜ State s ⌝ }
+    ensures { λ r. ⌜ r ≡ getD (now (masks .entry)) (s / 16) 0 ⌝ }
+{
+    masks[s / 16]
 }
 
 // The first place from `from` on whose byte leads away from state `s`. No turn waits for the table step of the one before, which is

@@ -561,7 +561,7 @@ const NEXT: [u8; 256] = [
 const TAGS: [u8; 16] = [0, 0, 0, 0, 0, 0, 0, 0, 0, 0, 5, 5, 2, 3, 4, 1];
 
 // The mask of the rules that match in each state, bit k for rule number k.
-const MASKS: [u8; 16] = [0, 0, 0, 0, 0, 0, 0, 0, 0, 0, 16, 16, 2, 4, 8, 1];
+const MASKS: [u32; 16] = [0, 0, 0, 0, 0, 0, 0, 0, 0, 0, 16, 16, 2, 4, 8, 1];
 
 pub fn classes() -> [u8; 256]
     ensures { λ r. ⌜ r ≡ classTable ⌝ }
@@ -581,7 +581,7 @@ pub fn tags() -> [u8; 16]
     TAGS
 }
 
-pub fn masks() -> [u8; 16]
+pub fn masks() -> [u32; 16]
     ensures { λ r. ⌜ r ≡ maskTable ⌝ }
 {
     MASKS

@@ -5,8 +5,8 @@ use Prim.Native.Nat.{ℕ, zero, suc, _+_, _*_, _<_, _≤_}
 use native.Mathlib.Omega.{arith}
 use native.Mathlib.Nat.{add-zero, add-assoc}
 use native.Mathlib.Numerals.{add-two, add-six}
-use lib.ListN.{length, getD, take, drop, length-append}
-use lib.Seq.{sets, sets-eq, take-append-seam, drop-append-add}
+use lib.ListN.{length, getD, set, take, drop, length-append}
+use lib.Seq.{sets, sets-eq, set-comm, take-append-seam, drop-append-add}
 use Rattle.big_endian.specs.Numbers.{two, four}
 use Rattle.automaton.specs.Rule.{Rule}
 use Rattle.longest_match.specs.Lexer.{Token, lex, join}
@@ -15,9 +15,24 @@ use Rattle.record.specs.Records.{recordOf, recordsAt}
 
 -- ---- stored
 
+-- runs of stores that lie apart may be made in either order
+set-sets : (ys l : List ℕ) (i x j : ℕ) → i < j → sets (set l i x) j ys ≡ set (sets l j ys) i x
+set-sets [] l i x j h = refl
+set-sets (y ∷ ys) l i x j h =
+    ap (λ (m : List ℕ). sets m (suc j) ys) (set-comm l i j x y (λ e. omega arith)) ∙ set-sets ys (set l j y) i x (suc j) (omega arith)
+
+sets-comm : (xs l : List ℕ) (i j : ℕ) (ys : List ℕ) → i + length xs ≤ j → sets (sets l i xs) j ys ≡ sets (sets l j ys) i xs
+sets-comm [] l i j ys h = refl
+sets-comm (x ∷ xs) l i j ys h =
+    sets-comm xs (set l i x) (suc i) j ys (omega arith) ∙ ap (λ (m : List ℕ). sets m (suc i) xs) (set-sets ys l i x j (omega arith))
+
 pub record-stored : (l : List ℕ) (i tag place len : ℕ) → i + 10 ≤ length l
-    → sets (sets (sets l i (two tag)) (i + 2) (four place)) (i + 6) (four len) ≡ take i l ++ recordOf tag place len ++ drop (i + 10) l
-record-stored l i tag place len h = rw (add-two, add-six) (sets-eq (recordOf tag place len) l i h)
+    → sets (sets (sets l (i + 6) (four len)) (i + 2) (four place)) i (two tag) ≡ take i l ++ recordOf tag place len ++ drop (i + 10) l
+record-stored l i tag place len h =
+    sym (sets-comm (two tag) (sets l (i + 6) (four len)) i (i + 2) (four place) (omega arith))
+    ∙ ap (λ (m : List ℕ). sets m (i + 2) (four place)) (sym (sets-comm (two tag) l i (i + 6) (four len) (omega arith)))
+    ∙ sym (sets-comm (four place) (sets l i (two tag)) (i + 2) (i + 6) (four len) (omega arith))
+    ∙ rw (add-two, add-six) (sets-eq (recordOf tag place len) l i h)
 
 -- ---- counted
 

@@ -15,16 +15,17 @@ pub struct TokenRecord {
     pub len: u32,
 }
 
-// Stores record number `k`: of the tag the low two bytes, of place and length the low four.
+// Stores record number `k`: of the tag the low two bytes, of place and length the low four. The length goes first, since of a run of stores
+// of single bytes the compiler joins those of the first number to one.
 pub fn put_record(records: &mut [u8], k: usize, tag: u64, place: usize, len: usize)
     requires { ⌜ 10 * k + 10 ≤ length (now records) ⌝ }
     ensures { λ r. ⌜ now (records .exit)
         ≡ take (10 * k) (now (records .entry)) ++ recordOf tag place len ++ drop (10 * k + 10) (now (records .entry)) ⌝ }
 {
     let at = 10 * k;
-    big_endian::put_two(records, at, tag);
-    big_endian::put_four(records, at + 2, place as u64);
     big_endian::put_four(records, at + 6, len as u64);
+    big_endian::put_four(records, at + 2, place as u64);
+    big_endian::put_two(records, at, tag);
 }
 
 // Record number `k`.

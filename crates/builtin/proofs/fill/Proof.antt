@@ -71,14 +71,14 @@ returns : tie.Need-returns Inv-loop μ-loop
 returns c = let e = lex-stop builtinRules _ (c .before .before .scan-at .ensures .nothing (c .if1 .taken)) in
     (cutting-stop (c .before .before .before .before .loop .inv .cut) e, filling-stop (c .before .before .before .before .loop .inv) e)
 
-entry-requires : tie.Need-entry-requires Inv-loop μ-loop
-entry-requires c κs = c .before .before .scan-at .ensures .known
+tag-of-requires : tie.Need-tag-of-requires Inv-loop μ-loop
+tag-of-requires c κs = c .before .before .scan-at .ensures .known
 
 put-record-requires : tie.Need-put-record-requires Inv-loop μ-loop
 put-record-requires c κs = omega (arith, room (c .before .before))
 
-entry-requires-2 : tie.Need-entry-requires-2 Inv-loop μ-loop
-entry-requires-2 c κs = c .before .before .before .before .before .before .before .scan-at .ensures .known
+mask-of-requires : tie.Need-mask-of-requires Inv-loop μ-loop
+mask-of-requires c κs = c .before .before .before .before .before .before .before .scan-at .ensures .known
 
 put-mask-requires : tie.Need-put-mask-requires Inv-loop μ-loop
 put-mask-requires c κs = omega (arith, mask-room (c .before .before .before .before .before .before .before))
@@ -101,10 +101,10 @@ loop-again c =
     let t = token (turn c) in
     let put = c .before .before .before .before .before .before .before in
     let told = call (head (turn c)) .pre .1 .0 in
-    let tag : put .before .before .entry .result ≡ tagAt (state (turn c)) = put .before .before .entry .ensures
+    let tag : put .before .before .tag-of .result ≡ tagAt (state (turn c)) = put .before .before .tag-of .ensures
     ∙ ap (λ (t : List ℕ). getD t (state (turn c) / 16) 0) (told .tags-are) in
-    let mask : c .before .before .before .before .entry2 .result ≡ maskAt (state (turn c)) =
-    c .before .before .before .before .entry2 .ensures ∙ ap (λ (t : List ℕ). getD t (state (turn c) / 16) 0) (told .masks-are) in
+    let mask : c .before .before .before .before .mask-of .result ≡ maskAt (state (turn c)) =
+    c .before .before .before .before .mask-of .ensures ∙ ap (λ (t : List ℕ). getD t (state (turn c) / 16) 0) (told .masks-are) in
     filling-next (head (turn c) .loop .inv) (t .chooses) (omega arith) (tag ∙ t .names (omega arith))
     (subst (Agrees builtinRules _ _) (sym mask) (agreed (turn c))) (put .put-record .ensures) (c .before .before .put-mask .ensures)
 
@@ -120,6 +120,6 @@ returns-2 c = let e = lex-end builtinRules _ _ (ended c) in
 
 pub fill-spec : {M : Type 1} → statement M
 fill-spec =
-    tie.close (tie.spec Inv-loop μ-loop loop-holds scan-at-requires same-length same-length-2 returns entry-requires (λ c. search needs)
-    put-record-requires entry-requires-2 (λ c. search needs) put-mask-requires add-tokens add-place loop-less loop-again same-length-3
+    tie.close (tie.spec Inv-loop μ-loop loop-holds scan-at-requires same-length same-length-2 returns tag-of-requires (λ c. search needs)
+    put-record-requires mask-of-requires put-mask-requires add-tokens add-place loop-less loop-again same-length-3
     same-length-4 returns-2)
