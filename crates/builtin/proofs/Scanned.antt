@@ -18,7 +18,8 @@ use Rattle.longest_match.proofs.First.{Earliest}
 use Rattle.longest_match.proofs.Choosing.{choose-some}
 use Rattle.builtin.specs.Book.{builtinRules}
 use Rattle.builtin.specs.Contracts.{Scanned, Stays, State, statesOf, nextState, tagAt, maskAt, dead, start, accepting}
-use Rattle.builtin.proofs.Product.{Scan, finalMask, agreeing-walks, tagged, found-front, scan-start, scan-accept, scan-pass, scan-dead, scan-end}
+use Rattle.builtin.proofs.Product.{Scan, finalMask, agreeing-walks, tagged, found-front}
+use Rattle.builtin.proofs.Product.{scan-start, scan-accept, scan-pass, scan-dead, scan-end}
 use Rattle.builtin.proofs.Joined.{joined, accepts, passes, mask-is}
 
 -- ---- the walk over the built-in tables

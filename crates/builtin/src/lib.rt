@@ -112,11 +112,20 @@ pub fn lex_builtin(text: &[u8], records: &mut [u8], masks: &mut [u8]) -> LexAnsw
     ensures { λ r. ⌜ r ≡ (maskedOutcome builtinBytes (now (text .entry)) (now (records .entry)) (now (masks .entry))) .answer ⌝ }
     ensures { λ r. ⌜ now (records .exit)
         ≡ (maskedOutcome builtinBytes (now (text .entry)) (now (records .entry)) (now (masks .entry))) .records ⌝ }
-    ensures { λ r. ⌜ now (masks .exit) ≡ (maskedOutcome builtinBytes (now (text .entry)) (now (records .entry)) (now (masks .entry))) .masks ⌝ }
+    ensures { λ r. ⌜ now (masks .exit)
+        ≡ (maskedOutcome builtinBytes (now (text .entry)) (now (records .entry)) (now (masks .entry))) .masks ⌝ }
 {
     let classes = crate::tables::classes();
     let next = crate::tables::next_states();
     let tag_table = crate::tables::tags();
     let mask_table = crate::tables::masks();
-    lex_lent(&classes, &next, &tag_table, &mask_table, text, records, masks)
+    lex_lent(
+        &classes,
+        &next,
+        &tag_table,
+        &mask_table,
+        text,
+        records,
+        masks,
+    )
 }

@@ -1,5 +1,5 @@
--- A list, and the masks beside it, say the same in every form: their bytes, how many they are, the first of them and what lies past. Assumes
--- nothing.
+-- A list, and the masks beside it, say the same in every form: their bytes, how many they are, the first of them and what lies past.
+-- Assumes nothing.
 use mathlib.Core.Path.{_≡_, refl, ap}
 use mathlib.Core.List.{List}
 use Prim.Native.Nat.{ℕ, _*_, _<_}
@@ -52,7 +52,8 @@ pub mask-count-in : (f : Form) (m : List ℕ) → maskCount (maskBytesIn f m) �
 mask-count-in bytes m = refl
 mask-count-in slice m = count-mask-bytes m
 
-pub mask-number-in : (f : Form) (m : List ℕ) (i : ℕ) → i < maskCountIn f m → TypedMasks f m → fourAt (maskBytesIn f m) (4 * i) ≡ maskIn f m i
+pub mask-number-in : (f : Form) (m : List ℕ) (i : ℕ) → i < maskCountIn f m → TypedMasks f m
+    → fourAt (maskBytesIn f m) (4 * i) ≡ maskIn f m i
 mask-number-in bytes m i l h = refl
 mask-number-in slice m i l h = mask-in m i l h
 

@@ -74,7 +74,8 @@ pub record Lowest (rules : List Rule) (tag mask : ℕ) : Type 0 where
   pub set : bitAt mask (length before) ≡ 1
   pub lowest : (k : ℕ) → k < length before → bitAt mask k ≡ 0
 
--- For each token that an accepted call stores, the mask of the same number says the rules that agree on its bytes; the first of them took it.
+-- For each token that an accepted call stores, the mask of the same number says the rules that agree on its bytes; the first of them took
+-- it.
 pub record Hidden (rules : List Rule) (t : Token) (mask : ℕ) : Type 0 where
   pub agreement : Agreement rules t.bytes mask
   pub took : Lowest rules t.tag mask

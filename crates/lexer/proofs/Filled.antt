@@ -40,7 +40,8 @@ module _ (rules : List Rule) (text : List ℕ) where
   masks-length =
       length-mask-bytes (masksOf rules ((lex rules text) .tokens)) ∙ ap (λ (n : ℕ). 4 * n) (length-map ((lex rules text) .tokens) _)
 
-  pub filling-start : (entry masks-entry : List ℕ) → Room rules text entry masks-entry → Filling rules text entry entry masks-entry masks-entry 0 0
+  pub filling-start : (entry masks-entry : List ℕ) → Room rules text entry masks-entry
+      → Filling rules text entry entry masks-entry masks-entry 0 0
   filling-start entry masks-entry room = record {
     cut = cutting-start rules text;
     stored = output.filling-start (recordsFrom rules text 0) entry (omega (arith, records-length, room .in-records));

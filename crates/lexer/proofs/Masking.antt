@@ -68,7 +68,8 @@ module _ (stored agreed records masks : List ℕ) where
           rw q (record { keeps = refl; why = inr (n, place, refl, ltb-true _ _ q, sym w, refl) })
       go false q z = let y : _≡_ {A = ℕ} 0 1 = cc in absurd (omega arith)
 
-  with-lexed : (a : LexAnswer) (n place : ℕ) → (masked a) .answer ≡ lexed.Lexed n place → Accepts (outcome a) (masked a) agreed masks n place
+  with-lexed : (a : LexAnswer) (n place : ℕ) → (masked a) .answer ≡ lexed.Lexed n place
+      → Accepts (outcome a) (masked a) agreed masks n place
   with-lexed (lexed.Refused g) n place e = let y : _≡_ {A = ℕ} 0 1 = cc in absurd (omega arith)
   with-lexed (lexed.Lexed m at) n place e = go (ltb (maskCount masks) m) refl e
     where
@@ -152,8 +153,14 @@ module _ (book text records masks : List ℕ) where
     where
       go : (o : Reading) → readBook book ≡ o → (maskedReading o text records masks) .answer ≡ lexed.Lexed n place
           → (rules : List Rule) × ((o ≡ accepted rules)
-          × Accepts (lexReading o text records) (maskedReading o text records masks) (masksOf rules ((lex rules text) .tokens)) masks n place)
+          × Accepts (lexReading o text records) (maskedReading o text records masks) (masksOf rules ((lex rules text) .tokens)) masks n
+          place)
       go (refused number at) r q = let y : _≡_ {A = ℕ} 0 1 = cc in absurd (omega arith)
-      go (accepted rules) r q = (rules, (refl,
+      go (accepted rules) r q = (
+        rules,
+        (
+          refl,
           with-lexed ((lexRules rules text records) .records) (masksOf rules ((lex rules text) .tokens)) records masks
-          ((lexRules rules text records) .answer) n place q))
+              ((lexRules rules text records) .answer) n place q,
+        ),
+      )

@@ -1,5 +1,5 @@
--- Cutting with masks (document 02, wish 11): each token has, beside its record, the mask of the rules that agree on it. Answer and records are
--- those of Outcome, and 15 is said also where the masks are fewer than the tokens.
+-- Cutting with masks (document 02, wish 11): each token has, beside its record, the mask of the rules that agree on it. Answer and records
+-- are those of Outcome, and 15 is said also where the masks are fewer than the tokens.
 use mathlib.Core.List.{List, _++_}
 use Prim.Native.Nat.{ℕ, _*_}
 use lib.Dec.{ltb}

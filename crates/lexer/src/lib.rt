@@ -28,7 +28,13 @@ pub fn lex(book: &[u8], text: &[u8], records: &mut [u8], masks: &mut [u8]) -> Le
 }
 
 // With a table for the book's rules.
-pub fn lex_with(book: &[u8], table: &mut [u64], text: &[u8], records: &mut [u8], masks: &mut [u8]) -> LexAnswer
+pub fn lex_with(
+    book: &[u8],
+    table: &mut [u64],
+    text: &[u8],
+    records: &mut [u8],
+    masks: &mut [u8],
+) -> LexAnswer
     requires { ⌜ Lent (length (now book)) (now table) ⌝ }
     ensures { λ r. ⌜ LexAnswered (maskedOutcome (now (book .entry)) (now (text .entry)) (now (records .entry)) (now (masks .entry))) r
         (now (records .exit)) (now (masks .exit)) ⌝ }

@@ -38,14 +38,16 @@ pub agreeing-bit : (rules : List Rule) (w : List ℕ) (k : ℕ) → k < length r
 unfolding agreeing
 agreeing-bit [] w k l = absurd (omega arith)
 agreeing-bit (r ∷ rs) w zero l = lowest (bit (matches r w)) (agreeing rs w) (bit-below (matches r w))
-agreeing-bit (r ∷ rs) w (suc k) l = higher (bit (matches r w)) (agreeing rs w) (bit-below (matches r w)) k ∙ agreeing-bit rs w k (omega arith)
+agreeing-bit (r ∷ rs) w (suc k) l =
+    higher (bit (matches r w)) (agreeing rs w) (bit-below (matches r w)) k ∙ agreeing-bit rs w k (omega arith)
 
 -- and no bit is where no rule is.
 pub agreeing-past : (rules : List Rule) (w : List ℕ) (k : ℕ) → length rules ≤ k → bitAt (agreeing rules w) k ≡ 0
 unfolding agreeing
 agreeing-past [] w k l = rw (zero-div, zero-mod)
 agreeing-past (r ∷ rs) w zero l = absurd (omega arith)
-agreeing-past (r ∷ rs) w (suc k) l = higher (bit (matches r w)) (agreeing rs w) (bit-below (matches r w)) k ∙ agreeing-past rs w k (omega arith)
+agreeing-past (r ∷ rs) w (suc k) l =
+    higher (bit (matches r w)) (agreeing rs w) (bit-below (matches r w)) k ∙ agreeing-past rs w k (omega arith)
 
 pub agreeing-below : (rules : List Rule) (w : List ℕ) → agreeing rules w < 2 ^ length rules
 unfolding agreeing

@@ -1,6 +1,6 @@
 // The choice of a token in the three steps of section 8.4 of document 004, in its order: each rule's longest prefix, the longest of them,
-// the earliest rule that has it. The second also gives the mask of all rules that have it (document 02, wish 11). The lengths of the prefixes stand in a slice
-// that is lent, one for each rule.
+// the earliest rule that has it. The second also gives the mask of all rules that have it (document 02, wish 11). The lengths of the
+// prefixes stand in a slice that is lent, one for each rule.
 use crate::Choice;
 ghost use mathlib.Core.Path.{_≡_};
 ghost use mathlib.Core.List.{List};

@@ -1,5 +1,5 @@
-// What is stored of a token: its record, a tag and where the token's bytes lie in a pool, and the mask of the rules that agree on it. For the
-// player a record is ten bytes and a mask four; inside the server lists of tokens are slices of the struct, and masks of numbers.
+// What is stored of a token: its record, a tag and where the token's bytes lie in a pool, and the mask of the rules that agree on it. For
+// the player a record is ten bytes and a mask four; inside the server lists of tokens are slices of the struct, and masks of numbers.
 ghost use mathlib.Core.Path.{_≡_};
 ghost use mathlib.Core.List.{_++_};
 ghost use Prim.Native.Nat.{_+_, _*_, _≤_, min};

@@ -70,7 +70,8 @@ pub extern "C" fn zgv_lex_builtin(text: &[u8], records: &mut [u8], masks: &mut [
     ensures { λ r. ⌜ r ≡ lexWord ((maskedOutcome builtinBytes (now (text .entry)) (now (records .entry)) (now (masks .entry))) .answer) ⌝ }
     ensures { λ r. ⌜ now (records .exit)
         ≡ (maskedOutcome builtinBytes (now (text .entry)) (now (records .entry)) (now (masks .entry))) .records ⌝ }
-    ensures { λ r. ⌜ now (masks .exit) ≡ (maskedOutcome builtinBytes (now (text .entry)) (now (records .entry)) (now (masks .entry))) .masks ⌝ }
+    ensures { λ r. ⌜ now (masks .exit)
+        ≡ (maskedOutcome builtinBytes (now (text .entry)) (now (records .entry)) (now (masks .entry))) .masks ⌝ }
 {
     crate::words::lexed(builtin::lex_builtin(text, records, masks))
 }

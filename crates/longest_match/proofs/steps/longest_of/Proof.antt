@@ -96,7 +96,8 @@ module _ (c : tie.In-loop Inv-loop μ-loop) where
     those = λ p. omega (arith, same, mask-none here (drop (c .before .loop .k) lengths) (omega (arith, c .before .loop .inv .1)));
   }
 
-  as-long : c .before .loop .len ≡ here → (here ≡ 0 → ⊥) → MaskOf (drop place lengths) (c .before .loop .len) (c .before .loop .mask * 2 + 1)
+  as-long : c .before .loop .len ≡ here → (here ≡ 0 → ⊥)
+      → MaskOf (drop place lengths) (c .before .loop .len) (c .before .loop .mask * 2 + 1)
   as-long e z = let m = c .before .loop .inv .2 in
       rw e (record {
         zero = λ q. absurd (z q);
