@@ -173,6 +173,30 @@ static void sheet_dense(void) { sink = dense_lex(table, sheet, sheet_len, record
 static void sheet_counted(void) { sink = zgv_lex(book, book_len, sheet, sheet_len, records, FEWER, masks, MASK_ROOM); }
 static void sheet_builtin_counted(void) { sink = zgv_lex_builtin(sheet, sheet_len, records, FEWER, masks, MASK_ROOM); }
 
+/* The sheet in turns of a budget, by `turns` calls; the answer is that of one cut. */
+static size_t turns;
+
+static void sheet_in_turns(uint64_t budget)
+{
+    uint64_t answer, next = 0, examined;
+    size_t tokens = 0;
+    turns = 0;
+    do {
+        answer = zgv_lex_within(book, book_len, sheet, sheet_len, (size_t)next, budget, records + tokens * ZGV_RECORD_BYTES,
+                                ROOM - tokens * ZGV_RECORD_BYTES, masks + tokens * ZGV_MASK_BYTES,
+                                MASK_ROOM - tokens * ZGV_MASK_BYTES, &next, &examined);
+        if (zgv_number(answer) != ZGV_ACCEPTED || (zgv_first(answer) == 0 && zgv_second(answer) == ZGV_SPENT))
+            fail("a turn gets nowhere");
+        tokens += zgv_first(answer);
+        turns++;
+    } while (zgv_second(answer) == ZGV_SPENT);
+    sink = (uint64_t)tokens << 28 | next;
+}
+static void sheet_one_turn(void) { sheet_in_turns(UINT64_MAX); }
+static void sheet_turns_1024(void) { sheet_in_turns(1024); }
+static void sheet_turns_256(void) { sheet_in_turns(256); }
+static void sheet_turns_64(void) { sheet_in_turns(64); }
+
 #define EACH_LINE(call)                   \
     do {                                  \
         size_t i;                         \
@@ -211,8 +235,9 @@ static void check_same(void)
     uint8_t *first = malloc(ROOM);
     uint64_t answer;
     size_t used;
-    enum { WITH_MASKS = 4 }; /* the first ones */
-    void (*all[])(void) = {sheet_zgv, sheet_builtin, sheet_counted, sheet_builtin_counted, sheet_chains, sheet_dense,
+    enum { WITH_MASKS = 8 }; /* the first ones */
+    void (*all[])(void) = {sheet_zgv, sheet_builtin, sheet_counted, sheet_builtin_counted, sheet_one_turn, sheet_turns_1024,
+                           sheet_turns_256, sheet_turns_64, sheet_chains, sheet_dense,
 #ifdef HAVE_FLEX
                            sheet_flex,
 #endif
@@ -281,6 +306,26 @@ static void bench_lexers(void)
         on_lines[i].bytes = (double)LINES * LINE;
     print_table("### Lexing a sheet of 64 KB\n\n" NO_MASKS, on_sheet, sizeof on_sheet / sizeof on_sheet[0], 1);
     print_table("### Lexing lines of 30 bytes, a call for each\n\n" NO_MASKS, on_lines, sizeof on_lines / sizeof on_lines[0], LINES);
+}
+
+static void bench_turns(void)
+{
+    contender all[] = {{"`zgv_lex`", sheet_zgv, 0, 0},
+                       {"`zgv_lex_within`, one turn", sheet_one_turn, 0, 0},
+                       {"`zgv_lex_within`, turns of 1,024 bytes", sheet_turns_1024, 0, 0},
+                       {"`zgv_lex_within`, turns of 256 bytes", sheet_turns_256, 0, 0},
+                       {"`zgv_lex_within`, turns of 64 bytes", sheet_turns_64, 0, 0}};
+    const size_t count = sizeof all / sizeof all[0];
+    size_t i;
+    measure(all, count);
+    printf("\n### Lexing the sheet in turns\n\nEach call reads the book, the built-in one as bytes.\n\n"
+           "| | calls | µs a sheet | µs a call | speed, `zgv_lex` = 1 |\n|---|---:|---:|---:|---:|\n");
+    for (i = 0; i < count; i++) {
+        turns = 1;
+        all[i].run();
+        printf("| %s | %lu | %.2f | %.2f | %.2f |\n", all[i].name, (unsigned long)turns, all[i].best * 1e6,
+               all[i].best * 1e6 / (double)turns, all[0].best / all[i].best);
+    }
 }
 
 /* ---- Printing */
@@ -1149,8 +1194,10 @@ int main(int argc, char **argv)
     if (!dense_build(table, book, book_len))
         fail("the built-in book has no dense table");
     check_same();
-    if (argc == 2)
+    if (argc == 2) {
         bench_lexers();
+        bench_turns();
+    }
     bench_printers();
     bench_line_printers();
 #ifdef HAVE_OLD

@@ -29,6 +29,7 @@ static uint8_t plain[2 * ZGV_RECORD_BYTES];
 static uint8_t out[256];
 static uint8_t spans[ZGV_BOOK_BYTES], rewritten[ZGV_BOOK_BYTES];
 static size_t spans_len;
+static uint64_t next, examined;
 static volatile uint64_t sink;
 
 static void *nothing(void *unused)
@@ -61,6 +62,12 @@ static void *lex(void *unused)
     sink = zgv_lex(book, book_len, text, sizeof text - 1, records, sizeof records, masks, sizeof masks);
     return unused;
 }
+static void *lex_within(void *unused)
+{
+    sink = zgv_lex_within(book, book_len, text, sizeof text - 1, 0, sizeof text, records, sizeof records, masks, sizeof masks, &next,
+                          &examined);
+    return unused;
+}
 static void *lex_builtin(void *unused)
 {
     sink = zgv_lex_builtin(text, sizeof text - 1, records, sizeof records, masks, sizeof masks);
@@ -86,6 +93,7 @@ static const struct {
              {"zgv_rule", rule},
              {"zgv_rewrite_book", rewrite_book},
              {"zgv_lex", lex},
+             {"zgv_lex_within", lex_within},
              {"zgv_lex_builtin", lex_builtin},
              {"zgv_print", print},
              {"zgv_print_separated", print_separated}};

@@ -1,8 +1,8 @@
 /*
  * player.c - a player that changes the cues of a timed lyric sheet
  *
- *    player [-l] [-r] BOOK SHEET [SECONDS [OLD NEW]]
- *    player --hidden [-r] BOOK TEXT
+ *    player [-l] [-r] [--turns N] BOOK SHEET [SECONDS [OLD NEW]]
+ *    player --hidden [-r] [--turns N] BOOK TEXT
  *
  * Cuts SHEET by BOOK, moves its time stamps, [mm:ss.hh], by SECONDS, puts the
  * word NEW in the place of the word OLD, and writes the sheet to standard output:
@@ -21,6 +21,13 @@
  * token at which the rule is hidden, and the rule that took it. Bytes that cannot be
  * printed are escaped, and long tokens shortened.
  *
+ * With --turns N it cuts in turns of N bytes, by zgv_lex_within(), as a task does
+ * that has little time at once. The tokens are the same, and so is what is written.
+ * Standard error shows them as they come: of each turn its budget, how many bytes
+ * it examined, where and how it stopped, and below its tokens. A turn that is spent
+ * without a token is followed by one of twice the budget, from the same place; the
+ * next one has N bytes again.
+ *
  * A rest is text that no rule of the book matches. Where one is left nothing is
  * written; with -r what was cut before it is.
  *
@@ -34,7 +41,14 @@
 #include <stdlib.h>
 #include <string.h>
 
-enum { WRONG_USE = 2, STAMP_LENGTH = 10, MOST_SECONDS = 5999, LAST_STAMP = 599999, SHOWN_BYTES = 40 };
+enum {
+    WRONG_USE = 2,
+    STAMP_LENGTH = 10,
+    MOST_SECONDS = 5999,
+    LAST_STAMP = 599999,
+    MOST_BUDGET = ZGV_TEXT_BYTES,
+    SHOWN_BYTES = 40
+};
 
 /* Bytes with room for more: a file, or a pool of token bytes that grows. */
 typedef struct buffer {
@@ -42,10 +56,10 @@ typedef struct buffer {
     size_t length, room;
 } buffer;
 
-/* A list of tokens, as it was cut with their masks; their bytes stand in a pool that goes with it. */
+/* A list of tokens, as it was cut with their masks, and the place of the rest; their bytes stand in a pool that goes with it. */
 typedef struct list {
     uint8_t *records, *masks;
-    size_t count;
+    size_t count, rest;
 } list;
 
 /* The book, the tags of its rules, and for each tag whether its rule is of separator kind. */
@@ -59,7 +73,7 @@ typedef struct rules {
 /* What the command line asks for. */
 typedef struct task {
     const char *book, *sheet, *old_word, *new_word;
-    long seconds;
+    long seconds, budget; /* no budget: one cut, without turns */
     int as_list, leave_rest, hidden;
 } task;
 
@@ -124,6 +138,7 @@ static void say_refused(const char *what, uint64_t answer)
     fprintf(stderr, "%s: refused: %s (number %u", what, zgv_refusal_text(number), number);
     switch (number) {
     case ZGV_TEXT_TOO_LONG:
+    case ZGV_PAST_THE_TEXT:
     case ZGV_TOO_MANY_TOKENS:
     case ZGV_OUTPUT_TOO_LONG:
     case ZGV_UNKNOWN_MODE:
@@ -157,6 +172,39 @@ static void say_rest(const char *name, const buffer *sheet, size_t rest)
             (unsigned long)(sheet->length - rest), (unsigned long)sheet->length);
 }
 
+static const char *plural(size_t count)
+{
+    return count == 1 ? "" : "s";
+}
+
+/* Bytes between quotes, those that cannot be printed escaped; of a long token the first ones, and how many it has. */
+static void put_bytes(FILE *file, const uint8_t *bytes, size_t length)
+{
+    size_t shown = length <= SHOWN_BYTES ? length : SHOWN_BYTES, i;
+    putc('"', file);
+    for (i = 0; i < shown; i++)
+        switch (bytes[i]) {
+        case '\n':
+            fputs("\\n", file);
+            break;
+        case '\r':
+            fputs("\\r", file);
+            break;
+        case '\t':
+            fputs("\\t", file);
+            break;
+        case '"':
+        case '\\':
+            fprintf(file, "\\%c", bytes[i]);
+            break;
+        default:
+            fprintf(file, bytes[i] < 0x20 || bytes[i] > 0x7E ? "\\x%02X" : "%c", bytes[i]);
+        }
+    putc('"', file);
+    if (shown < length)
+        fprintf(file, "... of %lu bytes", (unsigned long)length);
+}
+
 /* ---- Books, lists and cuts */
 
 /* Reads a book and its rules' kinds; 0 where it is refused. */
@@ -180,16 +228,26 @@ static int read_rules(rules *r, const char *name)
     return 1;
 }
 
-/* Cuts a text into a list that it allocates, with records and masks enough for every text that is not too long. */
-static uint64_t cut(const rules *r, const uint8_t *text, size_t length, list *l)
+/* Allocates an empty list with records and masks enough for every text of a length that is not too long; says for how many tokens. */
+static size_t make_list(list *l, size_t length)
 {
     size_t tokens = length < ZGV_TEXT_BYTES ? length : ZGV_TEXT_BYTES;
-    uint64_t answer;
     l->records = allocate(tokens * ZGV_RECORD_BYTES);
     l->masks = allocate(tokens * ZGV_MASK_BYTES);
-    answer = zgv_lex(r->book.bytes, r->book.length, text, length, l->records, tokens * ZGV_RECORD_BYTES, l->masks,
-                     tokens * ZGV_MASK_BYTES);
-    l->count = zgv_number(answer) == ZGV_ACCEPTED ? zgv_first(answer) : 0;
+    l->count = l->rest = 0;
+    return tokens;
+}
+
+/* Cuts a text into a list that it makes. */
+static uint64_t cut(const rules *r, const uint8_t *text, size_t length, list *l)
+{
+    size_t room = make_list(l, length);
+    uint64_t answer = zgv_lex(r->book.bytes, r->book.length, text, length, l->records, room * ZGV_RECORD_BYTES, l->masks,
+                              room * ZGV_MASK_BYTES);
+    if (zgv_number(answer) == ZGV_ACCEPTED) {
+        l->count = zgv_first(answer);
+        l->rest = zgv_second(answer);
+    }
     return answer;
 }
 
@@ -204,7 +262,7 @@ static int one_token(const rules *r, const char *word, size_t length, buffer *po
 {
     list l;
     uint64_t answer = cut(r, (const uint8_t *)word, length, &l);
-    int one = l.count == 1 && zgv_second(answer) == length;
+    int one = zgv_number(answer) == ZGV_ACCEPTED && l.count == 1 && l.rest == length;
     if (one) {
         *token = zgv_get_record(l.records, 0);
         token->place = append(pool, word, length);
@@ -223,6 +281,46 @@ static int find_separator(const rules *r, buffer *pool, zgv_token *separator)
             return 1;
     }
     return 0;
+}
+
+/* ---- Cutting in turns */
+
+/* What a turn did, and its tokens, which are the last ones of the list. */
+static void show_turn(const uint8_t *text, const list *l, size_t turn, uint64_t budget, uint64_t examined, uint64_t answer)
+{
+    size_t tokens = zgv_first(answer), i;
+    fprintf(stderr, "turn %lu, %lu byte%s: %lu examined, %lu token%s, %s at byte %lu\n", (unsigned long)turn,
+            (unsigned long)budget, plural(budget), (unsigned long)examined, (unsigned long)tokens, plural(tokens),
+            zgv_second(answer) == ZGV_FINISHED ? "finished" : "spent", (unsigned long)l->rest);
+    for (i = l->count - tokens; i < l->count; i++) {
+        zgv_token t = zgv_get_record(l->records, i);
+        fprintf(stderr, "    token %lu at byte %lu, tag %u, ", (unsigned long)i, (unsigned long)t.place, (unsigned)t.tag);
+        put_bytes(stderr, text + t.place, t.length);
+        putc('\n', stderr);
+    }
+}
+
+/* The same list as by cut(), in turns of so many bytes; each adds its tokens behind those of the turns before it. */
+static uint64_t cut_in_turns(const rules *r, const uint8_t *text, size_t length, uint64_t usual, list *l)
+{
+    size_t room = make_list(l, length), turn;
+    uint64_t budget = usual, next = 0, examined = 0, answer;
+    for (turn = 1;; turn++) {
+        answer = zgv_lex_within(r->book.bytes, r->book.length, text, length, l->rest, budget, l->records + l->count * ZGV_RECORD_BYTES,
+                                (room - l->count) * ZGV_RECORD_BYTES, l->masks + l->count * ZGV_MASK_BYTES,
+                                (room - l->count) * ZGV_MASK_BYTES, &next, &examined);
+        if (zgv_number(answer) != ZGV_ACCEPTED)
+            return answer;
+        l->count += zgv_first(answer);
+        l->rest = (size_t)next;
+        show_turn(text, l, turn, budget, examined, answer);
+        if (zgv_second(answer) == ZGV_FINISHED)
+            return answer;
+        /* What the place needs is not known, but as many bytes as the text has are enough: twice as much ends there at last. */
+        budget = zgv_first(answer) > 0 ? usual : 2 * budget;
+        if (zgv_first(answer) == 0)
+            fprintf(stderr, "    no token: the next turn has %lu bytes\n", (unsigned long)budget);
+    }
 }
 
 /* ---- Changing a sheet */
@@ -329,7 +427,7 @@ static int reads_back(const task *asked, const rules *r, const uint8_t *text, si
     list again;
     uint64_t answer = cut(r, text, length, &again);
     size_t i, k = 0;
-    int same = zgv_number(answer) == ZGV_ACCEPTED && zgv_second(answer) == length;
+    int same = zgv_number(answer) == ZGV_ACCEPTED && again.rest == length;
     for (i = 0; same && i < again.count; i++) {
         zgv_token a = zgv_get_record(again.records, i), b;
         if (asked->as_list && r->separates[a.tag])
@@ -368,11 +466,6 @@ static int write_list(const task *asked, const rules *r, buffer *pool, const lis
 
 /* ---- Rules that earlier ones hide */
 
-static const char *plural(size_t count)
-{
-    return count == 1 ? "" : "s";
-}
-
 static int agrees(const list *l, size_t token, uint32_t rule)
 {
     return (zgv_get_mask(l->masks, token) >> rule & 1) != 0;
@@ -385,34 +478,6 @@ static uint32_t taker(const list *l, size_t token)
     while (!agrees(l, token, rule))
         rule++;
     return rule;
-}
-
-/* Bytes between quotes, those that cannot be printed escaped; of a long token the first ones, and how many it has. */
-static void write_bytes(const uint8_t *bytes, size_t length)
-{
-    size_t shown = length <= SHOWN_BYTES ? length : SHOWN_BYTES, i;
-    putchar('"');
-    for (i = 0; i < shown; i++)
-        switch (bytes[i]) {
-        case '\n':
-            fputs("\\n", stdout);
-            break;
-        case '\r':
-            fputs("\\r", stdout);
-            break;
-        case '\t':
-            fputs("\\t", stdout);
-            break;
-        case '"':
-        case '\\':
-            printf("\\%c", bytes[i]);
-            break;
-        default:
-            printf(bytes[i] < 0x20 || bytes[i] > 0x7E ? "\\x%02X" : "%c", bytes[i]);
-        }
-    putchar('"');
-    if (shown < length)
-        printf("... of %lu bytes", (unsigned long)length);
 }
 
 /* A rule's line, and below it each token at which it is hidden; says how many it took and how many those are. */
@@ -430,7 +495,7 @@ static void write_rule(const rules *r, const buffer *text, const list *l, uint32
         if (agrees(l, i, rule) && taker(l, i) != rule) {
             zgv_token t = zgv_get_record(l->records, i);
             printf("    token %lu at byte %lu, ", (unsigned long)i, (unsigned long)t.place);
-            write_bytes(text->bytes + t.place, t.length);
+            put_bytes(stdout, text->bytes + t.place, t.length);
             printf(", went to rule %u, tag %u\n", (unsigned)taker(l, i), (unsigned)t.tag);
         }
 }
@@ -457,11 +522,12 @@ static int write_hidden(const task *asked, const rules *r, const buffer *text, c
 
 static int usage(void)
 {
-    fputs("usage: player [-l] [-r] BOOK SHEET [SECONDS [OLD NEW]]\n"
-          "       player --hidden [-r] BOOK TEXT\n"
+    fputs("usage: player [-l] [-r] [--turns N] BOOK SHEET [SECONDS [OLD NEW]]\n"
+          "       player --hidden [-r] [--turns N] BOOK TEXT\n"
           "  -l         write the cue list, not the sheet\n"
           "  -r         write what was cut although a rest is left\n"
-          "  --hidden   write which rules of the book are hidden by earlier ones\n",
+          "  --hidden   write which rules of the book are hidden by earlier ones\n"
+          "  --turns N  cut in turns of N bytes, and show their tokens as they come\n",
           stderr);
     return 0;
 }
@@ -478,6 +544,17 @@ static int read_seconds(const char *word, long *seconds)
     return 1;
 }
 
+/* The budget of a turn: N of --turns, which may be missing. */
+static int read_budget(const char *word, long *budget)
+{
+    size_t n = word == NULL ? 0 : strspn(word, "0123456789");
+    if (n == 0 || n > 6 || word[n] != '\0' || (*budget = strtol(word, NULL, 10)) < 1 || *budget > MOST_BUDGET) {
+        fprintf(stderr, "player: N of --turns is a whole number from 1 to %d, not \"%s\"\n", MOST_BUDGET, word == NULL ? "" : word);
+        return 0;
+    }
+    return 1;
+}
+
 static int read_task(int argc, char **argv, task *asked)
 {
     int i = 1;
@@ -489,8 +566,10 @@ static int read_task(int argc, char **argv, task *asked)
             asked->leave_rest = 1;
         else if (strcmp(argv[i], "--hidden") == 0)
             asked->hidden = 1;
-        else
+        else if (strcmp(argv[i], "--turns") != 0)
             return usage();
+        else if (!read_budget(argv[++i], &asked->budget))
+            return 0;
     }
     argv += i;
     argc -= i;
@@ -518,17 +597,17 @@ int main(int argc, char **argv)
     if (!read_rules(&r, asked.book))
         return EXIT_FAILURE;
     sheet = read_file(asked.sheet);
-    answer = cut(&r, sheet.bytes, sheet.length, &l);
+    answer = asked.budget == 0 ? cut(&r, sheet.bytes, sheet.length, &l)
+                               : cut_in_turns(&r, sheet.bytes, sheet.length, (uint64_t)asked.budget, &l);
     if (zgv_number(answer) != ZGV_ACCEPTED) {
         say_refused(asked.sheet, answer);
     } else {
-        size_t rest = zgv_second(answer);
-        if (rest < sheet.length) {
-            say_rest(asked.sheet, &sheet, rest);
+        if (l.rest < sheet.length) {
+            say_rest(asked.sheet, &sheet, l.rest);
             fputs(asked.leave_rest ? "player: writing what was cut\n" : "player: nothing is written; -r writes what was cut\n",
                   stderr);
         }
-        if (rest == sheet.length || asked.leave_rest)
+        if (l.rest == sheet.length || asked.leave_rest)
             /* To change it, the sheet's bytes are the pool from here on: new words and stamps are added behind. */
             done = asked.hidden ? write_hidden(&asked, &r, &sheet, &l)
                                 : change(&asked, &r, &sheet, &l) && write_list(&asked, &r, &sheet, &l);

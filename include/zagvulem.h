@@ -4,10 +4,12 @@
  * A rule book is data: a run of bytes that describes up to 32 rules, each a
  * finite automaton with a tag; FORMAT.md says how one is written. zgv_lex() cuts
  * a text by a book into tokens, always the longest match, the earliest rule on a
- * tie, and says of each token every rule that agreed. zgv_print() joins tokens to
- * a text again, and refuses a list that would not be cut back as it is.
- * zgv_print_separated() joins tokens with separators between them, so that
- * cutting what it wrote and dropping the separators gives the same list back.
+ * tie, and says of each token every rule that agreed. zgv_lex_within() gives the
+ * same tokens in turns, each of which looks at no more bytes than it is allowed.
+ * zgv_print() joins tokens to a text again, and refuses a list that would not be
+ * cut back as it is. zgv_print_separated() joins tokens with separators between
+ * them, so that cutting what it wrote and dropping the separators gives the same
+ * list back.
  *
  * A rule's moves are SPANs. STEP, a shorter form of a move at one byte, is retired:
  * books that have it are read as ever, zgv_rewrite_book() puts SPANs in the place
@@ -28,19 +30,23 @@
  *  - It keeps no state between calls, allocates nothing and reads no file, clock
  *    or locale.
  *  - It answers either "accepted" with two values, or "refused" with a number and
- *    a place. After a refusal every buffer holds what it held before the call.
- *    An accepted call changes nothing past the count that it reports.
+ *    a place. After a refusal every buffer holds what it held before the call,
+ *    and so does every number that was lent by its pointer. An accepted call
+ *    changes nothing in a buffer past the count that it reports.
  *
  * WHAT THE CALLER SEES TO
  *
  *  - Each buffer is a pointer and its length in bytes, and so many bytes are
  *    there. The pointer may be NULL where the length is 0. It needs no alignment.
- *  - A buffer that the call may write (`records` and `masks` of the two lexing
+ *  - A buffer that the call may write (`records` and `masks` of the three lexing
  *    calls, `out` of the two printing calls and of zgv_rewrite_book()) shares no
  *    byte with any other buffer of the same call. Buffers that are only read may
  *    overlap freely.
- *  - Calls may run in several threads at once, but no thread writes a buffer
- *    that another one's running call was given.
+ *  - `next` and `examined` of zgv_lex_within() are numbers, lent like a buffer
+ *    that may be written: neither pointer is NULL, and neither number shares a
+ *    byte with the other one or with a buffer of the same call.
+ *  - Calls may run in several threads at once, but no thread writes a buffer or
+ *    a number that another one's running call was given.
  *  - The thread has stack enough (STACK below).
  *
  * ANSWERS
@@ -76,6 +82,32 @@
  * leftover bytes are neither read nor written. Read masks with zgv_get_mask(). No
  * call takes them: a list for a printer is records alone.
  *
+ * TURNS
+ *
+ * A task that has little time at once cuts a text in turns, by zgv_lex_within().
+ * What a turn may look at is its budget, a number of bytes.
+ *
+ * The reach at a place is how far the cut has to look there: the fewest bytes from
+ * that place on, 0 or more, after which all rules stand in their error states, or
+ * all bytes to the text's end where that never happens. It is 0 at the text's end,
+ * and everywhere where all rules start in their error states. At a token that ends
+ * the text it is the token's length, at any other token more than that.
+ *
+ * A turn begins at a place. While the reach where it stands is at most what is left
+ * of its budget, it pays the reach, takes the token there, the one that zgv_lex()
+ * takes, and goes on behind it. It stops in one of two ways:
+ *
+ *    finished    The reach is paid, and no token begins there: the cut is at its
+ *                end. At the text's end a turn is finished whatever its budget.
+ *    spent       The reach is larger than what is left. Nothing is paid for this
+ *                place, and no byte past what is left is looked at. The next turn
+ *                begins here.
+ *
+ * A turn that is spent without a token has got nowhere, and with the same budget
+ * the next one will not either: give it a larger one. What it would need is not
+ * reported, since that takes looking further. Twice as much, and so on, gets there
+ * soon; as many bytes as the text has from that place on are always enough.
+ *
  * STACK
  *
  * The table of a book and the scratch of a printer are local to the call. Bytes
@@ -83,6 +115,7 @@
  *
  *    zgv_lex_builtin()               8,192
  *    zgv_lex()                      45,056     176,128
+ *    zgv_lex_within()               61,440     176,128
  *    zgv_read_book()                61,440     192,512
  *    zgv_read_book_strict()         61,440     192,512
  *    zgv_rule()                     61,440     192,512
@@ -104,6 +137,10 @@
  *                               rule walks on as far as it can go; twice that
  *                               where there is room for fewer than n records or
  *                               for fewer than n masks
+ *    a turn of b bytes          reading the book, and r * b steps, however long
+ *                               the text; twice those where there is room for
+ *                               fewer tokens than b and than the text has bytes
+ *                               from the place on
  *    printing n bytes           the same r * n * n / 2, and r steps more for each
  *                               byte of each token, also where 20 is answered
  *                               in the end: tokens may overlap in the pool, so
@@ -117,7 +154,7 @@
  * the machine of PERFORMANCE.md one rule that matches "a", and also any number of
  * a's with a "b" behind them, takes 8 s to cut 65,536 a's. Who takes books or
  * lists from others sets limits of its own to the length of a text and to the sum
- * of the lengths of a list.
+ * of the lengths of a list, or cuts in turns, whose limit is their budget.
  */
 #ifndef ZAGVULEM_H
 #define ZAGVULEM_H
@@ -138,9 +175,9 @@ extern "C" {
 
 /* ---- Version ------------------------------------------------------------ */
 
-#define ZGV_VERSION       "0.6.0"
+#define ZGV_VERSION       "0.7.0"
 #define ZGV_VERSION_MAJOR 0
-#define ZGV_VERSION_MINOR 6
+#define ZGV_VERSION_MINOR 7
 #define ZGV_VERSION_PATCH 0
 
 /* ---- Limits ------------------------------------------------------------- */
@@ -158,6 +195,10 @@ extern "C" {
 /* Kinds of a rule, as in its RULE command. */
 #define ZGV_KIND_PLAIN     0
 #define ZGV_KIND_SEPARATOR 1
+
+/* How a turn stopped: the second value of zgv_lex_within(). */
+#define ZGV_SPENT    0
+#define ZGV_FINISHED 1
 
 /* Modes of zgv_print_separated(). */
 #define ZGV_MODE_DEFAULT 0  /* the same as ZGV_MODE_SPARE */
@@ -201,7 +242,8 @@ enum {
 
     /* Lexing. */
     ZGV_TEXT_TOO_LONG     = 14,  /* text over 65,536 bytes; place 0 */
-    ZGV_TOO_FEW_RECORDS   = 15,  /* fewer records or fewer masks than tokens; the
+    ZGV_TOO_FEW_RECORDS   = 15,  /* fewer records or fewer masks than tokens, of
+                                    zgv_lex_within() than tokens of the turn; the
                                     place is the number of tokens */
 
     /*
@@ -230,6 +272,10 @@ enum {
     ZGV_NO_SEPARATOR      = 25,  /* the separator token is of plain kind */
     ZGV_SEPARATOR_IN_LIST = 26,  /* a token of the list is of separator kind */
 
+    /* Lexing in turns: it stands after 14 and before 15. */
+    ZGV_PAST_THE_TEXT     = 27,  /* the turn would begin past the text's end;
+                                    place 0 */
+
     /* The book, in zgv_read_book_strict() alone. */
     ZGV_RETIRED           = 33   /* a STEP where one may stand: inside a rule */
 };
@@ -254,7 +300,7 @@ static inline const char *zgv_refusal_text(unsigned number)
     case ZGV_START_FINAL:       return "a rule's start is final";
     case ZGV_NO_RULE:           return "the book has no rule";
     case ZGV_TEXT_TOO_LONG:     return "the text has more than 65,536 bytes";
-    case ZGV_TOO_FEW_RECORDS:   return "there is room for fewer records or masks than the text has tokens";
+    case ZGV_TOO_FEW_RECORDS:   return "there is room for fewer records or masks than there are tokens";
     case ZGV_TOO_MANY_TOKENS:   return "the list has more than 65,536 tokens";
     case ZGV_PAST_THE_POOL:     return "a token passes the end of the pool";
     case ZGV_UNKNOWN_TAG:       return "the book has no such rule";
@@ -266,6 +312,7 @@ static inline const char *zgv_refusal_text(unsigned number)
     case ZGV_UNKNOWN_MODE:      return "there is no such mode";
     case ZGV_NO_SEPARATOR:      return "the separator token is of a plain rule";
     case ZGV_SEPARATOR_IN_LIST: return "a token of the list is of a separator rule";
+    case ZGV_PAST_THE_TEXT:     return "the place lies past the end of the text";
     case ZGV_RETIRED:           return "the book has a STEP, which is retired";
     default:                    return "no number that a call answers";
     }
@@ -291,7 +338,8 @@ static inline uint32_t zgv_first(uint64_t answer)
     return (uint32_t)(answer >> 28) & 0x0FFFFFFFu;
 }
 
-/* Of an accepted call: the second value (the place of the rest, or a kind). */
+/* Of an accepted call: the second value (the place of the rest, a kind, or how a
+   turn stopped). */
 static inline uint32_t zgv_second(uint64_t answer)
 {
     return (uint32_t)answer & 0x0FFFFFFFu;
@@ -434,7 +482,54 @@ uint64_t zgv_lex(const uint8_t *book, size_t book_len,
                  uint8_t *masks, size_t masks_len);
 
 /*
- * The same by the built-in book of timed lyric sheets, which needs no reading:
+ * Cuts `text` by `book` in a turn of `budget` bytes that begins at `place` (TURNS
+ * above). A record of each token of this turn is stored from the start of
+ * `records`, and a mask of each from the start of `masks`. The places in records
+ * count from the start of `text`, as those of zgv_lex().
+ *
+ * Accepted: first value the number of tokens of this turn, second how it stopped,
+ * ZGV_FINISHED (1) or ZGV_SPENT (0). *next is the place where it stopped, from the
+ * start of `text`: where the next turn begins, or where the rest does. *examined
+ * is the sum of the reaches that were paid, also where no token began in the end,
+ * and is at most `budget`. What `records` and `masks` hold past the turn's tokens
+ * stays as it was.
+ * Refused: 1 to 13 for the book; 14; 27 where `place` is above text_len; 15 where
+ * `records` or `masks` has room for fewer tokens than this turn has. The place of
+ * 15 is the number of this turn's tokens. Both buffers, *next and *examined stay as
+ * they were.
+ *
+ * Turns from place 0 on, each from *next of the one before, until one is finished,
+ * give the records and masks that zgv_lex() gives, in parts, and the last *next is
+ * the place of its rest. The budgets play no part in that: with room enough a turn
+ * of a larger budget gives the same tokens, and further ones behind them.
+ *
+ * A token's reach is at least 1, so `budget` records and as many masks are always
+ * enough, and so are text_len - place of each.
+ *
+ * Turns of 64 bytes, where one without a token is followed by one of twice as many;
+ * play() is the program's own:
+ *
+ *    uint64_t answer, next = 0, examined, budget = 64;
+ *    do {
+ *        answer = zgv_lex_within(book, book_len, text, text_len, next, budget,
+ *                                records, sizeof records, masks, sizeof masks,
+ *                                &next, &examined);
+ *        if (zgv_number(answer) != ZGV_ACCEPTED)
+ *            break;
+ *        play(records, masks, zgv_first(answer));
+ *        budget = zgv_first(answer) > 0 ? 64 : 2 * budget;
+ *    } while (zgv_second(answer) == ZGV_SPENT);
+ */
+uint64_t zgv_lex_within(const uint8_t *book, size_t book_len,
+                        const uint8_t *text, size_t text_len,
+                        size_t place, uint64_t budget,
+                        uint8_t *records, size_t records_len,
+                        uint8_t *masks, size_t masks_len,
+                        uint64_t *next, uint64_t *examined);
+
+/*
+ * The cut of zgv_lex() by the built-in book of timed lyric sheets, which needs no
+ * reading:
  *
  *    tag 1, plain        [dd:dd.dd], d a digit: a time stamp
  *    tag 2, plain        a word: bytes 21 to 7E but [ and ], and 80 to FF

@@ -46,20 +46,20 @@ static void versions(void)
 
 static int is_answered(unsigned number)
 {
-    return number <= ZGV_SEPARATOR_IN_LIST || number == ZGV_RETIRED;
+    return number <= ZGV_PAST_THE_TEXT || number == ZGV_RETIRED;
 }
 
 /* Each number has a text of its own, all others one that is none of them. */
 static void texts(void)
 {
     unsigned i, k;
-    HOLDS(ZGV_SEPARATOR_IN_LIST == 26 && ZGV_RETIRED == 33);
+    HOLDS(ZGV_SEPARATOR_IN_LIST == 26 && ZGV_PAST_THE_TEXT == 27 && ZGV_RETIRED == 33);
     for (i = 0; i < 1000; i++) {
         HOLDS(strlen(zgv_refusal_text(i)) > 5);
         for (k = 0; k < i; k++)
             HOLDS((strcmp(zgv_refusal_text(i), zgv_refusal_text(k)) == 0) == (!is_answered(i) && !is_answered(k)));
     }
-    HOLDS(strcmp(zgv_refusal_text((unsigned)-1), zgv_refusal_text(27)) == 0);
+    HOLDS(strcmp(zgv_refusal_text((unsigned)-1), zgv_refusal_text(28)) == 0);
 }
 
 static void book(const char *name)
@@ -255,6 +255,226 @@ static void mask_refusals(void)
     HOLDS(are_alike());
 }
 
+/* What a turn answers and lends back. */
+typedef struct turn {
+    uint64_t answer, next, examined;
+} turn;
+
+/* The numbers that are lent before a turn: no turn of these texts gives them. */
+enum { NEXT_BEFORE = 1000001, EXAMINED_BEFORE = 1000002 };
+
+static turn turn_by(const uint8_t *book, size_t book_len, const uint8_t *text, size_t length, size_t place, uint64_t budget)
+{
+    turn t = {0, NEXT_BEFORE, EXAMINED_BEFORE};
+    t.answer = zgv_lex_within(book, book_len, text, length, place, budget, FIRST, &t.next, &t.examined);
+    return t;
+}
+
+static int is_turn(turn t, size_t tokens, unsigned stopped, size_t next, size_t examined)
+{
+    return t.answer == ((uint64_t)tokens << 28 | stopped) && t.next == next && t.examined == examined;
+}
+
+/* A refusal, at this place; nothing of what is lent is changed. */
+static int is_refused(turn t, unsigned number, size_t place)
+{
+    return t.answer == ((uint64_t)number << 56 | place) && t.next == NEXT_BEFORE && t.examined == EXAMINED_BEFORE && are_alike();
+}
+
+/* Turns of every budget up to the one that finishes, over texts of which the reaches are known. By the built-in book: a word is known to
+   end at the byte behind it, and at the text's end; a time stamp that breaks off is walked to where it does, and its bracket is a token. */
+static void turn_budgets(void)
+{
+    static const struct {
+        const char *text;
+        size_t tokens, rest, lengths[8], reaches[8]; /* the last reach is that of the rest */
+    } tries[] = {{"oh no", 3, 5, {2, 1, 2}, {3, 2, 2, 0}},
+                 {"[00:1x", 2, 6, {1, 5}, {6, 5, 0}},
+                 {"[00:12.50][", 2, 11, {10, 1}, {11, 1, 0}},
+                 {"[]\n\n", 4, 4, {1, 1, 1, 1}, {2, 2, 2, 1, 0}},
+                 {"oh\rno", 1, 2, {2}, {3, 1}},
+                 {"\r", 0, 0, {0}, {1}},
+                 {"", 0, 0, {0}, {0}}};
+    size_t i, from, budget;
+    for (i = 0; i < sizeof tries / sizeof tries[0]; i++)
+        for (from = 0; from <= tries[i].tokens; from++) {
+            const uint8_t *text = (const uint8_t *)tries[i].text;
+            unsigned stopped = ZGV_SPENT;
+            size_t place = 0, k;
+            for (k = 0; k < from; k++)
+                place += tries[i].lengths[k];
+            for (budget = 0; stopped == ZGV_SPENT; budget++) {
+                size_t paid = 0, next = place;
+                for (k = from; k < tries[i].tokens && paid + tries[i].reaches[k] <= budget; k++) {
+                    paid += tries[i].reaches[k];
+                    next += tries[i].lengths[k];
+                }
+                if (k == tries[i].tokens && paid + tries[i].reaches[k] <= budget) {
+                    stopped = ZGV_FINISHED;
+                    paid += tries[i].reaches[k];
+                    HOLDS(next == tries[i].rest);
+                }
+                HOLDS(is_turn(turn_by(BOOK, text, strlen(tries[i].text), place, budget), k - from, stopped, next, paid));
+            }
+        }
+}
+
+/* Reaches by books that are made for it, without a token at the end: of 0 where all rules start in error, over a state that is not the
+   error state though nothing leaves it, into the error state by a move, and to the text's end where a rule never errs. */
+static void turn_reaches(void)
+{
+    static const uint8_t in_error[] = {1, 0, 1, 0, 2, 7, 3, 7, 7, 1, 0, 2, 0, 2, 0, 3, 0, 4, 1, 6, 1, 'a', 'a', 1, 7, 8},
+                         one_not[] = {1, 0, 1, 0, 2, 7, 3, 7, 7, 1, 0, 2, 0, 2, 0, 3, 9, 7, 8},
+                         stuck[] = {1, 0, 1, 0, 2, 0, 3, 9, 6, 0, 'a', 'a', 5, 7, 8},
+                         to_error[] = {1, 0, 1, 0, 2, 0, 3, 9, 6, 0, 'a', 'a', 9, 7, 8},
+                         never[] = {1, 0, 1, 0, 2, 0, 3, 9, 6, 0, 0, 255, 0, 7, 8},
+                         far[] = {1, 0, 1, 0, 2, 0, 3, 9, 4, 1, 4, 3, 6, 0, 'a', 'a', 1, 6, 1, 'a', 'a', 2, 6, 1, 'b', 'b', 3,
+                                  6, 2, 'a', 'a', 2, 6, 2, 'b', 'b', 3, 7, 8};
+    const uint8_t *text = (const uint8_t *)"aaaa";
+    size_t place, budget;
+    for (place = 0; place <= 4; place++)
+        for (budget = 0; budget < 12; budget++) {
+            const size_t left = 4 - place, stuck_reach = left < 2 ? left : 2, one = left < 1 ? left : 1;
+            size_t tokens = 0, paid = 0;
+            HOLDS(is_turn(turn_by(in_error, sizeof in_error, text, 4, place, budget), 0, 1, place, 0));
+            HOLDS(is_turn(turn_by(one_not, sizeof one_not, text, 4, place, budget), 0, budget >= one, place, budget >= one ? one : 0));
+            HOLDS(is_turn(turn_by(stuck, sizeof stuck, text, 4, place, budget), 0, budget >= stuck_reach, place,
+                          budget >= stuck_reach ? stuck_reach : 0));
+            HOLDS(is_turn(turn_by(to_error, sizeof to_error, text, 4, place, budget), 0, budget >= one, place, budget >= one ? one : 0));
+            HOLDS(is_turn(turn_by(never, sizeof never, text, 4, place, budget), 0, budget >= left, place, budget >= left ? left : 0));
+            while (tokens < left && paid + left - tokens <= budget)
+                paid += left - tokens++;
+            HOLDS(is_turn(turn_by(far, sizeof far, text, 4, place, budget), tokens, tokens == left, place + tokens, paid));
+        }
+}
+
+/* Turns over the sheet that cuts() has read, from its tokens: the reach of each is its length and a byte behind it, but of the last. No
+   byte past the budget plays a part, and none before the place. */
+static void turn_looks(void)
+{
+    static uint8_t other[ZGV_TEXT_BYTES];
+    const size_t length = strlen((const char *)sheet), tokens = zgv_first(zgv_lex(BOOK, sheet, length, SECOND));
+    size_t i, k, budget;
+    for (i = 0; i < tokens; i += 3) {
+        const size_t place = zgv_get_record(second, i).place;
+        for (budget = 0; budget < 100; budget++) {
+            size_t paid = 0, next = place;
+            turn t, altered;
+            for (k = i; k < tokens; k++) {
+                const size_t end = next + zgv_get_record(second, k).length, reach = end - next + (end < length);
+                if (budget - paid < reach)
+                    break;
+                paid += reach;
+                next = end;
+            }
+            t = turn_by(BOOK, sheet, length, place, budget);
+            HOLDS(is_turn(t, k - i, k == tokens ? ZGV_FINISHED : ZGV_SPENT, next, paid));
+            HOLDS(memcmp(first, second + i * ZGV_RECORD_BYTES, (k - i) * ZGV_RECORD_BYTES) == 0);
+            HOLDS(memcmp(first_masks, second_masks + i * ZGV_MASK_BYTES, (k - i) * ZGV_MASK_BYTES) == 0);
+            memcpy(other, sheet, length);
+            if (place + budget < length)
+                memset(other + place + budget, i % 2 ? '\r' : 'x', length - place - budget);
+            memset(other, '[', place);
+            altered = turn_by(BOOK, other, length, place, budget);
+            HOLDS(memcmp(&t, &altered, sizeof t) == 0);
+            HOLDS(memcmp(first, second + i * ZGV_RECORD_BYTES, (k - i) * ZGV_RECORD_BYTES) == 0);
+        }
+    }
+}
+
+/* Turns of a budget from place 0 to the finish, the next of twice as much where one has no token, store in parts what one cut stores. */
+static void turn_by_turn(const uint8_t *book, size_t book_len, const uint8_t *text, size_t length, uint64_t budget)
+{
+    uint64_t answer, next = 0, examined = 0, allowed = budget;
+    size_t tokens = 0;
+    paint();
+    do {
+        answer = zgv_lex_within(book, book_len, text, length, (size_t)next, allowed, first + tokens * ZGV_RECORD_BYTES,
+                                sizeof first - tokens * ZGV_RECORD_BYTES, first_masks + tokens * ZGV_MASK_BYTES,
+                                sizeof first_masks - tokens * ZGV_MASK_BYTES, &next, &examined);
+        HOLDS(zgv_number(answer) == ZGV_ACCEPTED && zgv_first(answer) <= examined && examined <= allowed);
+        allowed = zgv_first(answer) > 0 ? budget : 2 * allowed;
+        tokens += zgv_first(answer);
+    } while (zgv_second(answer) == ZGV_SPENT);
+    HOLDS(zgv_second(answer) == ZGV_FINISHED);
+    HOLDS(zgv_lex(book, book_len, text, length, SECOND) == ((uint64_t)tokens << 28 | next) && are_alike());
+}
+
+static void turns_together(void)
+{
+    static const uint64_t budgets[] = {1, 2, 7, 64, 1000, 65536, (uint64_t)1 << 63};
+    const size_t length = strlen((const char *)sheet);
+    size_t i;
+    made_len = 0;
+    add_rule(1, 'a', 'c', 0);
+    add_rule(2, 'a', 'c', 1);
+    add_rule(3, 'b', 'z', 1);
+    add_rule(4, '-', '-', 0);
+    end_book();
+    for (i = 0; i < sizeof budgets / sizeof budgets[0]; i++) {
+        turn_by_turn(BOOK, sheet, length, budgets[i]);
+        turn_by_turn(BOOK, (const uint8_t *)"oh\rno", 5, budgets[i]);
+        turn_by_turn(BOOK, NULL, 0, budgets[i]);
+        turn_by_turn(made, made_len, (const uint8_t *)"cb-a-b-d-abc-bcd", 16, budgets[i]);
+        HOLDS(zgv_get_mask(first_masks, 0) == 6 && zgv_get_mask(first_masks, 2) == 3 && zgv_get_mask(first_masks, 4) == 7);
+    }
+}
+
+/* Every room for records and for masks, of a turn of three tokens: 15, and nothing is written, or just these three. */
+static void turn_rooms(void)
+{
+    static const uint8_t text[] = "oh no [yes\n]";
+    size_t r, m;
+    paint();
+    HOLDS(zgv_lex(BOOK, text + 3, sizeof text - 4, SECOND) != 0);
+    for (r = 0; r <= 5 * ZGV_RECORD_BYTES; r++)
+        for (m = 0; m <= 5 * ZGV_MASK_BYTES; m++) {
+            const size_t written = r >= 3 * ZGV_RECORD_BYTES && m >= 3 * ZGV_MASK_BYTES ? 3 : 0;
+            turn t = {0, NEXT_BEFORE, EXAMINED_BEFORE};
+            size_t i;
+            memset(first, 1, 1000);
+            memset(first_masks, 1, 1000);
+            t.answer = zgv_lex_within(BOOK, text, sizeof text - 1, 3, 8, first, r, first_masks, m, &t.next, &t.examined);
+            HOLDS(is_painted(first, written * ZGV_RECORD_BYTES, 1000) && is_painted(first_masks, written * ZGV_MASK_BYTES, 1000));
+            if (written == 0) {
+                HOLDS(t.answer == ((uint64_t)ZGV_TOO_FEW_RECORDS << 56 | 3) && t.next == NEXT_BEFORE && t.examined == EXAMINED_BEFORE);
+                continue;
+            }
+            HOLDS(is_turn(t, 3, ZGV_SPENT, 7, 7) && memcmp(first_masks, second_masks, 3 * ZGV_MASK_BYTES) == 0);
+            for (i = 0; i < 3; i++) {
+                const zgv_token a = zgv_get_record(first, i), b = zgv_get_record(second, i);
+                HOLDS(a.tag == b.tag && a.place == b.place + 3 && a.length == b.length);
+            }
+        }
+}
+
+/* The book's numbers stand before 14, 14 before 27 and 27 before 15. */
+static void turn_refusals(void)
+{
+    static const uint8_t too_long[ZGV_TEXT_BYTES + 1] = {0}, no_book[] = {7};
+    static const size_t past[] = {4, 5, 65536, 65537, (size_t)1 << 32, (size_t)-1};
+    const uint8_t *text = (const uint8_t *)"ohx";
+    turn t = {0, NEXT_BEFORE, EXAMINED_BEFORE};
+    size_t i;
+    paint();
+    HOLDS(is_refused(turn_by(no_book, 1, too_long, sizeof too_long, (size_t)-1, 0), ZGV_MISPLACED, 0));
+    HOLDS(is_refused(turn_by(zgv_builtin_book, 167, text, 3, 4, 9), ZGV_CUT_OFF, 167));
+    HOLDS(is_refused(turn_by(BOOK, too_long, sizeof too_long, 0, 9), ZGV_TEXT_TOO_LONG, 0));
+    HOLDS(is_refused(turn_by(BOOK, too_long, sizeof too_long, (size_t)-1, 9), ZGV_TEXT_TOO_LONG, 0));
+    for (i = 0; i < sizeof past / sizeof past[0]; i++) {
+        HOLDS(is_refused(turn_by(BOOK, text, 3, past[i], i), ZGV_PAST_THE_TEXT, 0));
+        t.answer = zgv_lex_within(BOOK, text, 3, past[i], 9, NULL, 0, NULL, 0, &t.next, &t.examined);
+        HOLDS(is_refused(t, ZGV_PAST_THE_TEXT, 0));
+    }
+    t.answer = zgv_lex_within(BOOK, text, 3, 0, 9, NULL, 0, NULL, 0, &t.next, &t.examined);
+    HOLDS(is_refused(t, ZGV_TOO_FEW_RECORDS, 1));
+    t.answer = zgv_lex_within(BOOK, text, 3, 0, 2, NULL, 0, NULL, 0, &t.next, &t.examined);
+    HOLDS(is_turn(t, 0, ZGV_SPENT, 0, 0) && are_alike());
+    HOLDS(is_turn(turn_by(BOOK, text, 3, 3, 0), 0, ZGV_FINISHED, 3, 0) && are_alike());
+    HOLDS(is_turn(turn_by(BOOK, NULL, 0, 0, 0), 0, ZGV_FINISHED, 0, 0) && are_alike());
+    HOLDS(is_turn(turn_by(BOOK, too_long, ZGV_TEXT_BYTES, ZGV_TEXT_BYTES - 1, 1), 0, ZGV_FINISHED, ZGV_TEXT_BYTES - 1, 1));
+}
+
 /* The built-in book has STEPs; rewritten it has none, and cuts the sheet that cuts() has read as before. */
 static void rewriting(void)
 {
@@ -342,6 +562,12 @@ int main(int argc, char **argv)
     mask_ends();
     mask_rooms();
     mask_refusals();
+    turn_budgets();
+    turn_reaches();
+    turn_looks();
+    turns_together();
+    turn_rooms();
+    turn_refusals();
     empty();
     modes();
     return 0;

@@ -1,8 +1,9 @@
 #!/bin/sh
 # The player: what it writes, what it says and its exit status, over sheets and books that are in order and that are not.
 . "$(dirname "$0")/common"
-needs build/player
+needs build/player build/cutlist
 player=${PLAYER:-$PWD/build/player}
+cutlist=$PWD/build/cutlist
 examples=$PWD/examples
 PATH=$examples:$PATH
 builtin=$examples/builtin.bin
@@ -68,7 +69,7 @@ for bad in x 2x '' ' 2' +2 1.5 0x10 -- - 6000 -6000 99999999999999999999; do
     says "SECONDS is a whole number from -5999 to 5999, not \"$bad\""
 done
 run 2
-says 'usage: player [-l] [-r] BOOK SHEET [SECONDS [OLD NEW]]'
+says 'usage: player [-l] [-r] [--turns N] BOOK SHEET [SECONDS [OLD NEW]]'
 run 2 "$builtin"
 run 2 "$builtin" sheet 2 boats
 run 2 "$builtin" sheet 2 boats ships more
@@ -276,7 +277,7 @@ says 'long: refused: the text has more than 65,536 bytes (number 14)'
 run 1 --hidden "$builtin" none
 says 'none: No such file or directory'
 run 2 --hidden
-says '       player --hidden [-r] BOOK TEXT'
+says '       player --hidden [-r] [--turns N] BOOK TEXT'
 run 2 --hidden "$builtin"
 run 2 --hidden "$builtin" sheet 2
 run 2 --hidden "$builtin" sheet 2 boats ships
@@ -287,5 +288,135 @@ if [ -w /dev/full ]; then
     ! "$player" --hidden "$builtin" sheet >/dev/full 2>said || fail 'that nothing could be written is not told'
     says 'player: No space left on device'
 fi
+
+# --turns: what each turn says, with its tokens below it; twice the budget from the same place where there was none, and then as before
+printf 'oh no [00:1x\r' >text
+run 0 -r --turns 5 "$builtin" text
+writes 'oh no [00:1x'
+cmp - said <<'END' || fail "of turns of 5 bytes it says: $(cat said)"
+turn 1, 5 bytes: 5 examined, 2 tokens, spent at byte 3
+    token 0 at byte 0, tag 2, "oh"
+    token 1 at byte 2, tag 3, " "
+turn 2, 5 bytes: 5 examined, 2 tokens, spent at byte 6
+    token 2 at byte 3, tag 2, "no"
+    token 3 at byte 5, tag 3, " "
+turn 3, 5 bytes: 0 examined, 0 tokens, spent at byte 6
+    no token: the next turn has 10 bytes
+turn 4, 10 bytes: 6 examined, 1 token, spent at byte 7
+    token 4 at byte 6, tag 5, "["
+turn 5, 5 bytes: 0 examined, 0 tokens, spent at byte 7
+    no token: the next turn has 10 bytes
+turn 6, 10 bytes: 7 examined, 1 token, finished at byte 12
+    token 5 at byte 7, tag 2, "00:1x"
+text: not cut from byte 12 on, which is 0D, in line 1: 1 of 13 bytes are left
+player: writing what was cut
+text: 0 stamps moved, 0 words changed
+text: 6 tokens written in 12 bytes, and read back as the same list
+END
+run 0 --turns 1 "$builtin" empty
+says 'turn 1, 1 byte: 0 examined, 0 tokens, finished at byte 0'
+run 0 --turns 65536 other bars
+says 'turn 1, 65536 bytes: 17 examined, 6 tokens, finished at byte 12'
+says '    token 0 at byte 0, tag 65535, "oh"'
+
+# in_turns WORDS...: in turns of any budget it writes and says what it does without, with the same tokens, and the turns join
+in_turns() {
+    run 0 "$@"
+    cp out once
+    cp said said-once
+    for n in 1 2 7 64 1000 65536; do
+        run 0 --turns "$n" "$@"
+        cmp once out || fail "player $*: with --turns $n it writes something else"
+        grep -v '^turn \|^    ' said | cmp - said-once || fail "player $*: with --turns $n it says: $(cat said)"
+        grep '^    token ' said >tokens
+        [ "$n" -gt 1 ] || cp tokens tokens-once
+        cmp tokens tokens-once || fail "player $*: --turns $n has other tokens than --turns 1"
+        sed 's/,//g' said | awk -v usual="$n" '
+            function wrong(what) { print what " in line " NR ": " $0; failed = 1; exit 1 }
+            BEGIN { due = usual }
+            $1 == "turn" {
+                finished = $9 == "finished"
+                if ($2 != ++turns || $3 != due || left != 0 || over) wrong("the turn")
+                if ($5 > $3 || $5 < $7 || $7 == 0 && ($12 != place || !finished && $5 != 0)) wrong("the numbers")
+                from = place; place = $12; left = $7; over = finished
+                due = $7 == 0 ? 2 * $3 : usual
+            }
+            $1 == "token" && ($5 < from || $5 >= place || left-- == 0) { wrong("the token") }
+            $1 == "no" && $7 != due { wrong("the next budget") }
+            END { if (!failed && (!over || left != 0)) wrong("the end") }' || fail "player $*: the turns of --turns $n"
+    done
+}
+# as_cutlist BOOK TEXT: the tokens that in_turns has seen last are those that cutlist lists
+as_cutlist() {
+    cp "$1" book.bin
+    cp "$2" text.bin
+    "$cutlist" | awk '$1 != "rest" { print $1, $3, $2 }' >listed
+    sed 's/^    token \([0-9]*\) at byte \([0-9]*\), tag \([0-9]*\), .*/\1 \2 \3/' tokens | cmp - listed ||
+        fail "$1, $2: other tokens in turns than cutlist lists"
+}
+in_turns "$builtin" sheet
+as_cutlist "$builtin" sheet
+in_turns "$builtin" sheet 2 boats ships
+in_turns -l "$builtin" sheet
+in_turns --hidden "$builtin" sheet
+in_turns -r "$builtin" crlf
+as_cutlist "$builtin" crlf
+in_turns other bars 0 no yes
+as_cutlist other bars
+printf '%s a%s' "$forty" "$forty" >text
+in_turns --hidden same text
+printf 'if x  else iffy if\n\r\t"\\\000!\377' >text
+in_turns --hidden hides text
+as_cutlist hides text
+in_turns plain empty
+in_turns "$builtin" full
+
+# a rule that walks to the text's end at each token: a turn of one byte grows to as many as are left
+make-book.sh >far <<'END'
+01 00 01 00  02 00  03 09  04 01  04 03
+06 00 61 61 01  06 01 61 61 02  06 02 61 61 02  06 01 62 62 03  06 02 62 62 03  07 08
+END
+head -c 300 long >text
+in_turns far text
+as_cutlist far text
+run 0 --turns 1 far text
+says 'turn 10, 512 bytes: 300 examined, 1 token, spent at byte 1'
+{
+    cat text
+    printf b
+} >ends
+in_turns far ends
+as_cutlist far ends
+
+# by the command of README.md too
+words=$(sed -n 's|^build/player \(--turns .*\)|\1|p' "$top/README.md")
+[ -n "$words" ] || fail 'README.md has no command with --turns'
+# shellcheck disable=SC2086
+(cd "$top" && "$player" $words) >out 2>said || fail "the command of README.md: $(cat said)"
+cmp sheet out || fail "the command of README.md writes: $(cat out)"
+says 'turn 1, 64 bytes: 61 examined, 12 tokens, spent at byte 49'
+
+# with --turns: a rest, refusals, and the words of the command line
+run 1 --turns 3 "$builtin" crlf
+says 'crlf: not cut from byte 15 on, which is 0D, in line 1: 17 of 32 bytes are left'
+says 'nothing is written; -r writes what was cut'
+run 1 --turns 3 twice sheet
+says 'twice: refused: two moves of a rule leave one state at the same byte (number 9, byte 19 of the book)'
+run 1 --turns 3 "$builtin" long
+says 'long: refused: the text has more than 65,536 bytes (number 14)'
+run 1 --turns 3 "$builtin" none
+says 'none: No such file or directory'
+for bad in 0 x 2x '' ' 2' +2 -2 1.5 0x10 - 65537 99999999999999999999; do
+    run 2 --turns "$bad" "$builtin" sheet
+    says "N of --turns is a whole number from 1 to 65536, not \"$bad\""
+done
+run 2 --turns
+says 'N of --turns is a whole number from 1 to 65536, not ""'
+run 2 --turns=3 "$builtin" sheet
+run 2 --turns 3
+run 2 --turns 3 "$builtin"
+run 2 --hidden --turns 3 -l "$builtin" sheet
+says 'usage: player [-l] [-r] [--turns N] BOOK SHEET [SECONDS [OLD NEW]]'
+run 2 "$builtin" sheet --turns 3
 
 echo "player: $runs runs"

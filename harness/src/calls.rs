@@ -1,6 +1,6 @@
-//! A call of one of the eight operations, and what it leaves.
+//! A call of one of the nine operations, and what it leaves.
 
-use crate::reference::{self, Cut, Reading, Record, Refusal};
+use crate::reference::{self, Cut, Reading, Record, Refusal, Turn};
 
 #[derive(Clone, Copy, Debug, PartialEq, Eq, PartialOrd, Ord)]
 pub enum Operation {
@@ -10,17 +10,19 @@ pub enum Operation {
     Rule,
     Lex,
     LexBuiltin,
+    LexWithin,
     Print,
     PrintSeparated,
 }
 
-pub const OPERATIONS: [Operation; 8] = [
+pub const OPERATIONS: [Operation; 9] = [
     Operation::ReadBook,
     Operation::ReadBookStrict,
     Operation::RewriteBook,
     Operation::Rule,
     Operation::Lex,
     Operation::LexBuiltin,
+    Operation::LexWithin,
     Operation::Print,
     Operation::PrintSeparated,
 ];
@@ -34,6 +36,7 @@ impl Operation {
             Operation::Rule => "zgv_rule",
             Operation::Lex => "zgv_lex",
             Operation::LexBuiltin => "zgv_lex_builtin",
+            Operation::LexWithin => "zgv_lex_within",
             Operation::Print => "zgv_print",
             Operation::PrintSeparated => "zgv_print_separated",
         }
@@ -54,6 +57,12 @@ pub struct Call {
     pub mode: u32,
     /// The number of a rule.
     pub index: u32,
+    /// Where a turn begins, and how many bytes it may examine.
+    pub place: u64,
+    pub budget: u64,
+    /// The numbers that are lent to a turn, as the machine holds them.
+    pub next: Vec<u8>,
+    pub examined: Vec<u8>,
 }
 
 const NO_RECORD: Record = Record { tag: 0, place: 0, length: 0 };
@@ -70,6 +79,10 @@ impl Call {
             separator: NO_RECORD,
             mode: 0,
             index: 0,
+            place: 0,
+            budget: 0,
+            next: Vec::new(),
+            examined: Vec::new(),
         }
     }
 
@@ -97,6 +110,19 @@ impl Call {
         Call { text: text.to_vec(), records, masks, ..Call::new(Operation::LexBuiltin) }
     }
 
+    /// A turn, whose two numbers are lent with these values.
+    pub fn lex_within(
+        book: &[u8],
+        text: &[u8],
+        (place, budget): (u64, u64),
+        records: Vec<u8>,
+        masks: Vec<u8>,
+        numbers: [u64; 2],
+    ) -> Call {
+        let [next, examined] = numbers.map(|n| n.to_ne_bytes().to_vec());
+        Call { place, budget, next, examined, operation: Operation::LexWithin, ..Call::lex(book, text, records, masks) }
+    }
+
     pub fn print(book: &[u8], records: Vec<u8>, pool: &[u8], out: Vec<u8>) -> Call {
         Call { book: book.to_vec(), text: pool.to_vec(), records, out, ..Call::new(Operation::Print) }
     }
@@ -120,6 +146,11 @@ impl Call {
         }
     }
 
+    /// Of a cut: the tokens that both records and masks can hold.
+    pub fn room(&self) -> usize {
+        (self.records.len() / reference::RECORD_BYTES).min(self.masks.len() / reference::MASK_BYTES)
+    }
+
     /// The buffers lent, with the names of the header.
     pub fn buffers(&self) -> Vec<(&'static str, &Vec<u8>)> {
         match self.operation {
@@ -129,6 +160,14 @@ impl Call {
                 vec![("book", &self.book), ("text", &self.text), ("records", &self.records), ("masks", &self.masks)]
             }
             Operation::LexBuiltin => vec![("text", &self.text), ("records", &self.records), ("masks", &self.masks)],
+            Operation::LexWithin => vec![
+                ("book", &self.book),
+                ("text", &self.text),
+                ("records", &self.records),
+                ("masks", &self.masks),
+                ("next", &self.next),
+                ("examined", &self.examined),
+            ],
             Operation::Print | Operation::PrintSeparated => {
                 vec![("book", &self.book), ("records", &self.records), ("pool", &self.text), ("out", &self.out)]
             }
@@ -141,6 +180,8 @@ impl Call {
             "text" | "pool" => self.text = bytes,
             "records" => self.records = bytes,
             "masks" => self.masks = bytes,
+            "next" => self.next = bytes,
+            "examined" => self.examined = bytes,
             _ => self.out = bytes,
         }
     }
@@ -154,20 +195,33 @@ pub struct Outcome {
 }
 
 impl Outcome {
-    /// Of a cut: the records and the masks, which are lent last.
+    /// Of a cut: the records and the masks.
     pub fn cut(&self) -> (&[u8], &[u8]) {
         match &self.buffers[..] {
-            [.., records, masks] => (records, masks),
+            [_, records, masks] | [_, _, records, masks, ..] => (records, masks),
             _ => unreachable!("both are lent"),
         }
     }
 
     pub fn cut_mut(&mut self) -> (&mut Vec<u8>, &mut Vec<u8>) {
         match &mut self.buffers[..] {
-            [.., records, masks] => (records, masks),
+            [_, records, masks] | [_, _, records, masks, ..] => (records, masks),
             _ => unreachable!("both are lent"),
         }
     }
+
+    /// Of a turn: the next place and the bytes examined.
+    pub fn numbers(&self) -> [u64; 2] {
+        match &self.buffers[..] {
+            [.., next, examined] => [next, examined].map(|b| number(b)),
+            _ => unreachable!("both are lent"),
+        }
+    }
+}
+
+/// A number that is lent as its bytes.
+pub fn number(bytes: &[u8]) -> u64 {
+    u64::from_ne_bytes(bytes.try_into().expect("eight bytes"))
 }
 
 /// The numbers of an answer, as the header packs them.
@@ -211,8 +265,7 @@ pub fn refused(r: Refusal) -> u64 {
 pub fn expected(call: &Call) -> Outcome {
     let mut after = call.clone();
     let list = || reference::records_of(&call.records);
-    // of a cut, the tokens that both can hold
-    let room = (call.records.len() / reference::RECORD_BYTES).min(call.masks.len() / reference::MASK_BYTES);
+    let room = call.room();
     let answer = match call.operation {
         Operation::ReadBook => reference::read_book(&call.book, Reading::Ordinary).map(|rules| accepted(rules, 0)),
         Operation::ReadBookStrict => reference::read_book(&call.book, Reading::Strict).map(|rules| accepted(rules, 0)),
@@ -225,6 +278,10 @@ pub fn expected(call: &Call) -> Outcome {
         }
         Operation::Lex => reference::lex(&call.book, &call.text, room).map(|cut| store(cut, &mut after)),
         Operation::LexBuiltin => reference::lex(BUILTIN, &call.text, room).map(|cut| store(cut, &mut after)),
+        Operation::LexWithin => {
+            let turn = reference::lex_within(&call.book, &call.text, call.place, call.budget, room);
+            turn.map(|turn| store_turn(turn, &mut after))
+        }
         Operation::Print => {
             reference::print(&call.book, &list(), &call.text, call.out.len()).map(|bytes| write(bytes, &mut after.out))
         }
@@ -247,6 +304,15 @@ fn store(cut: Cut, call: &mut Call) -> u64 {
         call.masks[i * 4..i * 4 + 4].copy_from_slice(&mask.to_be_bytes());
     }
     accepted(cut.tokens.len(), cut.rest)
+}
+
+/// What a turn leaves; its answer has whether it is finished in the place of the rest.
+pub fn store_turn(turn: Turn, call: &mut Call) -> u64 {
+    let tokens = turn.cut.tokens.len();
+    call.next = (turn.cut.rest as u64).to_ne_bytes().to_vec();
+    call.examined = turn.examined.to_ne_bytes().to_vec();
+    store(turn.cut, call);
+    accepted(tokens, turn.finished as usize)
 }
 
 fn write(bytes: Vec<u8>, out: &mut [u8]) -> u64 {

@@ -7,6 +7,7 @@ use crate::generate::{bytes_of, Book, Rule};
 use crate::masks;
 use crate::reference::{self as paper, Record};
 use crate::rewriting;
+use crate::turns;
 use crate::wide;
 
 /// A rule that matches one or more of `letter`, or exactly one where `once`.
@@ -76,12 +77,12 @@ pub fn record(tag: u16, place: usize, length: usize) -> Record {
 }
 
 /// A buffer of records with a byte pattern that a store would change.
-fn room(records: usize) -> Vec<u8> {
+pub fn room(records: usize) -> Vec<u8> {
     vec![0xEE; records * paper::RECORD_BYTES]
 }
 
 /// The same for masks.
-fn mask_room(masks: usize) -> Vec<u8> {
+pub fn mask_room(masks: usize) -> Vec<u8> {
     vec![0xEE; masks * paper::MASK_BYTES]
 }
 
@@ -98,6 +99,7 @@ pub fn cut_builtin(text: &[u8], tokens: usize) -> Call {
 /// Every edge call, with a name.
 pub fn calls() -> Vec<(String, Call)> {
     let mut all: Vec<(String, Call)> = Vec::new();
+    let mut turned = 0;
     let mut add = |name: &str, call: Call| {
         // every operation that takes a book meets the same edges of it
         if call.operation == Operation::ReadBook {
@@ -106,6 +108,10 @@ pub fn calls() -> Vec<(String, Call)> {
             all.extend(rewriting::calls(&call.book).into_iter().map(|c| (format!("{name}, without STEP"), c)));
             all.push((format!("{name}, its first rule"), Call::rule(&call.book, 0)));
             all.push((format!("{name}, cutting"), cut(&call.book, b"abca", 4)));
+            // all places and budgets in turn, one place past the text
+            let (place, budget) = (turned % 6, turned / 6 % 7);
+            turned += 1;
+            all.push((format!("{name}, a turn"), turns::turn(&call.book, b"abca", place, budget, 4)));
             all.push((format!("{name}, writing"), Call::print(&call.book, record.clone(), b"a", vec![0xEE; 2])));
             let spacing = Call::print_separated(&call.book, between, 2, record, b"a ", vec![0xEE; 2]);
             all.push((format!("{name}, spacing"), spacing));
@@ -122,6 +128,7 @@ pub fn calls() -> Vec<(String, Call)> {
     fewest::lists(&mut add);
     masks::cuts(&mut add);
     rewriting::books(&mut add);
+    turns::turns(&mut add);
     wide::books(&mut add);
     all
 }
@@ -146,12 +153,18 @@ fn books(add: Add) {
     // the sizes of books at which a larger table is used
     for size in [1_024, 2_048, 4_096, 8_192, 16_384, 32_768, 65_536] {
         for length in [size - 1, size, size + 1] {
-            let name = format!("moves in a book of {length} bytes");
-            add(&name, Call::read_book(&crowded(length, paper::RULE_MOVES)));
-            add(&name, Call::read_book(&crowded(length, FEW)));
-            add(&name, Call::read_book(&wide::crowded(length)));
-            for command in [&[paper::WIDE_FINAL, 1, 0][..], &[paper::WIDE_SPAN, 1, 0, 0, 255, 15, 255]] {
-                add(&format!("{name}, a wide state at last"), Call::read_book(&wide_at_last(length, command)));
+            let books = [
+                ("", crowded(length, paper::RULE_MOVES)),
+                ("", crowded(length, FEW)),
+                ("", wide::crowded(length)),
+                (", a wide state at last", wide_at_last(length, &[paper::WIDE_FINAL, 1, 0])),
+                (", a wide state at last", wide_at_last(length, &[paper::WIDE_SPAN, 1, 0, 0, 255, 15, 255])),
+            ];
+            for (what, bytes) in books {
+                let name = format!("moves in a book of {length} bytes{what}");
+                add(&name, Call::read_book(&bytes));
+                add(&format!("{name}, a turn to the finish"), turns::turn(&bytes, b"abca", 0, u64::MAX, 4));
+                add(&format!("{name}, a turn in between"), turns::turn(&bytes, b"abca", 1, 2, 3));
             }
         }
     }

@@ -1,5 +1,5 @@
 //! The examples of document 01, each with what the library and the second implementation answer; of the cuts also the masks
-//! (document 02, wish 11). Those that the document marks ● are proved of the definitions too.
+//! (document 02, wish 11), and turns by its book A (wish 1). Those that the document marks ● are proved of the definitions too.
 
 use crate::calls::{self, Answer, Call, Operation, Outcome, BUILTIN};
 use crate::generate::{bytes_of, Book, Rule};
@@ -59,6 +59,11 @@ fn built_in(text: &[u8]) -> Call {
     Call::lex_builtin(text, vec![0; text.len() * 10], vec![0; text.len() * 4])
 }
 
+fn turn(text: &[u8], place: u64, budget: u64) -> Call {
+    let (records, masks) = (vec![0; text.len() * 10], vec![0; text.len() * 4]);
+    Call::lex_within(&book_a(), text, (place, budget), records, masks, [0, 0])
+}
+
 fn plain(book: &[u8], words: &[(u16, &str)]) -> Call {
     let (pool, list) = listed(words);
     Call::print(book, list, &pool, vec![0; 32])
@@ -87,6 +92,22 @@ fn all() -> Vec<(bool, &'static str, &'static str, Call)> {
         (true, "book A, \"d\"", "no token, rest 0", cut(a, b"d")),
         (false, "book A, \"a  c\"", "1 \"a\", 4 \"  \", 3 \"c\", rest 4; masks 1, 8, 4", cut(a, b"a  c")),
         (true, "book A, \"abd\"", "1 \"a\", 2 \"b\", rest 2; masks 1, 2", cut(a, b"abd")),
+        (false, "book A, \"abd\", a turn of 2", "no token, next 0, 0 examined, spent", turn(b"abd", 0, 2)),
+        (false, "book A, \"abd\", a turn of 3", "1 \"a\", next 1, 3 examined, spent; masks 1", turn(b"abd", 0, 3)),
+        (
+            false,
+            "book A, \"abd\", a turn of 6",
+            "1 \"a\", 2 \"b\", next 2, 6 examined, finished; masks 1, 2",
+            turn(b"abd", 0, 6),
+        ),
+        (
+            false,
+            "book A, \"abd\", a turn of 3 from 1",
+            "2 \"b\", next 2, 3 examined, finished; masks 2",
+            turn(b"abd", 1, 3),
+        ),
+        (false, "book A, \"abd\", a turn from 3", "no token, next 3, 0 examined, finished", turn(b"abd", 3, 0)),
+        (false, "book A, \"abd\", a turn from 4", "refused 27 at 0", turn(b"abd", 4, 0)),
         (true, "book A, plain a, b, c", "refused 21 at 0", plain(a, abc)),
         (true, "book A, plain c, b, a", "\"cba\"", plain(a, cba)),
         (true, "book A, plain, the empty list", "\"\"", plain(a, &[])),
@@ -138,21 +159,29 @@ fn said(call: &Call, outcome: &Outcome) -> String {
         Operation::Print | Operation::PrintSeparated => {
             format!("{:?}", String::from_utf8_lossy(&outcome.buffers[3][..count]))
         }
-        Operation::Lex | Operation::LexBuiltin => {
-            let (records, masks) = outcome.cut();
-            let tokens = paper::records_of(&records[..count * 10]);
-            let word = |t: &Record| String::from_utf8_lossy(t.bytes(&call.text).unwrap_or(b"?")).to_string();
-            let rest = answer.second();
-            match count {
-                0 => format!("no token, rest {rest}"),
-                1..=9 => {
-                    let list: Vec<String> = tokens.iter().map(|t| format!("{} {:?}", t.tag, word(t))).collect();
-                    let masks: Vec<String> = paper::masks_of(masks).iter().take(count).map(u32::to_string).collect();
-                    format!("{}, rest {rest}; masks {}", list.join(", "), masks.join(", "))
-                }
-                _ => format!("{count} tokens, rest {rest}"),
-            }
+        Operation::Lex | Operation::LexBuiltin => cut_said(call, outcome, &format!("rest {}", answer.second())),
+        Operation::LexWithin => {
+            let [next, examined] = outcome.numbers();
+            let stopped = if answer.second() == 1 { "finished" } else { "spent" };
+            cut_said(call, outcome, &format!("next {next}, {examined} examined, {stopped}"))
         }
+    }
+}
+
+/// The tokens of a cut, where it ended, and their masks.
+fn cut_said(call: &Call, outcome: &Outcome, end: &str) -> String {
+    let count = Answer(outcome.answer).first() as usize;
+    let (records, masks) = outcome.cut();
+    let tokens = paper::records_of(&records[..count * 10]);
+    let word = |t: &Record| String::from_utf8_lossy(t.bytes(&call.text).unwrap_or(b"?")).to_string();
+    match count {
+        0 => format!("no token, {end}"),
+        1..=9 => {
+            let list: Vec<String> = tokens.iter().map(|t| format!("{} {:?}", t.tag, word(t))).collect();
+            let masks: Vec<String> = paper::masks_of(masks).iter().take(count).map(u32::to_string).collect();
+            format!("{}, {end}; masks {}", list.join(", "), masks.join(", "))
+        }
+        _ => format!("{count} tokens, {end}"),
     }
 }
 

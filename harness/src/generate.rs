@@ -1,6 +1,6 @@
 //! Random books, texts, lists and buffers, valid and damaged.
 
-use crate::calls::{self, Answer, Call};
+use crate::calls::{self, Answer, Call, Operation};
 use crate::random::Random;
 use crate::reference::{self as paper, Command, Move, Record, Width};
 use crate::rewriting;
@@ -822,7 +822,7 @@ fn with_output(r: &mut Random, call: Call) -> Call {
     Call { out: r.bytes(length), ..call }
 }
 
-/// Room for at least so many tokens: just enough, about one for each byte of the text, or more than that.
+/// Room for at least so many tokens: just enough, about one for each byte that is cut, or more than that.
 fn enough(r: &mut Random, need: usize, text: usize) -> usize {
     match r.below(8) {
         0..=2 => need,
@@ -844,7 +844,12 @@ fn too_few(r: &mut Random, need: usize) -> usize {
 
 /// The call of a cut with records and masks enough, or with too few of one or of both, and with bytes left over or not.
 fn with_tokens(r: &mut Random, call: Call) -> Call {
-    let (need, text) = (need(&call), call.text.len());
+    let need = need(&call);
+    // the bytes that may become tokens
+    let text = match call.operation {
+        Operation::LexWithin => call.budget.min((call.text.len() as u64).saturating_sub(call.place)) as usize,
+        _ => call.text.len(),
+    };
     let (records, masks) = match r.below(10) {
         0..=5 => (enough(r, need, text), enough(r, need, text)),
         6 | 7 => (enough(r, need, text), too_few(r, need)),
@@ -875,7 +880,7 @@ fn without_step(r: &mut Random, book: &[u8], count: usize) -> Vec<Call> {
 }
 
 /// The calls of one case: a book, each operation on it, and writing with separators by another book, which is read strictly and
-/// rewritten too; now and then a book that rewriting may make too long, and one with large rules.
+/// rewritten too; now and then a book that rewriting may make too long, and one with large rules. Turns come last.
 pub fn case(r: &mut Random) -> Vec<Call> {
     let (rules, alphabet) = book(r);
     let sound = shuffled(r, &rules);
@@ -898,11 +903,11 @@ pub fn case(r: &mut Random) -> Vec<Call> {
     let index = if r.once_in(20) { r.next() as u32 } else { r.from(0, rules.rules.len()) as u32 };
     calls.push(Call::rule(&bytes, index));
 
-    let (rules, alphabet) = branched_book(r);
-    let bytes = shuffled(r, &rules);
-    let spaced = list(r, &rules, &bytes, &alphabet, 12, true);
-    let call = spacing(r, &bytes, spaced, leftover);
-    calls.extend(without_step(r, &bytes, 1));
+    let (branched, letters) = branched_book(r);
+    let other = shuffled(r, &branched);
+    let spaced = list(r, &branched, &other, &letters, 12, true);
+    let call = spacing(r, &other, spaced, leftover);
+    calls.extend(without_step(r, &other, 1));
     calls.push(with_output(r, call));
 
     if r.once_in(100) {
@@ -910,11 +915,13 @@ pub fn case(r: &mut Random) -> Vec<Call> {
         calls.extend(without_step(r, &bytes, 4));
     }
     if r.once_in(200) {
-        let (rules, alphabet) = large_book(r);
-        let bytes = shuffled(r, &rules);
+        let (large, letters) = large_book(r);
+        let bytes = shuffled(r, &large);
         calls.extend(without_step(r, &bytes, 1));
-        calls.extend(uses(r, (&rules, &bytes, &alphabet), &bytes, 40, leftover));
+        calls.extend(uses(r, (&large, &bytes, &letters), &bytes, 40, leftover));
+        calls.extend(turns(r, (&large, &letters), &bytes, 60));
     }
+    calls.extend(turns(r, (&rules, &alphabet), &bytes, longest));
     calls
 }
 
@@ -939,6 +946,53 @@ fn uses(
     let spaced = list(r, rules, sound, alphabet, longest, only_plain);
     let spaced = spacing(r, bytes, spaced, leftover);
     vec![with_tokens(r, cut.clone()), with_tokens(r, cut), with_output(r, print), with_output(r, spaced)]
+}
+
+/// Three turns over a text by the bytes of a book; now and then the text is too long.
+fn turns(r: &mut Random, (rules, alphabet): (&Book, &Alphabet), bytes: &[u8], longest: usize) -> Vec<Call> {
+    let mut text = text(r, rules, alphabet, longest);
+    if r.once_in(200) {
+        text.resize(paper::TEXT_BYTES + r.from(1, 3), alphabet.any(r));
+    }
+    let mut turn = || {
+        let place = turn_place(r, text.len() as u64);
+        let budget = turn_budget(r, bytes, &text, place);
+        let (records, masks) = all_room(&text);
+        let numbers = [r.next(), r.next()];
+        with_tokens(r, Call::lex_within(bytes, &text, (place, budget), records, masks, numbers))
+    };
+    vec![turn(), turn(), turn()]
+}
+
+/// A place in a text of that length, or past it.
+fn turn_place(r: &mut Random, length: u64) -> u64 {
+    match r.below(12) {
+        0..=4 => 0,
+        5..=8 => r.from(0, length as usize) as u64,
+        9 => length,
+        10 => length + r.from(1, 3) as u64,
+        _ => *r.pick(&[u64::MAX, 1 << 63, 1 << 32, (1 << 32) + length / 2, u64::MAX - length]),
+    }
+}
+
+/// A budget around what the first of the places from there on take, of any size, or larger than any text needs.
+fn turn_budget(r: &mut Random, bytes: &[u8], text: &[u8], place: u64) -> u64 {
+    let sound = paper::read_book(bytes, paper::Reading::Ordinary).is_ok();
+    let reaches = if sound && place <= text.len() as u64 && text.len() <= paper::TEXT_BYTES {
+        paper::reaches(bytes, text, place as usize)
+    } else {
+        vec![r.below(5)]
+    };
+    let first = r.from(0, reaches.len());
+    let sum = reaches[..first].iter().sum::<usize>();
+    let budget = match r.below(10) {
+        0..=5 => (sum + r.below(3)).saturating_sub(1),
+        6 => r.below(4),
+        7 => r.from(0, reaches.iter().sum::<usize>() + 2),
+        8 => (r.from(1, 3) << 32) + r.below(4),
+        _ => return u64::MAX,
+    };
+    budget as u64
 }
 
 /// Writing with separators in some mode, with all the room there may be.

@@ -17,6 +17,9 @@ mod reference;
 mod report;
 mod rewriting;
 mod round_trip;
+mod sequences;
+mod turn_faults;
+mod turns;
 mod wide;
 
 use calls::{Answer, Call, Operation, Outcome, OPERATIONS};
@@ -72,7 +75,7 @@ fn options() -> Options {
 type Met = BTreeMap<(Operation, u8), u64>;
 
 /// What a thread has met and tried.
-type Found = (Met, Tried, rewriting::Tried);
+type Found = (Met, Tried, rewriting::Tried, sequences::Tried);
 
 struct Run {
     library: Library,
@@ -80,11 +83,19 @@ struct Run {
     met: Met,
     tried: Tried,
     laws: Laws,
+    turns: sequences::Tried,
 }
 
 impl Run {
     fn new(plant: Option<Fault>) -> Run {
-        Run { library: Library::new(), plant, met: Met::new(), tried: Tried::default(), laws: Laws::default() }
+        Run {
+            library: Library::new(),
+            plant,
+            met: Met::new(),
+            tried: Tried::default(),
+            laws: Laws::default(),
+            turns: sequences::Tried::default(),
+        }
     }
 
     fn case(&mut self, seed: u64, case: u64) -> Result<(), String> {
@@ -103,12 +114,11 @@ impl Run {
                 return Err(format!("DIFFERENCE in {what}: {difference}\n{reproduction}"));
             }
         }
-        if let Err(difference) = self.laws.check(&mut self.library, call, &second) {
-            let broken = |c: &Call| self.laws.check(&mut self.library, c, &calls::expected(c)).is_err();
-            let small = report::shrink(call, broken);
+        if let Err((law, difference)) = self.law(call, &second) {
+            let small = report::shrink(call, |c| self.law(c, &calls::expected(c)).is_err());
             let second = calls::expected(&small);
             let reproduction = report::reproduction(&small, &Ok(second.clone()), &second);
-            return Err(format!("REWRITING in {what}: {difference}\n{reproduction}"));
+            return Err(format!("{law} in {what}: {difference}\n{reproduction}"));
         }
         if let Some(text) = round_trip::written(&mut self.library, call) {
             let reproduction = || report::reproduction(call, &Ok(second.clone()), &second);
@@ -121,6 +131,12 @@ impl Run {
         }
         *self.met.entry((call.operation, Answer(second.answer).number())).or_default() += 1;
         Ok(())
+    }
+
+    /// Of the laws of the library's calls among themselves, the first that is broken, and how.
+    fn law(&mut self, call: &Call, second: &Outcome) -> Result<(), (&'static str, String)> {
+        self.laws.check(&mut self.library, call, second).map_err(|how| ("REWRITING", how))?;
+        self.turns.check(&mut self.library, call, second).map_err(|how| ("TURNS", how))
     }
 
     fn difference(&mut self, call: &Call, against: Against, second: &Outcome) -> Option<String> {
@@ -149,6 +165,7 @@ fn possible(operation: Operation) -> Vec<u8> {
         Operation::Rule => book.chain([18]).collect(),
         Operation::Lex => book.chain(14..=15).collect(),
         Operation::LexBuiltin => vec![0, 14, 15],
+        Operation::LexWithin => book.chain([14, 15, 27]).collect(),
         Operation::Print => book.chain(16..=22).collect(),
         Operation::PrintSeparated => book.chain(16..=20).chain(22..=26).collect(),
     }
@@ -198,7 +215,7 @@ impl Work<'_> {
             let result = self.one(&mut run, number);
             self.done(number, result);
         }
-        (run.met, run.tried, run.laws.tried)
+        (run.met, run.tried, run.laws.tried, run.turns)
     }
 
     /// The next number; none where there is no more or one before it has a difference.
@@ -279,10 +296,12 @@ pub fn main() {
     let mut met = Met::new();
     let mut tried = Tried::default();
     let mut books = rewriting::Tried::default();
-    for (answers, lists, rewritten) in each {
+    let mut turns = sequences::Tried::default();
+    for (answers, lists, rewritten, in_turns) in each {
         answers.into_iter().for_each(|(answer, count)| *met.entry(answer).or_default() += count);
         tried.add(lists);
         books.add(rewritten);
+        turns.add(in_turns);
     }
     let mut missing = never_met(&met);
     let Tried { lists, ways, tighter } = tried;
@@ -296,6 +315,13 @@ pub fn main() {
     println!("rewriting: {repeated} calls repeated by the rewritten book, {same} by a book that stays as it is");
     if repeated == 0 || same == 0 {
         missing.push("a book to be rewritten".to_string());
+    }
+    let sequences::Tried { extended, sequences, turns, idle } = turns;
+    println!(
+        "turns: {extended} that a larger budget extends; {sequences} times to the finish, in {turns} turns, {idle} of them idle"
+    );
+    if extended == 0 || turns == sequences || idle == 0 {
+        missing.push("a text that takes several turns".to_string());
     }
     let numbers: BTreeSet<u8> = met.keys().map(|(_, n)| *n).filter(|n| *n > 0).collect();
     println!(

@@ -2,6 +2,7 @@
 
 use crate::calls::{Call, Operation, Outcome};
 use std::ffi::c_void;
+use std::ops::Range;
 
 extern "C" {
     fn zgv_read_book(book: *const u8, book_len: usize) -> u64;
@@ -25,6 +26,20 @@ extern "C" {
         records_len: usize,
         masks: *mut u8,
         masks_len: usize,
+    ) -> u64;
+    fn zgv_lex_within(
+        book: *const u8,
+        book_len: usize,
+        text: *const u8,
+        text_len: usize,
+        place: usize,
+        budget: u64,
+        records: *mut u8,
+        records_len: usize,
+        masks: *mut u8,
+        masks_len: usize,
+        next: *mut u64,
+        examined: *mut u64,
     ) -> u64;
     fn zgv_print(
         book: *const u8,
@@ -103,7 +118,7 @@ impl Slot {
         }
     }
 
-    fn guard(len: usize, against: Against) -> std::ops::Range<usize> {
+    fn guard(len: usize, against: Against) -> Range<usize> {
         match against {
             Against::Front => len..len + GUARD,
             Against::Back => SLOT - len - GUARD..SLOT - len,
@@ -135,20 +150,28 @@ pub struct Library {
 
 impl Library {
     pub fn new() -> Library {
-        Library { slots: (0..4).map(|_| Slot::new()).collect() }
+        Library { slots: (0..6).map(|_| Slot::new()).collect() }
     }
 
     /// Calls the library. An empty buffer is lent as NULL half of the time. An error says which guard was broken.
     pub fn run(&mut self, call: &Call, against: Against) -> Result<Outcome, String> {
+        self.run_showing(call, against, 0..call.text.len())
+    }
+
+    /// The same with no other bytes of the text there than these.
+    pub fn run_showing(&mut self, call: &Call, against: Against, shown: Range<usize>) -> Result<Outcome, String> {
         let lent = call.buffers();
+        let there = |name: &str, bytes: &[u8]| if name == "text" { shown.clone() } else { 0..bytes.len() };
         let mut pointers: Vec<*mut u8> = Vec::new();
         for (slot, (name, bytes)) in self.slots.iter_mut().zip(&lent) {
-            let pointer = slot.lend(bytes, against);
+            let part = there(name, bytes);
+            let pointer = slot.lend(&bytes[part.clone()], against).wrapping_sub(part.start);
             pointers.push(if bytes.is_empty() && against == Against::Back {
                 std::ptr::null_mut()
             } else if matches!(*name, "text" | "pool")
                 && call.operation != Operation::LexBuiltin
                 && **bytes == call.book
+                && part == (0..bytes.len())
             {
                 // both are only read, so that they may be one
                 pointers[0]
@@ -159,7 +182,9 @@ impl Library {
         let answer = Library::invoke(call, &lent, &pointers);
         let mut buffers = Vec::new();
         for (slot, (name, bytes)) in self.slots.iter_mut().zip(&lent) {
-            buffers.push(slot.take_back(bytes.len(), against).map_err(|e| format!("{name}: {e}"))?);
+            let part = there(name, bytes);
+            let after = slot.take_back(part.len(), against).map_err(|e| format!("{name}: {e}"))?;
+            buffers.push([&bytes[..part.start], &after, &bytes[part.end..]].concat());
         }
         Ok(Outcome { answer, buffers })
     }
@@ -167,7 +192,8 @@ impl Library {
     fn invoke(call: &Call, lent: &[(&'static str, &Vec<u8>)], p: &[*mut u8]) -> u64 {
         let n: Vec<usize> = lent.iter().map(|(_, b)| b.len()).collect();
         let s = call.separator;
-        // SAFETY: each pointer has that many bytes behind it, in slots that do not overlap, but for two that are only read.
+        // SAFETY: each pointer has that many bytes behind it, in slots that do not overlap, but for two that are only read. Of the text
+        // some may not be there: those that the call does not read.
         unsafe {
             match call.operation {
                 Operation::ReadBook => zgv_read_book(p[0], n[0]),
@@ -176,6 +202,12 @@ impl Library {
                 Operation::Rule => zgv_rule(p[0], n[0], call.index),
                 Operation::Lex => zgv_lex(p[0], n[0], p[1], n[1], p[2], n[2], p[3], n[3]),
                 Operation::LexBuiltin => zgv_lex_builtin(p[0], n[0], p[1], n[1], p[2], n[2]),
+                Operation::LexWithin => {
+                    // at either end of its slot a number is aligned
+                    let (next, examined) = (p[4] as *mut u64, p[5] as *mut u64);
+                    let (place, budget) = (call.place as usize, call.budget);
+                    zgv_lex_within(p[0], n[0], p[1], n[1], place, budget, p[2], n[2], p[3], n[3], next, examined)
+                }
                 Operation::Print => zgv_print(p[0], n[0], p[1], n[1], p[2], n[2], p[3], n[3]),
                 Operation::PrintSeparated => zgv_print_separated(
                     p[0], n[0], s.tag, s.place, s.length, call.mode, p[1], n[1], p[2], n[2], p[3], n[3],

@@ -49,7 +49,7 @@ fn add_held(add: Add, name: &str, book: Option<&[u8]>, text: &[u8], said: &[Toke
 }
 
 /// A rule with the states as they are, around 256, or from the last one down.
-fn turned(rule: Rule, turn: usize) -> Rule {
+pub fn turned(rule: Rule, turn: usize) -> Rule {
     match turn % 3 {
         0 => rule,
         1 => rule.renamed(|s| s + 254),
@@ -58,7 +58,7 @@ fn turned(rule: Rule, turn: usize) -> Rule {
 }
 
 /// A rule that matches these words.
-fn words(words: &[&[u8]]) -> Rule {
+pub fn words(words: &[&[u8]]) -> Rule {
     let mut states: Vec<&[u8]> = vec![b""];
     let mut moves = Vec::new();
     for word in words {
@@ -74,12 +74,12 @@ fn words(words: &[&[u8]]) -> Rule {
 }
 
 /// A rule that matches one or more bytes from `low` to `high`.
-fn run(low: u8, high: u8) -> Rule {
+pub fn run(low: u8, high: u8) -> Rule {
     Rule { tag: 0, kind: 0, start: 0, error: 2, finals: vec![1], moves: vec![(0, low, high, 1), (1, low, high, 1)] }
 }
 
 /// The rules under tags of their own, of both kinds.
-fn tagged(rules: Vec<Rule>) -> Vec<u8> {
+pub fn tagged(rules: Vec<Rule>) -> Vec<u8> {
     let name = |(k, rule): (usize, Rule)| Rule { tag: 700 - 3 * k as u16, kind: (k % 3 == 1) as u8, ..rule };
     book(rules.into_iter().enumerate().map(name).collect()).bytes()
 }

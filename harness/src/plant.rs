@@ -4,6 +4,7 @@
 use crate::calls::{Answer, Call, Operation, Outcome, BUILTIN};
 use crate::library::{Against, Library};
 use crate::reference::{self, Command, Reading, Width};
+use crate::turn_faults;
 use std::collections::BTreeSet;
 
 #[derive(Clone, Copy, Debug, PartialEq, Eq)]
@@ -78,9 +79,51 @@ pub enum Fault {
     RoundedUp,
     /// A cut that is refused by 15 leaves masks.
     MasksTouched,
+    /// A reach is a byte less.
+    ReachShort,
+    /// The reach of a token is that of the rule that takes it.
+    ReachOfTheWinner,
+    /// The reach of a token is its length.
+    ReachIsLength,
+    /// A rule is at its end in a state that nothing leaves.
+    StuckIsError,
+    /// A rule that a move has led to its error state is at its end a byte later.
+    MovedToError,
+    /// A rule that starts in its error state is at its end a byte later.
+    StartedInError,
+    /// The reach of the place where no token begins is not counted.
+    TokenlessUncounted,
+    /// Finished is said where no token begins, also where the reach does not fit.
+    TokenlessUnasked,
+    /// Spent is said where the reach is all that is left.
+    JustFits,
+    /// Spent is said where nothing is left, also for a reach of 0.
+    NothingLeft,
+    /// A turn goes on as long as anything is left.
+    Overdrawn,
+    /// Finished is said where a token begins whose reach does not fit.
+    FinishedAtAToken,
+    /// Places in records count from the turn's place.
+    FromTheTurn,
+    /// The next place counts from the turn's place.
+    NextFromTheTurn,
+    /// A turn that is refused by 15 leaves its next place and what it examined.
+    NumbersTouched,
+    /// 27 is said of the text's end.
+    EndIsPast,
+    /// 27 comes before 14.
+    PlaceFirst,
+    /// 15 comes before 27.
+    RoomBeforePlace,
+    /// 15 counts the tokens of the whole text.
+    RoomForTheCut,
+    /// The high half of a budget plays no part.
+    HalfABudget,
+    /// The high half of a place plays no part.
+    HalfAPlace,
 }
 
-pub const FAULTS: [Fault; 35] = [
+pub const FAULTS: [Fault; 56] = [
     Fault::Tie,
     Fault::Need,
     Fault::PastTheCount,
@@ -116,6 +159,27 @@ pub const FAULTS: [Fault; 35] = [
     Fault::MasksUncounted,
     Fault::RoundedUp,
     Fault::MasksTouched,
+    Fault::ReachShort,
+    Fault::ReachOfTheWinner,
+    Fault::ReachIsLength,
+    Fault::StuckIsError,
+    Fault::MovedToError,
+    Fault::StartedInError,
+    Fault::TokenlessUncounted,
+    Fault::TokenlessUnasked,
+    Fault::JustFits,
+    Fault::NothingLeft,
+    Fault::Overdrawn,
+    Fault::FinishedAtAToken,
+    Fault::FromTheTurn,
+    Fault::NextFromTheTurn,
+    Fault::NumbersTouched,
+    Fault::EndIsPast,
+    Fault::PlaceFirst,
+    Fault::RoomBeforePlace,
+    Fault::RoomForTheCut,
+    Fault::HalfABudget,
+    Fault::HalfAPlace,
 ];
 
 impl Fault {
@@ -156,6 +220,27 @@ impl Fault {
             Fault::MasksUncounted => "masks-uncounted",
             Fault::RoundedUp => "rounded-up",
             Fault::MasksTouched => "masks-touched",
+            Fault::ReachShort => "reach-short",
+            Fault::ReachOfTheWinner => "reach-of-the-winner",
+            Fault::ReachIsLength => "reach-is-length",
+            Fault::StuckIsError => "stuck-is-error",
+            Fault::MovedToError => "moved-to-error",
+            Fault::StartedInError => "started-in-error",
+            Fault::TokenlessUncounted => "tokenless-uncounted",
+            Fault::TokenlessUnasked => "tokenless-unasked",
+            Fault::JustFits => "just-fits",
+            Fault::NothingLeft => "nothing-left",
+            Fault::Overdrawn => "overdrawn",
+            Fault::FinishedAtAToken => "finished-at-a-token",
+            Fault::FromTheTurn => "from-the-turn",
+            Fault::NextFromTheTurn => "next-from-the-turn",
+            Fault::NumbersTouched => "numbers-touched",
+            Fault::EndIsPast => "end-is-past",
+            Fault::PlaceFirst => "place-first",
+            Fault::RoomBeforePlace => "room-before-place",
+            Fault::RoomForTheCut => "room-for-the-cut",
+            Fault::HalfABudget => "half-a-budget",
+            Fault::HalfAPlace => "half-a-place",
         }
     }
 
@@ -207,11 +292,36 @@ pub fn run(fault: Option<Fault>, library: &mut Library, call: &Call, against: Ag
         Fault::MasksUncounted => too_few_masks(library, call, against, sound, |_, _| true)?,
         Fault::RoundedUp => too_few_masks(library, call, against, sound, |masks, need| masks > 4 * (need - 1))?,
         Fault::MasksTouched => masks_touched(library, call, against, sound)?,
+        Fault::ReachShort => turn_faults::reaching(call, sound, |_, stop| stop.reach.saturating_sub(1)),
+        Fault::ReachOfTheWinner => turn_faults::reaching(call, sound, turn_faults::winner),
+        Fault::ReachIsLength => turn_faults::reaching(call, sound, turn_faults::length),
+        Fault::StuckIsError => turn_faults::reaching(call, sound, turn_faults::stuck),
+        Fault::MovedToError => turn_faults::reaching(call, sound, turn_faults::moved),
+        Fault::StartedInError => turn_faults::reaching(call, sound, turn_faults::started),
+        Fault::TokenlessUncounted => turn_faults::tokenless_uncounted(call, sound),
+        Fault::TokenlessUnasked => turn_faults::finished_at(call, sound, false),
+        Fault::JustFits => turn_faults::spending(call, sound, |reach, left| reach == 0 || reach < left),
+        Fault::NothingLeft => turn_faults::spending(call, sound, |reach, left| 0 < left && reach <= left),
+        Fault::Overdrawn => turn_faults::spending(call, sound, |reach, left| 0 < left || reach == 0),
+        Fault::FinishedAtAToken => turn_faults::finished_at(call, sound, true),
+        Fault::FromTheTurn => turn_faults::from_the_turn(call, sound),
+        Fault::NextFromTheTurn => turn_faults::next_from_the_turn(call, sound),
+        Fault::NumbersTouched => turn_faults::numbers_touched(call, sound),
+        Fault::EndIsPast => turn_faults::end_is_past(call, sound),
+        Fault::PlaceFirst => turn_faults::place_first(call, sound),
+        Fault::RoomBeforePlace => turn_faults::room_before_place(call, sound),
+        Fault::RoomForTheCut => turn_faults::room_for_the_cut(call, sound),
+        Fault::HalfABudget => {
+            turn_faults::by_others(library, call, against, sound, |place, budget| (place, budget & 0xFFFF_FFFF))?
+        }
+        Fault::HalfAPlace => {
+            turn_faults::by_others(library, call, against, sound, |place, budget| (place & 0xFFFF_FFFF, budget))?
+        }
     })
 }
 
 fn is_cut(call: &Call) -> bool {
-    matches!(call.operation, Operation::Lex | Operation::LexBuiltin)
+    matches!(call.operation, Operation::Lex | Operation::LexBuiltin | Operation::LexWithin)
 }
 
 fn is_print(call: &Call) -> bool {
@@ -220,7 +330,8 @@ fn is_print(call: &Call) -> bool {
 
 /// The cut by the same rules in the opposite order; which rules agree is the same.
 fn tie(library: &mut Library, call: &Call, against: Against, sound: Outcome) -> Result<Outcome, String> {
-    if call.operation != Operation::Lex || reference::read_book(&call.book, Reading::Ordinary).is_err() {
+    let by_book = matches!(call.operation, Operation::Lex | Operation::LexWithin);
+    if !by_book || reference::read_book(&call.book, Reading::Ordinary).is_err() {
         return Ok(sound);
     }
     let mut turned = call.clone();
@@ -234,8 +345,7 @@ fn tie(library: &mut Library, call: &Call, against: Against, sound: Outcome) -> 
 
 fn need(call: &Call, mut outcome: Outcome) -> Outcome {
     if Answer(outcome.answer).number() == 15 {
-        let room = (call.records.len() / reference::RECORD_BYTES).min(call.masks.len() / reference::MASK_BYTES);
-        outcome.answer = 15 << 56 | (room + 1) as u64;
+        outcome.answer = 15 << 56 | (call.room() + 1) as u64;
     }
     outcome
 }

@@ -351,7 +351,7 @@ pub fn rules(book: &[u8]) -> Vec<&[u8]> {
     found
 }
 
-fn start_of(rule: &[u8]) -> u16 {
+pub fn start_of(rule: &[u8]) -> u16 {
     find(rule, |c| if let Command::Start(_, state) = c { Some(state) } else { None }).expect("an accepted rule has it")
 }
 
@@ -431,9 +431,14 @@ impl<'b> Walker<'b> {
         find(self.rule, target).unwrap_or_else(|| error_of(self.rule))
     }
 
-    /// Whether the walk from the rule's start over `word` ends in a final state.
+    /// The state in which the walk from the rule's start over `word` ends.
+    fn walk(&self, word: &[u8]) -> u16 {
+        word.iter().fold(self.start(), |s, &b| self.step(s, b))
+    }
+
+    /// Whether the walk over `word` ends in a final state.
     fn matches(&self, word: &[u8]) -> bool {
-        self.is_final(word.iter().fold(self.start(), |s, &b| self.step(s, b)))
+        self.is_final(self.walk(word))
     }
 }
 
@@ -542,18 +547,31 @@ fn agreeing(rules: &[Walker], word: &[u8]) -> u32 {
     rules.iter().rev().fold(0, |mask, rule| mask << 1 | rule.matches(word) as u32)
 }
 
-pub fn cut(book: &[u8], text: &[u8]) -> Cut {
-    let rules = rules(book);
-    let walkers = walkers(&rules);
-    let mut cut = Cut { tokens: Vec::new(), masks: Vec::new(), rest: 0 };
-    while let Some((rank, length)) = choose(&walkers, &text[cut.rest..]) {
-        let token = Record { tag: tag_of(rules[rank]), place: cut.rest as u32, length: length as u32 };
-        let mask = agreeing(&walkers, token.bytes(text).expect("it is in the text"));
-        assert_eq!(mask.trailing_zeros() as usize, rank, "the earliest rule that agrees gives the tag");
-        cut.tokens.push(token);
-        cut.masks.push(mask);
-        cut.rest += length;
+impl Cut {
+    fn from(place: usize) -> Cut {
+        Cut { tokens: Vec::new(), masks: Vec::new(), rest: place }
     }
+
+    /// Takes the token that begins at the rest, where one does.
+    fn next(&mut self, rules: &[Walker], text: &[u8]) -> bool {
+        let (rank, length) = match choose(rules, &text[self.rest..]) {
+            Some(found) => found,
+            None => return false,
+        };
+        let token = Record { tag: tag_of(rules[rank].rule), place: self.rest as u32, length: length as u32 };
+        let mask = agreeing(rules, token.bytes(text).expect("it is in the text"));
+        assert_eq!(mask.trailing_zeros() as usize, rank, "the earliest rule that agrees gives the tag");
+        self.tokens.push(token);
+        self.masks.push(mask);
+        self.rest += length;
+        true
+    }
+}
+
+pub fn cut(book: &[u8], text: &[u8]) -> Cut {
+    let walkers = walkers(&rules(book));
+    let mut cut = Cut::from(0);
+    while cut.next(&walkers, text) {}
     cut
 }
 
@@ -568,6 +586,81 @@ pub fn lex(book: &[u8], text: &[u8], room: usize) -> Result<Cut, Refusal> {
         return refuse(15, cut.tokens.len());
     }
     Ok(cut)
+}
+
+// ---- Cutting in turns
+
+/// The fewest bytes of `text` after which all rules stand in their error states, or all of them: the rules that live are walked on
+/// together until none is left. Of a short text each number of bytes is tried, from 0 on, with a walk of every rule for each.
+fn reach(rules: &[Walker], text: &[u8]) -> usize {
+    let lives = |(rule, state): &(&Walker, u16)| *state != rule.error();
+    let mut live: Vec<(&Walker, u16)> = rules.iter().map(|rule| (rule, rule.start())).filter(lives).collect();
+    let mut count = 0;
+    while count < text.len() && !live.is_empty() {
+        live.iter_mut().for_each(|(rule, state)| *state = rule.step(*state, text[count]));
+        live.retain(lives);
+        count += 1;
+    }
+    if text.len() <= LITERAL {
+        let all_stand = |n: &usize| rules.iter().all(|rule| rule.walk(&text[..*n]) == rule.error());
+        assert_eq!(count, (0..text.len()).find(all_stand).unwrap_or(text.len()));
+    }
+    count
+}
+
+/// The reach of these rules at the beginning of a text.
+pub fn reach_of(rules: &[&[u8]], text: &[u8]) -> usize {
+    reach(&walkers(rules), text)
+}
+
+/// The reach at `place`, and at each place where a token ends that is cut from there on.
+pub fn reaches(book: &[u8], text: &[u8], place: usize) -> Vec<usize> {
+    let walkers = walkers(&rules(book));
+    let mut cut = Cut::from(place);
+    let mut found = vec![reach(&walkers, &text[place..])];
+    while cut.next(&walkers, text) {
+        found.push(reach(&walkers, &text[cut.rest..]));
+    }
+    found
+}
+
+/// The tokens of a turn, whose rest is the next place, the bytes that it examined, and whether it is finished or spent.
+pub struct Turn {
+    pub cut: Cut,
+    pub examined: u64,
+    pub finished: bool,
+}
+
+/// A turn of `budget` bytes from `place` on, with room for `room` records and masks.
+pub fn lex_within(book: &[u8], text: &[u8], place: u64, budget: u64, room: usize) -> Result<Turn, Refusal> {
+    read(book, Reading::Ordinary)?;
+    if text.len() > TEXT_BYTES {
+        return refuse(14, 0);
+    }
+    if place > text.len() as u64 {
+        return refuse(27, 0);
+    }
+    let turn = turn(book, text, place as usize, budget);
+    if room < turn.cut.tokens.len() {
+        return refuse(15, turn.cut.tokens.len());
+    }
+    Ok(turn)
+}
+
+fn turn(book: &[u8], text: &[u8], place: usize, budget: u64) -> Turn {
+    let walkers = walkers(&rules(book));
+    let mut turn = Turn { cut: Cut::from(place), examined: 0, finished: false };
+    loop {
+        let examined = turn.examined + reach(&walkers, &text[turn.cut.rest..]) as u64;
+        if examined > budget {
+            return turn;
+        }
+        turn.examined = examined;
+        if !turn.cut.next(&walkers, text) {
+            turn.finished = true;
+            return turn;
+        }
+    }
 }
 
 // ---- Writing

@@ -1,6 +1,6 @@
 //! A difference as small as it can be made, in hexadecimal.
 
-use crate::calls::{Answer, Call, Operation, Outcome};
+use crate::calls::{self, Answer, Call, Operation, Outcome};
 use crate::reference;
 use std::time::{Duration, Instant};
 
@@ -14,7 +14,9 @@ pub fn shrink(call: &Call, mut differs: impl FnMut(&Call) -> bool) -> Call {
     let mut best = call.clone();
     loop {
         let before = best.clone();
-        let names: Vec<&str> = best.buffers().iter().map(|(name, _)| *name).collect();
+        shrink_turn(&mut best, end, &mut differs);
+        let mut names: Vec<&str> = best.buffers().iter().map(|(name, _)| *name).collect();
+        names.retain(|name| !matches!(*name, "next" | "examined"));
         for grain in [Grain::Rules, Grain::Commands, Grain::Bytes] {
             for name in &names {
                 shrink_buffer(&mut best, name, grain, end, &mut differs);
@@ -99,6 +101,29 @@ fn shrink_tokens(best: &mut Call, end: Instant, differs: &mut impl FnMut(&Call) 
     }
 }
 
+/// Of a turn: the bytes before its place, then smaller numbers.
+fn shrink_turn(best: &mut Call, end: Instant, differs: &mut impl FnMut(&Call) -> bool) {
+    if best.operation != Operation::LexWithin {
+        return;
+    }
+    loop {
+        let Call { place, budget, .. } = *best;
+        let fewer = |n: u64| (0..64).map(move |k| n - (n >> k)).chain([n - 1]).filter(move |m| *m < n);
+        let places = fewer(place.max(1)).map(|place| Call { place, ..best.clone() });
+        let budgets = fewer(budget.max(1)).map(|budget| Call { budget, ..best.clone() });
+        let shorter = (place > 0 && !best.text.is_empty()).then(|| Call {
+            place: place - 1,
+            text: best.text[1..].to_vec(),
+            ..best.clone()
+        });
+        let mut smaller = shorter.into_iter().chain(places).chain(budgets);
+        match smaller.find(|call| (call.place, call.budget) != (place, budget) && differs(call)) {
+            Some(call) if Instant::now() <= end => *best = call,
+            _ => return,
+        }
+    }
+}
+
 fn hex(bytes: &[u8]) -> String {
     const SHOWN: usize = 512;
     let mut text: Vec<String> = bytes.iter().take(SHOWN).map(|b| format!("{b:02X}")).collect();
@@ -106,6 +131,14 @@ fn hex(bytes: &[u8]) -> String {
         text.push("…".to_string());
     }
     format!("{} bytes: {}", bytes.len(), text.join(" "))
+}
+
+/// A buffer's bytes, or the number that they are.
+fn shown(name: &str, bytes: &[u8]) -> String {
+    match name {
+        "next" | "examined" => calls::number(bytes).to_string(),
+        _ => hex(bytes),
+    }
 }
 
 pub fn reproduction(call: &Call, ours: &Result<Outcome, String>, second: &Outcome) -> String {
@@ -117,8 +150,11 @@ pub fn reproduction(call: &Call, ours: &Result<Outcome, String>, second: &Outcom
     if call.operation == Operation::Rule {
         lines.push(format!("  index {}", call.index));
     }
+    if call.operation == Operation::LexWithin {
+        lines.push(format!("  place {}, budget {}", call.place, call.budget));
+    }
     for (name, bytes) in call.buffers() {
-        lines.push(format!("  {name}, {}", hex(bytes)));
+        lines.push(format!("  {name}, {}", shown(name, bytes)));
     }
     lines.push(format!("second implementation: {}", Answer(second.answer)));
     match ours {
@@ -127,8 +163,8 @@ pub fn reproduction(call: &Call, ours: &Result<Outcome, String>, second: &Outcom
             lines.push(format!("library: {}", Answer(ours.answer)));
             for ((name, _), (a, b)) in call.buffers().iter().zip(ours.buffers.iter().zip(&second.buffers)) {
                 if a != b {
-                    lines.push(format!("  {name} after the library, {}", hex(a)));
-                    lines.push(format!("  {name} after the second, {}", hex(b)));
+                    lines.push(format!("  {name} after the library, {}", shown(name, a)));
+                    lines.push(format!("  {name} after the second, {}", shown(name, b)));
                 }
             }
         }

@@ -41,6 +41,8 @@ impl Refusal {
     pub const TEXT_TOO_LONG: u8 = 14;
 
     pub const TOO_FEW_RECORDS: u8 = 15;
+    // Lexing in turns.
+    pub const PAST_THE_TEXT: u8 = 27;
     // Printing.
     pub const TOO_MANY_TOKENS: u8 = 16;
 
@@ -104,6 +106,26 @@ impl LexAnswer {
         ensures { λ r. ⌜ r ≡ LexAnswer.Refused (record { number = number; place = place }) ⌝ }
     {
         LexAnswer::Refused(Refusal { number, place })
+    }
+}
+
+// What a turn of lexing answers: the number of its tokens, the next place, the bytes that it examined, and whether it is finished (else it
+// is spent); or a refusal.
+pub enum TurnAnswer {
+    Turned {
+        tokens: usize,
+        next: usize,
+        examined: usize,
+        finished: bool,
+    },
+    Refused(Refusal),
+}
+
+impl TurnAnswer {
+    pub fn refused(number: u8, place: usize) -> TurnAnswer
+        ensures { λ r. ⌜ r ≡ TurnAnswer.Refused (record { number = number; place = place }) ⌝ }
+    {
+        TurnAnswer::Refused(Refusal { number, place })
     }
 }
 

@@ -1,5 +1,5 @@
--- The walk of one rule over a text, and the longest prefix that it matches. Assumes nothing.
-use mathlib.Core.Path.{_≡_, refl, sym, _∙_, ap}
+-- The walk of one rule over a text: the longest prefix that it matches, and how far it goes. Assumes nothing.
+use mathlib.Core.Path.{_≡_, refl, sym, _∙_, ap, subst}
 use mathlib.Core.Bool.{Bool, true, false, _&&_}
 use mathlib.Core.List.{List, [], _∷_}
 use Prim.Native.Nat.{ℕ, zero, suc, _+_, _-_, _*_, _/_, _%_, _<_, _≤_}
@@ -7,11 +7,13 @@ use native.Mathlib.Nat.{zero-add, suc-add}
 use native.Mathlib.Omega.{arith}
 use native.Mathlib.Numerals.{add-one}
 use lib.ListN.{length, getD, take}
-use lib.Dec.{eqb}
-use borrow.Author.Tests.{leb-true, le-leb}
+use lib.Dec.{ltb, eqb}
+use borrow.Author.Count.{below-more}
+use borrow.Author.Tests.{leb-true, le-leb, ltb-true, eqb-true, eqb-false}
 use Rattle.automaton.specs.Choice.{if, any, among}
 use Rattle.automaton.specs.Rule.{Transition, Rule, covers, target, step, walk, matches, longestWithin, longest}
 use Rattle.automaton.specs.Rule.{Sound, stateCount}
+use Rattle.automaton.specs.Contracts.{wentTo, Goes, Further, stateOf}
 use Rattle.automaton.specs.Contracts.{headOf, isFinal, lowOf, highOf, coversWord, spotOf, toOf, edgeAt, firstOf, endOf}
 use Rattle.automaton.specs.Contracts.{startOf, nameAt, bodyAt, leaving, pick, Within, Chain, Finds, Spot, Table}
 use Rattle.automaton.proofs.Tests.{clash, or-false, and-true}
@@ -48,6 +50,11 @@ unfolding target
 target-stays error b [] h = refl
 target-stays error b (t ∷ ts) h = let p = or-false (eqb t.from error) _ h in rw (p .0) (target-stays error b ts (p .1))
 
+leaving-none : (s : ℕ) (ts : List Transition) → any (λ (t : Transition). eqb t.from s) ts ≡ false → leaving s ts ≡ []
+unfolding leaving
+leaving-none s [] h = refl
+leaving-none s (t ∷ ts) h = let p = or-false (eqb t.from s) _ h in rw (p .0) (leaving-none s ts (p .1))
+
 module _ (r : Rule) where
   -- one byte more
   pub walk-more : (t : List ℕ) (n s : ℕ) → n < length t → walk r s (take (suc n) t) ≡ step r (walk r s (take n t)) (getD t n 0)
@@ -70,7 +77,7 @@ module _ (r : Rule) where
   longest-no t n h = rw h
 
   module _ {m : ℕ} (sound : Sound m r) where
-    stays : (t : List ℕ) (n k : ℕ) → k + n ≤ length t → walk r r.start (take n t) ≡ r.error
+    pub stays : (t : List ℕ) (n k : ℕ) → k + n ≤ length t → walk r r.start (take n t) ≡ r.error
         → walk r r.start (take (k + n) t) ≡ r.error
     stays t n zero h e = rw zero-add e
     stays t n (suc k) h e =
@@ -87,31 +94,90 @@ module _ (r : Rule) where
         rw suc-add (sym (longest-no t (k + n) (ap (λ (x : ℕ). among x r.finals) p ∙ sound .fails)) ∙ longest-stays t n k (omega arith) e)
 
     -- so the walk may stop in the error state
-    longest-done : (t : List ℕ) (n : ℕ) → n ≤ length t → walk r r.start (take n t) ≡ r.error → longestWithin r t n ≡ longest r t
+    pub longest-done : (t : List ℕ) (n : ℕ) → n ≤ length t → walk r r.start (take n t) ≡ r.error → longestWithin r t n ≡ longest r t
     longest-done t n h e =
         let q : length t - n + n ≡ length t = omega arith in
         sym (longest-stays t n (length t - n) (omega arith) e) ∙ ap (λ (x : ℕ). longestWithin r t x) q
 
--- ---- the loop of `longest_prefix`
+-- ---- how far it goes
 
--- i bytes are read, the rule stands in the state of the spot or start p, and `best` of them are the longest that it matches
+-- it stands in its error state after one byte, or there is none
+pub goes-one : (r : Rule) (t : List ℕ) → (0 < length t → walk r r.start (take 1 t) ≡ r.error) → Goes r t 1
+goes-one r t h = record { some = omega arith; within = omega arith; going = λ k a b. absurd (omega arith); stopped = λ l. h l }
+
+-- which is not further than what was known
+pub further-one : (r : Rule) (t : List ℕ) (known : ℕ) → 0 < known → Goes r t 1 → Further r t known known
+further-one r t known l g = record { far = 1; goes = g; further = omega arith }
+
+-- ---- the loop of `walk`
+
+-- i bytes are read, the rule stands in the state of the spot or start p, and `best` of them are the longest that it matches; it has not
+-- stood in its error state before
 pub record Walk (tb : List ℕ) (k : ℕ) (r : Rule) (t : List ℕ) (p best i : ℕ) : Type 0 where
   pub within : i ≤ length t
   pub chain : Chain tb (firstOf (bodyAt tb k)) (headOf p) (leaving (walk r r.start (take i t)) r.transitions)
   pub below : headOf p < endOf (bodyAt tb k)
   pub most : best ≡ longestWithin r t i
+  pub state : 0 < i → stateOf p ≡ walk r r.start (take i t)
+  pub going : (k : ℕ) → k < i → walk r r.start (take k t) ≡ r.error → ⊥
 
 module _ {tb : List ℕ} {k : ℕ} {r : Rule} (table : Table tb k r) where
   pub walk-start : (t : List ℕ) {p : ℕ} → p ≡ startOf (bodyAt tb k) → Walk tb k r t p 0 0
   unfolding walk
   walk-start t e =
-      rw e (record { within = omega arith; chain = table .start .chain; below = table .start .below; most = longest-zero r t })
+      rw e (record {
+        within = omega arith;
+        chain = table .start .chain;
+        below = table .start .below;
+        most = longest-zero r t;
+        state = λ l. absurd (omega arith);
+        going = λ k l. absurd (omega arith);
+      })
 
   module _ {t : List ℕ} {p best i : ℕ} (w : Walk tb k r t p best i) where
     pub walk-end : length t ≤ i → best ≡ longest r t
     walk-end l =
         let q : i ≡ length t = omega (arith, w .within) in
         w .most ∙ ap (λ (x : ℕ). longestWithin r t x) q
+
+    -- something leaves the state, so it is not the error state
+    left : 0 < headOf p → walk r r.start (take i t) ≡ r.error → ⊥
+    left l e =
+        let c : Chain tb (firstOf (bodyAt tb k)) (headOf p) (leaving r.error r.transitions) =
+        subst (λ (s : ℕ). Chain tb (firstOf (bodyAt tb k)) (headOf p) (leaving s r.transitions)) e (w .chain) in
+        let z : headOf p ≡ 0 = rw (leaving-none r.error r.transitions (table .sound .stays)) at c in
+        omega arith
+
+    -- where no byte more leads elsewhere than into the error state
+    module _ (h : i < length t → walk r r.start (take (i + 1) t) ≡ r.error) where
+      one-more : (walk r r.start (take i t) ≡ r.error → ⊥) → Goes r t (i + 1)
+      one-more n = record {
+        some = omega arith;
+        within = omega (arith, w .within);
+        going = λ j a. below-more (λ x. walk r r.start (take x t) ≡ r.error → ⊥) i (w .going) n j;
+        stopped = λ l. h (omega arith);
+      }
+
+      pub walk-went : Goes r t (wentTo r.error p i)
+      walk-went = go (ltb 0 (headOf p)) refl (eqb i 0) refl (eqb (stateOf p) r.error) refl
+        where
+          go : (a : Bool) → ltb 0 (headOf p) ≡ a → (b : Bool) → eqb i 0 ≡ b → (d : Bool) → eqb (stateOf p) r.error ≡ d
+              → Goes r t (if a (i + 1) (if b 1 (if d i (i + 1))))
+          go true u b e d f = one-more (left (ltb-true 0 (headOf p) u))
+          go false u true e d f =
+              let z : i ≡ 0 = eqb-true i 0 e in
+              goes-one r t (rw z at h)
+          go false u false e true f =
+              let z : i ≡ 0 → ⊥ = eqb-false i 0 e in
+              record {
+                some = omega arith;
+                within = omega (arith, w .within);
+                going = λ j a b. w .going j b;
+                stopped = λ l. sym (w .state (omega arith)) ∙ eqb-true (stateOf p) r.error f;
+              }
+          go false u false e false f =
+              let z : i ≡ 0 → ⊥ = eqb-false i 0 e in
+              one-more (λ s. eqb-false (stateOf p) r.error f (w .state (omega arith) ∙ s))
 
     module _ (more : i < length t) where
       abbrev here : ℕ
@@ -130,6 +196,9 @@ module _ {tb : List ℕ} {k : ℕ} {r : Rule} (table : Table tb k r) where
         (f : (first : ℕ) (ts : List Transition) → Chain tb first (headOf p) ts → Finds tb first (headOf p) ts (getD t i 0) link) where
       finds : Finds tb (firstOf (bodyAt tb k)) (headOf p) (leaving (here more) r.transitions) (getD t i 0) link
       finds = f (firstOf (bodyAt tb k)) (leaving (here more) r.transitions) (w .chain)
+
+      pub walk-over : link ≡ 0 → walk r r.start (take (i + 1) t) ≡ r.error
+      walk-over z = rw add-one (leads more ∙ finds .nothing z r.error)
 
       pub walk-nothing : link ≡ 0 → best ≡ longest r t
       walk-nothing z = stop more (leads more ∙ finds .nothing z r.error)
@@ -152,7 +221,15 @@ module _ {tb : List ℕ} {k : ℕ} {r : Rule} (table : Table tb k r) where
         next = rw reached (table .body .spots link link-above link-below)
 
         onward : {best₁ : ℕ} → best₁ ≡ longestWithin r t (suc i) → Walk tb k r t (spotOf (edgeAt tb link)) best₁ (i + 1)
-        onward e = rw add-one (record { within = more; chain = next .chain; below = next .below; most = e })
+        onward e = rw add-one (record {
+          within = more;
+          chain = next .chain;
+          below = next .below;
+          most = e;
+          state = λ l. next .state;
+          going = λ j l. below-more (λ n. walk r r.start (take n t) ≡ r.error → ⊥) i (w .going) (left (omega (arith, finds .below, pos))) j
+              (omega arith);
+        })
 
         pub walk-final : isFinal (spotOf (edgeAt tb link)) ≡ true → Walk tb k r t (spotOf (edgeAt tb link)) (i + 1) (i + 1)
         walk-final e = onward (add-one i ∙ longest-yes r t i (sym (next .final) ∙ e))
@@ -167,6 +244,14 @@ module _ {tb : List ℕ} {k : ℕ} {r : Rule} (table : Table tb k r) where
       let w = walk-start t e in
       let q : Within p (leaving r.start r.transitions) = rw e (table .start .reach) in
       stop w more (leads w more ∙ pick-outside p (getD t 0 0) r.error (leaving r.start r.transitions) q h)
+
+  -- it stands in its error state behind the first byte
+  pub goes-dismissed : (t : List ℕ) {p : ℕ} → p ≡ startOf (bodyAt tb k) → coversWord p (getD t 0 0) ≡ false → Goes r t 1
+  unfolding walk
+  goes-dismissed t {p} e h =
+      let w = walk-start t e in
+      let q : Within p (leaving r.start r.transitions) = rw e (table .start .reach) in
+      goes-one r t (λ more. leads w more ∙ pick-outside p (getD t 0 0) r.error (leaving r.start r.transitions) q h)
 
   -- an empty text
   pub walk-empty : (t : List ℕ) → length t ≡ 0 → 0 ≡ longest r t

@@ -3,16 +3,16 @@ use mathlib.Core.Path.{_≡_}
 use mathlib.Core.Bool.{Bool, false, _&&_}
 use mathlib.Core.Logic.{_⊎_}
 use mathlib.Core.List.{List, [], _∷_}
-use Prim.Native.Nat.{ℕ, _+_, _-_, _*_, _/_, _%_, _<_, _≤_}
-use lib.Dec.{leb, eqb}
-use lib.ListN.{length, getD}
-use Rattle.automaton.specs.Rule.{stateCount, Transition, Rule, covers, Sound}
+use Prim.Native.Nat.{ℕ, _+_, _-_, _*_, _/_, _%_, _<_, _≤_, max}
+use lib.Dec.{leb, ltb, eqb}
+use lib.ListN.{length, getD, take}
+use Rattle.automaton.specs.Rule.{stateCount, Transition, Rule, covers, walk, Sound}
 use Rattle.automaton.specs.Choice.{if, All, among}
 
 -- ---- How one slice of words, the table, holds the rules of a book.
--- Word 0 is the number of rules. Two words for each rule follow, its name (tag, kind and the number of its start) and its body (what a walk
--- asks of its start, and where the words of its transitions lie), with room for `ruleRoom` rules; then a word for each transition, rule by
--- rule.
+-- Word 0 is the number of rules. Two words for each rule follow, its name (tag, kind and the numbers of its error state and its start) and
+-- its body (what a walk asks of its start, and where the words of its transitions lie), with room for `ruleRoom` rules; then a word for
+-- each transition, rule by rule.
 -- A spot is what is kept of a state: its number, the head of the chain of the transitions that leave it, and whether it is final.
 -- Of the start, which is not final, the head is kept, and two bytes between which all lie that these transitions cover.
 -- The word of a transition has the spot to which it leads and the next link of its chain. A link is 0 for none, else the place of a
@@ -78,11 +78,14 @@ abbrev pub coversWord : ℕ → ℕ → Bool
 coversWord e b = leb (lowOf e) b && leb b (highOf e)
 
 -- the name of a rule, and its parts
-abbrev pub nameWord : ℕ → ℕ → ℕ → ℕ
-nameWord tag kind start = tag * 16777216 + kind * 65536 + start
+abbrev pub nameWord : ℕ → ℕ → ℕ → ℕ → ℕ
+nameWord tag kind error start = tag * 1099511627776 + error * 16777216 + kind * 65536 + start
 
 abbrev pub tagOf : ℕ → ℕ
-tagOf w = w / 16777216
+tagOf w = w / 1099511627776
+
+abbrev pub errorOf : ℕ → ℕ
+errorOf w = w / 16777216 % 65536
 
 abbrev pub kindOf : ℕ → ℕ
 kindOf w = w / 65536 % 256
@@ -158,6 +161,25 @@ pub record Finds (tb : List ℕ) (first head : ℕ) (ts : List Transition) (b li
   pub below : link ≤ head
   pub to : 0 < link → (error : ℕ) → pick ts b error ≡ toOf (edgeAt tb link)
 
+-- how far a walk went that stands at the spot or start p after i bytes, where no byte more leads elsewhere than into the error state: to
+-- where it stood there first, behind its first byte at least; a state that something leaves is not the error state
+abbrev pub wentTo : ℕ → ℕ → ℕ → ℕ
+wentTo error p i = if (ltb 0 (headOf p)) (i + 1) (if (eqb i 0) 1 (if (eqb (stateOf p) error) i (i + 1)))
+
+-- After n bytes of a text, one or more, the rule stands in its error state, and after fewer, but for none, it does not; n is one more than
+-- there are where it does so after none of them.
+pub record Goes (r : Rule) (text : List ℕ) (n : ℕ) : Type 0 where
+  pub some : 0 < n
+  pub within : n ≤ length text + 1
+  pub going : (k : ℕ) → 0 < k → k < n → walk r r.start (take k text) ≡ r.error → ⊥
+  pub stopped : n ≤ length text → walk r r.start (take n text) ≡ r.error
+
+-- the further of two: what was known, and how far the rule goes
+pub record Further (r : Rule) (text : List ℕ) (known went : ℕ) : Type 0 where
+  pub far : ℕ
+  pub goes : Goes r text far
+  pub further : went ≡ max known far
+
 -- what these transitions cover lies from low to high
 abbrev pub Between : ℕ → ℕ → List Transition → Type 0
 Between low high ts = All (λ (t : Transition). (low ≤ t.low) × (t.high ≤ high)) ts
@@ -200,7 +222,7 @@ pub record Body (tb : List ℕ) (first end : ℕ) (fs : List ℕ) (ts : List Tra
 pub record Table (tb : List ℕ) (k : ℕ) (r : Rule) : Type 0 where
   pub number : k < ruleRoom
   pub room : edgeStart ≤ length tb
-  pub name : nameAt tb k ≡ nameWord r.tag r.kind r.start
+  pub name : nameAt tb k ≡ nameWord r.tag r.kind r.error r.start
   pub kind : r.kind < 256
   pub start : Opens tb (firstOf (bodyAt tb k)) (endOf (bodyAt tb k)) r.transitions r.start (startOf (bodyAt tb k))
   pub body : Body tb (firstOf (bodyAt tb k)) (endOf (bodyAt tb k)) r.finals r.transitions

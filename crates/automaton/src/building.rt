@@ -134,11 +134,11 @@ fn settle_one(table: &mut [u64], rows: &[u32], stamp: u32, i: usize)
 }
 
 // Stores the name of rule number `rule`.
-pub fn put_name(table: &mut [u64], rule: usize, tag: u16, kind: u8, start: u16)
+pub fn put_name(table: &mut [u64], rule: usize, tag: u16, kind: u8, error: u16, start: u16)
     requires { ⌜ (rule < ruleRoom) × (edgeStart ≤ length (now table)) ⌝ }
-    ensures { λ r. ⌜ now (table .exit) ≡ set (now (table .entry)) (namePlace rule) (nameWord tag kind start) ⌝ }
+    ensures { λ r. ⌜ now (table .exit) ≡ set (now (table .entry)) (namePlace rule) (nameWord tag kind error start) ⌝ }
 {
-    table[rule + 1] = (tag as u64) * 16777216 + (kind as u64) * 65536 + (start as u64);
+    table[rule + 1] = (tag as u64) * 1099511627776 + (error as u64) * 16777216 + (kind as u64) * 65536 + (start as u64);
 }
 
 // Stores the body of rule number `rule`.

@@ -7,6 +7,7 @@ pub mod words;
 
 ghost use mathlib.Core.Path.{_≡_};
 ghost use mathlib.Core.List.{List};
+ghost use lib.Dec.{eqb};
 ghost use lib.ListN.{length};
 ghost use Rattle.automaton.specs.Rule.{Rule};
 ghost use Rattle.automaton.specs.Contracts.{firstOf, endOf, startOf, bodyAt, Spot, Table, Tabled, Holds, Held, Ranks};
@@ -32,7 +33,7 @@ pub fn tag_of(table: &[u64], rule: usize) -> u64
     requires { ⌜ Tabled (now table) rule ⌝ }
     ensures { λ r. ⌜ ((m : Rule) → Table (now (table .entry)) rule m → r ≡ m .tag) ⌝ }
 {
-    table[rule + 1] / 16777216
+    table[rule + 1] / 1099511627776
 }
 
 pub fn kind_of(table: &[u64], rule: usize) -> u64
@@ -40,6 +41,23 @@ pub fn kind_of(table: &[u64], rule: usize) -> u64
     ensures { λ r. ⌜ ((m : Rule) → Table (now (table .entry)) rule m → r ≡ m .kind) ⌝ }
 {
     table[rule + 1] / 65536 % 256
+}
+
+// The number of the error state.
+pub fn error_of(table: &[u64], rule: usize) -> u64
+    requires { ⌜ Tabled (now table) rule ⌝ }
+    ensures { λ r. ⌜ ((m : Rule) → Table (now (table .entry)) rule m → r ≡ m .error) ⌝ }
+{
+    table[rule + 1] / 16777216 % 65536
+}
+
+// Whether the rule starts in its error state.
+pub fn starts_in_error(table: &[u64], rule: usize) -> bool
+    requires { ⌜ Tabled (now table) rule ⌝ }
+    ensures { λ r. ⌜ ((m : Rule) → Table (now (table .entry)) rule m → r ≡ eqb (m .start) (m .error)) ⌝ }
+{
+    let name = table[rule + 1];
+    name % 65536 == name / 16777216 % 65536
 }
 
 // What a walk asks of the start: the head of its chain and two bytes between which all lie that may come first.

@@ -89,7 +89,7 @@ module _ {first end : ℕ} {tb rows : List ℕ} {rules : List Rule} {fs : List �
     rule = length rules
 
     abbrev name : ℕ
-    name = nameWord r.tag r.kind r.start
+    name = nameWord r.tag r.kind r.error r.start
 
     abbrev body : ℕ
     body = bodyWord (startWord (headIn rows stamp r.start) bytes) first end
@@ -185,7 +185,7 @@ module _ {first end : ℕ} {tb rows : List ℕ} {rules : List Rule} {fs : List �
         })
 
     pub stored-closed : Stored end end
-        (set (set (set middle (namePlace (length rules)) (nameWord r.tag r.kind r.start))
+        (set (set (set middle (namePlace (length rules)) (nameWord r.tag r.kind r.error r.start))
         (bodyPlace (length rules)) (bodyWord (startWord (headIn rows (length rules + 1) r.start) bytes) first end)) 0 (length rules + 1))
         rows (rules ++ (r ∷ [])) [] []
     stored-closed =

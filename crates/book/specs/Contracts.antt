@@ -132,7 +132,7 @@ pub record Closes (b : Book) (rows tb tb₁ : List ℕ) : Type 0 where
   pub middle : List ℕ
   pub settles : Settles rows (b .rules + 1) (b .first) (b .edges) tb middle
   pub stored : tb₁
-      ≡ set (set (set middle (namePlace (b .rules)) (nameWord (b .tag) (b .kind) (b .start)))
+      ≡ set (set (set middle (namePlace (b .rules)) (nameWord (b .tag) (b .kind) (b .error) (b .start)))
       (bodyPlace (b .rules)) (bodyWord (startWord (headIn rows (b .rules + 1) (b .start)) bytes) (b .first) (b .edges)))
       0 (b .rules + 1)
 

@@ -47,7 +47,7 @@ fn store_rule(book: Book, table: &mut [u64], rows: &[u32])
     let head = building::head(rows, stamp, book.start as usize);
     let start = (head as u64) * 65536 + building::first_bytes(table, head);
     building::settle(table, rows, stamp, first, end);
-    building::put_name(table, rule, book.tag, book.kind, book.start);
+    building::put_name(table, rule, book.tag, book.kind, book.error, book.start);
     building::put_body(table, rule, start, first, end);
     building::put_count(table, rule + 1);
 }

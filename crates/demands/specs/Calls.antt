@@ -7,6 +7,7 @@ use lib.ListN.{length, getD, take, drop}
 use Rattle.answer.specs.declared.BookAnswer.{BookAnswer}
 use Rattle.answer.specs.declared.RuleAnswer.{RuleAnswer}
 use Rattle.answer.specs.declared.LexAnswer.{LexAnswer}
+use Rattle.answer.specs.declared.TurnAnswer.{TurnAnswer}
 use Rattle.answer.specs.declared.PrintAnswer.{PrintAnswer}
 use Rattle.automaton.specs.Choice.{All}
 use Rattle.reader.specs.Reading.{readBy, answer}
@@ -21,6 +22,7 @@ use Rattle.record.specs.declared.TokenRecord.{TokenRecord}
 use Rattle.rewriting.specs.Outcome.{rewriteOutcome}
 use Rattle.lexer.specs.Outcome.{lexOutcome}
 use Rattle.lexer.specs.Masked.{maskedOutcome}
+use Rattle.turns.specs.Outcome.{turnOutcome}
 use Rattle.printer.specs.Outcome.{printOutcome}
 use Rattle.separated.specs.Outcome.{separatedOutcome}
 
@@ -128,6 +130,13 @@ pub record MaskedCut (f : Form) (book text : List ℕ) (entry exit : Lent f) (ma
   pub answers : r ≡ (maskedOutcome book text (recordsIn f entry) (maskBytesIn f masks)) .answer
   pub leaves : recordsIn f exit ≡ (maskedOutcome book text (recordsIn f entry) (maskBytesIn f masks)) .records
   pub leaves-masks : maskBytesIn f after ≡ (maskedOutcome book text (recordsIn f entry) (maskBytesIn f masks)) .masks
+
+-- A call of a turn with a place and a budget: the records and the masks lent before and after it, and its answer (document 02, wish 1).
+-- This is what `turns::lex_within` ensures.
+pub record Turning (book text : List ℕ) (place budget : ℕ) (entry exit masks after : List ℕ) (r : TurnAnswer) : Type 0 where
+  pub answers : r ≡ (turnOutcome book text place budget entry masks) .answer
+  pub leaves : exit ≡ (turnOutcome book text place budget entry masks) .records
+  pub leaves-masks : after ≡ (turnOutcome book text place budget entry masks) .masks
 
 -- A call of the plain printer: the list, its pool, the output before and after the call, and the answer. This is what `printer::print`
 -- (bytes) and `slices::print_tokens` (slice) ensure.

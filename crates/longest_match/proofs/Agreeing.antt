@@ -14,6 +14,7 @@ use Rattle.automaton.specs.Rule.{Rule, matches, longest}
 use Rattle.automaton.specs.Contracts.{ruleAt}
 use Rattle.longest_match.specs.Steps.{prefixes, greatest}
 use Rattle.longest_match.specs.Masks.{bit, bitAt, agreeing, maskOf}
+use Rattle.longest_match.specs.Contracts.{Chooses, Agrees, Picks}
 use Rattle.longest_match.proofs.Picking.{longest-matches, longest-most, most, steps-choose}
 
 -- ---- bits
@@ -104,3 +105,16 @@ pub steps-agree : (rules : List Rule) (text : List ℕ) → 0 < greatest (prefix
     → maskOf (greatest (prefixes rules text)) (prefixes rules text) ≡ agreeing rules (take (greatest (prefixes rules text)) text)
 steps-agree rules text p =
     mask-agrees text (greatest (prefixes rules text)) p (steps-choose rules text .within) rules (most rules text)
+
+-- ---- the steps joined
+
+-- what they find in the lengths is chosen, and the mask that they give is that of the rules
+module _ {rules : List Rule} {text ns : List ℕ} {rule len mask : ℕ} (e : ns ≡ prefixes rules text) (p : Picks ns rule len mask) where
+  pub steps-chosen : Chooses rules text rule len
+  steps-chosen = rw (p .earliest, p .longest, e) (steps-choose rules text)
+
+  pub steps-agreed : Agrees rules text len mask
+  steps-agreed = let l = p .longest in record {
+    empty = p .mask-is .zero;
+    agreed = λ q. p .mask-is .those q ∙ rw (l, e) (steps-agree rules text (rw (← e, ← l) q));
+  }

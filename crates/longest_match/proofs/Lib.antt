@@ -8,5 +8,6 @@ pub mod Held
 pub mod Parts
 pub mod Lengths
 pub mod Picking
+pub mod Far
 pub mod Agreeing
 pub mod Cutting

@@ -4,10 +4,12 @@ use mathlib.Core.Logic.{inl, inr}
 use mathlib.Core.Bool.{Bool, true, false}
 use mathlib.Core.Option.{none, some}
 use mathlib.Core.List.{List, [], _∷_}
-use Prim.Native.Nat.{ℕ, zero, suc, _<_, _≤_}
+use Prim.Native.Nat.{ℕ, zero, suc, _+_, _<_, _≤_}
 use native.Mathlib.Nat.{le-suc-iff}
 use native.Mathlib.Omega.{arith}
-use lib.ListN.{length, getD, take, length-map, List·getD-map}
+use lib.ListN.{length, getD, set, take, length-map, List·getD-map}
+use lib.Seq.{getD-set-same, getD-set-other, ext-getD}
+use borrow.Author.Count.{below-more}
 use Rattle.automaton.specs.Choice.{if}
 use Rattle.automaton.specs.Rule.{Rule, matches, longestWithin, longest}
 use Rattle.automaton.specs.Contracts.{blank, ruleAt}
@@ -79,6 +81,24 @@ module _ (text : List ℕ) where
   prefixes-at (r ∷ rs) zero l = refl
   prefixes-at (r ∷ rs) (suc k) l = prefixes-at rs k (omega arith)
 
+-- the lengths of the first n rules are filled in
+pub record Prefixed (rules : List Rule) (text lengths : List ℕ) (n : ℕ) : Type 0 where
+  pub each : (j : ℕ) → j < n → getD lengths j 0 ≡ longest (ruleAt rules j) text
+
+pub prefixed-none : (rules : List Rule) (text lengths : List ℕ) → Prefixed rules text lengths 0
+prefixed-none rules text lengths = record { each = λ j l. absurd (omega arith) }
+
+module _ {rules : List Rule} {text lengths : List ℕ} {n : ℕ} (p : Prefixed rules text lengths n) where
+  pub prefixed-next : {len : ℕ} → n < length lengths → len ≡ longest (ruleAt rules n) text → Prefixed rules text (set lengths n len) (n + 1)
+  prefixed-next {len} l e = record {
+    each = below-more (λ j. getD (set lengths n len) j 0 ≡ longest (ruleAt rules j) text) n
+        (λ j q. getD-set-other lengths n j len 0 (λ z. omega arith) ∙ p .each j q) (getD-set-same lengths n len 0 l ∙ e);
+  }
+
+  pub prefixed-all : length lengths ≡ length rules → length lengths ≤ n → lengths ≡ prefixes rules text
+  prefixed-all many l = ext-getD 0 lengths (prefixes rules text) (many ∙ sym (prefixes-length text rules))
+      (λ i q. p .each i (omega arith) ∙ sym (prefixes-at text rules i (omega arith)))
+
 module _ (rules : List Rule) (text : List ℕ) where
   -- what the second and the third step find
   abbrev len : ℕ
@@ -104,7 +124,7 @@ module _ (rules : List Rule) (text : List ℕ) where
   matched p =
       let e : longest (ruleAt rules rule) text ≡ len = sym (prefixes-at text rules rule (known p)) ∙ here p .here in
       subst (λ (n : ℕ). matches (ruleAt rules rule) (take n text) ≡ true) e
-          (longest-matches (ruleAt rules rule) text (length text) (rw e p))
+      (longest-matches (ruleAt rules rule) text (length text) (rw e p))
 
   no-longer : (m : ℕ) → len < m → m ≤ length text → firstMatch rules (take m text) ≡ none
   no-longer m p l = first-none rules (take m text) (λ j q. longest-most (ruleAt rules j) text (length text) m (omega (arith, most j q)) l)

@@ -3,11 +3,12 @@ use mathlib.Core.Path.{_≡_}
 use mathlib.Core.Bool.{true, false}
 use mathlib.Core.Option.{none, some}
 use mathlib.Core.List.{List}
-use Prim.Native.Nat.{ℕ, _-_, _<_, _≤_}
+use Prim.Native.Nat.{ℕ, _+_, _-_, _<_, _≤_}
 use lib.ListN.{length, take, drop}
-use Rattle.automaton.specs.Rule.{Rule, matches}
+use Rattle.automaton.specs.Rule.{Rule, walk, matches}
 use Rattle.automaton.specs.Contracts.{ruleAt}
 use Rattle.longest_match.specs.Lexer.{Found, choose, lex}
+use Rattle.longest_match.specs.Steps.{prefixes, greatest, firstWith}
 use Rattle.longest_match.specs.Masks.{agreeing, maskOf}
 
 -- ---- What the code answers, said of the rules that a table holds.
@@ -40,6 +41,29 @@ pub record Agrees (rules : List Rule) (text : List ℕ) (len mask : ℕ) : Type 
 pub record MaskOf (lengths : List ℕ) (n mask : ℕ) : Type 0 where
   pub zero : n ≡ 0 → mask ≡ 0
   pub those : 0 < n → mask ≡ maskOf n lengths
+
+-- What steps 2 and 3 find in the lengths of the prefixes; all 0 where none is more than 0.
+pub record Picks (lengths : List ℕ) (rule len mask : ℕ) : Type 0 where
+  pub longest : len ≡ greatest lengths
+  pub earliest : rule ≡ firstWith len lengths
+  pub mask-is : MaskOf lengths len mask
+
+-- whether a rule stands in its error state after so many bytes of a text
+abbrev pub Stopped : Rule → List ℕ → ℕ → Type 0
+Stopped r text k = walk r r.start (take k text) ≡ r.error
+
+-- After n bytes of a text, one or more, each of the first `count` rules stands in its error state, and after more too; after fewer, but for
+-- none, one of them does not. n is one more than there are where that is never so.
+pub record GoFar (rules : List Rule) (count : ℕ) (text : List ℕ) (n : ℕ) : Type 0 where
+  pub some : 0 < n
+  pub within : n ≤ length text + 1
+  pub going : (k : ℕ) → 0 < k → k < n → (j : ℕ) × (j < count) × (Stopped (ruleAt rules j) text k → ⊥)
+  pub stopped : (k : ℕ) → n ≤ k → k ≤ length text → (j : ℕ) → j < count → Stopped (ruleAt rules j) text k
+
+-- the walks of the rules over a text: the lengths of their longest prefixes stand at the front of those, and they go so far
+pub record Walks (rules : List Rule) (text lengths : List ℕ) (n : ℕ) : Type 0 where
+  pub front-is : take (length rules) lengths ≡ prefixes rules text
+  pub far : GoFar rules (length rules) text n
 
 -- the number of tokens and the place of the rest
 pub record Cuts (rules : List Rule) (text : List ℕ) (tokens rest : ℕ) : Type 0 where

@@ -5,10 +5,10 @@ pub mod steps;
 ghost use mathlib.Core.Path.{_≡_};
 ghost use mathlib.Core.List.{List};
 ghost use Prim.Native.Nat.{ℕ, _≤_};
-ghost use lib.ListN.{length};
+ghost use lib.ListN.{length, take};
 ghost use Rattle.automaton.specs.Rule.{Rule};
 ghost use Rattle.automaton.specs.Contracts.{ruleRoom, Holds, Held};
-ghost use Rattle.longest_match.specs.Contracts.{part, Chooses, Agrees, Cuts};
+ghost use Rattle.longest_match.specs.Contracts.{part, Chooses, Agrees, Picks, Walks, Cuts};
 
 // What is chosen at the start of a text: the number of the rule, how many bytes it takes, and the mask of all rules that match just these
 // bytes, bit k for rule number k; all 0 for no rule.
@@ -58,6 +58,53 @@ fn choose_of(table: &[u64], text: &[u8], lengths: &mut [usize]) -> Choice
 {
     let rules = automaton::count_of(table);
     crate::steps::choose_by_steps(table, text, &mut lengths[..rules])
+}
+
+// The walks of all rules over the bytes of `text` from `from` to `to`, for a caller that asks how far they go before it chooses: after how
+// many bytes, one at least, all rules stand in their error states; one more than there are where that is never so. The lengths of their
+// longest prefixes stand at the front of `lengths`.
+pub fn walk_with(
+    table: &[u64],
+    text: &[u8],
+    from: usize,
+    to: usize,
+    lengths: &mut [usize; automaton::RULES],
+) -> usize
+    requires { ⌜ Held (now table) ⌝ }
+    requires { ⌜ (from ≤ to) × (to ≤ length (now text)) ⌝ }
+    ensures { λ r. ⌜ ((rs : List Rule) (t : List ℕ) → Holds (now (table .entry)) rs
+        → part (now (text .entry)) from to ≡ t → Walks rs t (now (lengths .exit)) r) ⌝ }
+{
+    walk_of(table, &text[from..to], lengths)
+}
+
+// The same of a whole text.
+fn walk_of(table: &[u64], text: &[u8], lengths: &mut [usize]) -> usize
+    requires { ⌜ Held (now table) ⌝ }
+    requires { ⌜ ruleRoom ≤ length (now lengths) ⌝ }
+    ensures { λ r. ⌜ ((rs : List Rule) → Holds (now (table .entry)) rs → Walks rs (now (text .entry)) (now (lengths .exit)) r) ⌝ }
+{
+    let rules = automaton::count_of(table);
+    crate::steps::walk_rules(table, text, &mut lengths[..rules])
+}
+
+// What is chosen where the lengths of the rules' longest prefixes stand at the front of `lengths`.
+pub fn choose_walked(table: &[u64], lengths: &[usize; automaton::RULES]) -> Choice
+    requires { ⌜ Held (now table) ⌝ }
+    ensures { λ r. ⌜ ((rs : List Rule) → Holds (now (table .entry)) rs
+        → Picks (take (length rs) (now (lengths .entry))) (r .rule) (r .len) (r .mask)) ⌝ }
+{
+    choose_among(table, lengths)
+}
+
+fn choose_among(table: &[u64], lengths: &[usize]) -> Choice
+    requires { ⌜ Held (now table) ⌝ }
+    requires { ⌜ ruleRoom ≤ length (now lengths) ⌝ }
+    ensures { λ r. ⌜ ((rs : List Rule) → Holds (now (table .entry)) rs
+        → Picks (take (length rs) (now (lengths .entry))) (r .rule) (r .len) (r .mask)) ⌝ }
+{
+    let rules = automaton::count_of(table);
+    crate::steps::choose_from(&lengths[..rules])
 }
 
 // A cut of a text: how many tokens it has, and the place of the rest.

@@ -90,7 +90,7 @@ lexed-cut book text room n place e = go (readBook book) refl e
         let r : length ((lex rules text) .tokens) ≤ recordCount room = ltb-false _ _ (t .1) in
         let o = cut-accepts book text room rules q s r in
         let a : lexed.Lexed n place ≡ lexed.Lexed (length ((lex rules text) .tokens)) (length text - length ((lex rules text) .rest)) =
-            sym e ∙ ap (λ (x : LexOutcome). x.answer) o in
+        sym e ∙ ap (λ (x : LexOutcome). x.answer) o in
         record { rules = rules; reads = q; short = s; enough = r; count = cc; place-is = cc; outcome = o }
 
 -- the records that an accepted cut stores
@@ -104,11 +104,12 @@ stored-records {book} {text} {room} {n} {place} c =
 -- ---- the tokens of a cut
 
 pub cut-storable : (rules : List Rule) (text : List ℕ) → Valid rules → length text ≤ maxText
-    → Storable ((lex rules text) .tokens) ((lex rules text) .rest) text
+    → Storable ((lex rules text) .tokens) 0 ((lex rules text) .rest) text
 cut-storable rules text v s =
     record {
       tags = lex-tags (λ (x : ℕ). x < 65536) rules (all-map ValidRule _ (λ r h. h .tag-below) rules (v .rules-valid .each)) text;
       short = s;
+      inside = omega arith;
       joins = joins rules text;
     }
 
@@ -123,8 +124,8 @@ module _ (book : List ℕ) (bytes : All (λ (b : ℕ). b < 256) book) where
       → tokensOf (take (10 * n) ((lexOutcome book text room) .records)) text ≡ (lex rules text) .tokens
   stored-say {text} {room} c rules e =
       let q : c .rules ≡ rules = same-rules book (c .reads) e in
-      rw (stored-records c, q) (records-say ((lex rules text) .tokens) ((lex rules text) .rest) text
-          (cut-storable rules text (valid e) (c .short)))
+      rw (stored-records c, q) (records-say ((lex rules text) .tokens) 0 ((lex rules text) .rest) text
+      (cut-storable rules text (valid e) (c .short)))
 
   -- two accepted lists are equal exactly when the bytes written are
   pub equal-lists : (records pool out : List ℕ) (n : ℕ) (records₁ pool₁ out₁ : List ℕ) (n₁ : ℕ)
@@ -146,7 +147,7 @@ module _ (book : List ℕ) (bytes : All (λ (b : ℕ). b < 256) book) where
   pub accepts-printable : (rules : List Rule) → readBook book ≡ accepted rules → (records pool out : List ℕ)
       → recordCount records ≤ maxTokens
       → All (InPool pool) (recordsOf records) → length (join (tokensOf records pool)) ≤ maxText
-          → length (join (tokensOf records pool)) ≤ length out
+      → length (join (tokensOf records pool)) ≤ length out
       → ((n : ℕ) × ((printOutcome book records pool out) .answer ≡ print.Printed n)) ↔ Printable rules (tokensOf records pool)
   accepts-printable rules e records pool out few inside short room = (
     λ q. let a = printed-accepts book records pool out (q .0) (q .1) in rw (same-rules book e (a .reads)) (passes-printable (a .passes)),
@@ -178,7 +179,7 @@ module _ (book : List ℕ) (bytes : All (λ (b : ℕ). b < 256) book) where
       let x : lex (a .rules) text ≡ record { tokens = tokensOf records pool; rest = [] } = rw j (output-lexes records pool out n a) in
       let s : length text ≤ maxText = rw j (a .passes .short) in
       let o : lexOutcome book text room ≡ lexAccepted (lex (a .rules) text) text room = cut-accepts book text room (a .rules) (a .reads)
-          s (rw x enough) in
+      s (rw x enough) in
       let y : (lexOutcome book text room) .answer ≡ lexed.Lexed (length (tokensOf records pool)) (length text - 0) = rw (o, x) in
       let z : length text - 0 ≡ length text = omega arith in
       let w : (lexOutcome book text room) .answer ≡ lexed.Lexed (length (tokensOf records pool)) (length text) = rw z at y in
@@ -195,18 +196,18 @@ module _ (book : List ℕ) (bytes : All (λ (b : ℕ). b < 256) book) where
     cut-joins = rw (no-rest, append-nil) at (joins rules text)
 
     cut-says : tokensOf (recordsAt 0 ((lex rules text) .tokens)) text ≡ (lex rules text) .tokens
-    cut-says = records-say ((lex rules text) .tokens) ((lex rules text) .rest) text (cut-storable rules text (valid reads) short)
+    cut-says = records-say ((lex rules text) .tokens) 0 ((lex rules text) .rest) text (cut-storable rules text (valid reads) short)
 
     cut-passes : (out : List ℕ) → length text ≤ length out → Passes rules (recordsAt 0 ((lex rules text) .tokens)) text out
     cut-passes out l =
         let s = cut-storable rules text (valid reads) short in
         let p : Printable rules (tokensOf (recordsAt 0 ((lex rules text) .tokens)) text) = rw cut-says
-            (lexed-printable rules text no-rest) in
+        (lexed-printable rules text no-rest) in
         record {
-          few = rw (records-count ((lex rules text) .tokens) ((lex rules text) .rest) text s) (omega (arith, lex-few rules text));
+          few = rw (records-count ((lex rules text) .tokens) 0 ((lex rules text) .rest) text s) (omega (arith, lex-few rules text));
           faultless = printable-faultless rules text (recordsOf (recordsAt 0 ((lex rules text) .tokens))) 0
               (valid reads .rules-valid .distinct)
-              (records-inside ((lex rules text) .tokens) ((lex rules text) .rest) text s) p;
+              (records-inside ((lex rules text) .tokens) 0 ((lex rules text) .rest) text s) p;
           short = rw (cut-says, cut-joins) short;
           apart = printable-apart rules (tokensOf (recordsAt 0 ((lex rules text) .tokens)) text) 0 p;
           room = rw (cut-says, cut-joins) l;
@@ -226,5 +227,5 @@ module _ (book : List ℕ) (bytes : All (λ (b : ℕ). b < 256) book) where
       let c = lexed-cut book text room n (length text) e in
       let o = cut-outcome (c .rules) (c .reads) text (c .short) (whole (c .rules) text (c .place-is)) out l in
       let q : printOutcome book (take (10 * n) ((lexOutcome book text room) .records)) text out
-          ≡ printAccepted text out = rw (stored-records c) o in
+      ≡ printAccepted text out = rw (stored-records c) o in
       (ap (λ (x : PrintOutcome). x.answer) q, rw q (take-append-seam text (drop (length text) out)))

@@ -11,6 +11,7 @@ use Rattle.answer.specs.declared.Refusal.{Refusal}
 use Rattle.answer.specs.declared.BookAnswer.{BookAnswer}
 use Rattle.answer.specs.declared.RuleAnswer.{RuleAnswer}
 use Rattle.answer.specs.declared.LexAnswer.{LexAnswer}
+use Rattle.answer.specs.declared.TurnAnswer.{TurnAnswer}
 use Rattle.answer.specs.declared.PrintAnswer.{PrintAnswer}
 use Rattle.automaton.specs.Choice.{among}
 use Rattle.automaton.proofs.Tests.{clash}
@@ -19,20 +20,23 @@ use Rattle.reader.specs.Reading.{readBook, readStrict, answer}
 use Rattle.reader.specs.Rules.{ruleOutcome}
 use Rattle.rewriting.specs.Outcome.{rewriteOutcome}
 use Rattle.lexer.specs.Masked.{maskedOutcome}
+use Rattle.turns.specs.Outcome.{turnOutcome}
 use Rattle.printer.specs.Outcome.{printOutcome}
 use Rattle.separated.specs.Outcome.{separatedOutcome}
 use Rattle.zagvulem.specs.Words.{largestPlace, largestValue, refusalWord, acceptedWord, bookWord, ruleWord, lexWord, printWord}
+use Rattle.zagvulem.specs.Words.{turnWord, nextAfter, examinedAfter, turnAnswerIn}
 use Rattle.zagvulem.specs.Words.{numberIn, placeIn, firstIn, secondIn, refusalIn}
 use Rattle.zagvulem.specs.Words.{bookAnswerIn, ruleAnswerIn, lexAnswerIn, printAnswerIn}
 use Rattle.zagvulem.specs.Numbers.{bookNumbers, strictNumbers, rewriteNumbers, printNumbers, separatedNumbers, Refused}
 use Rattle.zagvulem.specs.Kept.{BookWordKept, RewriteWordKept, RuleWordKept, LexWordKept}
-use Rattle.zagvulem.specs.Kept.{PrintWordKept, SeparatedWordKept}
-use Rattle.zagvulem.proofs.Refused.{BookWithin, RuleWithin, TagAndKind, LexWithin, PrintWithin, farthest}
+use Rattle.zagvulem.specs.Kept.{TurnWordKept, PrintWordKept, SeparatedWordKept}
+use Rattle.zagvulem.proofs.Refused.{BookWithin, RuleWithin, TagAndKind, LexWithin, TurnWithin, PrintWithin, farthest}
 use Rattle.zagvulem.proofs.Refused.{book-within, strict-within, rewrite-within, rule-within, masked-within}
-use Rattle.zagvulem.proofs.Refused.{print-within, separated-within}
+use Rattle.zagvulem.proofs.Refused.{turn-within, print-within, separated-within}
 use Rattle.answer.specs.declared.BookAnswer.the-variants as books
 use Rattle.answer.specs.declared.RuleAnswer.the-variants as ruled
 use Rattle.answer.specs.declared.LexAnswer.the-variants as lexes
+use Rattle.answer.specs.declared.TurnAnswer.the-variants as turned
 use Rattle.answer.specs.declared.PrintAnswer.the-variants as prints
 
 -- ---- words
@@ -85,6 +89,20 @@ lex-kept (lexes.Lexed tokens rest) (l, m) = rw (
 )
 lex-kept (lexes.Refused f) w = rw (refused-some w (omega arith) refl, refusal-kept w (omega arith))
 
+turn-kept : (a : TurnAnswer) (next examined : ℕ) → TurnWithin a
+    → turnAnswerIn (turnWord a) (nextAfter a next) (examinedAfter a examined) ≡ a
+turn-kept (turned.Turned tokens place bytes true) next examined (l, m) = rw (
+  accepted-number tokens 1 (omega arith) (omega arith),
+  accepted-first tokens 1 (omega arith) (omega arith),
+  accepted-second tokens 1 (omega arith) (omega arith),
+)
+turn-kept (turned.Turned tokens place bytes false) next examined (l, m) = rw (
+  accepted-number tokens 0 (omega arith) (omega arith),
+  accepted-first tokens 0 (omega arith) (omega arith),
+  accepted-second tokens 0 (omega arith) (omega arith),
+)
+turn-kept (turned.Refused f) next examined w = rw (refused-some w (omega arith) refl, refusal-kept w (omega arith))
+
 print-kept : (numbers : List ℕ) (most : ℕ) → among 0 numbers ≡ false → most ≤ largestPlace → (a : PrintAnswer)
     → PrintWithin numbers most a → printAnswerIn (printWord a) ≡ a
 print-kept numbers most e l (prints.Printed n) w =
@@ -107,6 +125,11 @@ rule-word-kept book bytes index = rule-kept (ruleOutcome book index) (rule-withi
 pub lex-word-kept : LexWordKept
 lex-word-kept book text records masks =
     lex-kept ((maskedOutcome book text records masks) .answer) (masked-within book text records masks)
+
+pub turn-word-kept : TurnWordKept
+turn-word-kept book text place budget records masks next examined =
+    turn-kept ((turnOutcome book text place budget records masks) .answer) next examined
+    (turn-within book text place budget records masks)
 
 pub print-word-kept : PrintWordKept
 print-word-kept book records pool out =

@@ -8,12 +8,13 @@ use Prim.Native.Nat.{ℕ, zero, suc, _+_, _<_, _≤_, max}
 use native.Mathlib.Nat.{le-max-left, le-max-right}
 use native.Mathlib.Omega.{arith}
 use lib.Dec.{leb, ltb, eqb}
-use lib.ListN.{length, length-append}
+use lib.ListN.{length, drop, length-append, length-drop}
 use borrow.Author.Tests.{leb-false, ltb-true, ltb-false, eqb-true}
 use Rattle.answer.specs.declared.Refusal.{Refusal}
 use Rattle.answer.specs.declared.BookAnswer.{BookAnswer}
 use Rattle.answer.specs.declared.RuleAnswer.{RuleAnswer}
 use Rattle.answer.specs.declared.LexAnswer.{LexAnswer}
+use Rattle.answer.specs.declared.TurnAnswer.{TurnAnswer}
 use Rattle.answer.specs.declared.PrintAnswer.{PrintAnswer}
 use Rattle.automaton.specs.Choice.{if, All, any, among}
 use Rattle.automaton.specs.Rule.{Transition, Rule, overlaps}
@@ -40,6 +41,9 @@ use Rattle.record.specs.Tokens.{recordsFrom, recordsOf, bytesIn, tokensIn, toke
 use Rattle.lexer.specs.Outcome.{lexRefused, lexAccepted, lexRules, lexReading, lexOutcome}
 use Rattle.lexer.specs.Masked.{maskedOutcome}
 use Rattle.lexer.proofs.Masking.{masked-refused, masked-lexed}
+use Rattle.turns.specs.Turn.{turn}
+use Rattle.turns.specs.Outcome.{roomIn, turnRefused, turnAccepted, turnRules, turnReading, turnOutcome}
+use Rattle.turns.proofs.Turning.{turn-short}
 use Rattle.token_list.specs.Faults.{aloneIn, faultOf}
 use Rattle.token_list.specs.Checks.{refuse, refuseBy, firstFault, firstExtended}
 use Rattle.output.specs.Outcome.{PrintOutcome, refusedIf, unless, written, writtenUpTo}
@@ -50,11 +54,12 @@ use Rattle.used_bytes.specs.Bytes.{lowestFrom, shared, sharedByte}
 use Rattle.spacing.specs.Separators.{spelled}
 use Rattle.separated.specs.Refusals.{orElse, separatorFault, plainFault, sharing, listRefusal, separatedRefusal}
 use Rattle.separated.specs.Outcome.{separatedRules, separatedReading, separatedOutcome}
-use Rattle.zagvulem.specs.Numbers.{bookNumbers, strictNumbers, rewriteNumbers, ruleNumbers, lexNumbers}
+use Rattle.zagvulem.specs.Numbers.{bookNumbers, strictNumbers, rewriteNumbers, ruleNumbers, lexNumbers, turnNumbers}
 use Rattle.zagvulem.specs.Numbers.{printNumbers, separatedNumbers, Refused}
 use Rattle.answer.specs.declared.BookAnswer.the-variants as books
 use Rattle.answer.specs.declared.RuleAnswer.the-variants as ruled
 use Rattle.answer.specs.declared.LexAnswer.the-variants as lexes
+use Rattle.answer.specs.declared.TurnAnswer.the-variants as turned
 use Rattle.answer.specs.declared.PrintAnswer.the-variants as prints
 use Rattle.command.specs.declared.Decoded.the-variants as decoded
 
@@ -71,6 +76,10 @@ RuleWithin P (ruled.Refused f) = Refused ruleNumbers maxBytes f
 abbrev pub LexWithin : LexAnswer → Type 0
 LexWithin (lexes.Lexed tokens rest) = (tokens ≤ maxText) × (rest ≤ maxText)
 LexWithin (lexes.Refused f) = Refused lexNumbers maxText f
+
+abbrev pub TurnWithin : TurnAnswer → Type 0
+TurnWithin (turned.Turned tokens next examined finished) = (tokens ≤ maxText) × (next ≤ maxText)
+TurnWithin (turned.Refused f) = Refused turnNumbers maxText f
 
 abbrev pub PrintWithin : List ℕ → ℕ → PrintAnswer → Type 0
 PrintWithin numbers most (prints.Printed bytes) = bytes ≤ maxText
@@ -320,6 +329,34 @@ masked-within book text records masks = go ((maskedOutcome book text records mas
       | inr w ↦ rw (w .4) (by 15 (w .0) refl (lex-accepted book text records (w .0) (w .1) (w .2) .0))
     ]
 
+-- ---- cutting in turns
+
+module _ (book text : List ℕ) (place budget : ℕ) (records masks : List ℕ) where
+  pub turn-within : TurnWithin ((turnOutcome book text place budget records masks) .answer)
+  unfolding turnOutcome turnRules
+  turn-within = go (readBook book) (book-read book)
+    where
+      by-rules : (rules : List Rule) (long : Bool) → ltb maxText (length text) ≡ long → (past few : Bool)
+          → TurnWithin ((if long (turnRefused 14 0 records masks) (if past (turnRefused 27 0 records masks)
+          (if few (turnRefused 15 (length ((turn rules (drop place text) budget) .tokens)) records masks)
+          (turnAccepted rules (turn rules (drop place text) budget) text place records masks)))) .answer)
+      by-rules rules true e past few = by 14 0 refl (omega arith)
+      by-rules rules false e true few = by 27 0 refl (omega arith)
+      by-rules rules false e false true =
+          by 15 _ refl (omega (arith, simp length-drop at (turn-short rules (drop place text) budget), ltb-false maxText (length text) e))
+      by-rules rules false e false false =
+          let l : length text ≤ maxText = ltb-false maxText (length text) e in
+          (omega (arith, simp length-drop at (turn-short rules (drop place text) budget)), omega arith)
+
+      go : (r : Reading) → ReadWithin maxBytes r → TurnWithin ((turnReading r text place budget records masks) .answer)
+      go (accepted rules) w = by-rules rules (ltb maxText (length text)) refl (ltb (length text) place)
+          (ltb (roomIn records masks) (length ((turn rules (drop place text) budget) .tokens)))
+      go (refused number at) w = of-book (14 ∷ 27 ∷ 15 ∷ []) (omega arith) w
+
+  pub turn-refused : (f : Refusal) → (turnOutcome book text place budget records masks) .answer ≡ turned.Refused f
+      → Refused turnNumbers maxText f
+  turn-refused f e = subst TurnWithin e turn-within
+
 -- ---- lists of tokens
 
 length-from : (records : List ℕ) (k n : ℕ) → length (recordsFrom records k n) ≡ n
@@ -524,7 +561,7 @@ separated-within book sep mode records pool out = go (readBook book) (book-read 
         unless-within separatedNumbers most (separatedRefusal rules sep mode records pool) out _
         (before (sharing (sharedByte rules)) _ (shared-within most (omega (arith, limit)) rules) (list rules))
         (up-to-within separatedNumbers most maxText 20 refl refl (omega (arith, limit)) (omega arith)
-            (spelled rules sep mode records pool) out)
+        (spelled rules sep mode records pool) out)
     go (refused number place) w = of-book (23 ∷ 24 ∷ 17 ∷ 18 ∷ 19 ∷ 25 ∷ 16 ∷ 26 ∷ 20 ∷ 22 ∷ []) (omega (arith, limit)) w
 
 pub separated-refused : (book : List ℕ) (sep : TokenRecord) (mode : ℕ) (records pool out : List ℕ) (f : Refusal)

@@ -10,10 +10,11 @@ use Rattle.record.specs.Records.{recordCount}
 use Rattle.record.specs.declared.TokenRecord.{TokenRecord}
 use Rattle.rewriting.specs.Outcome.{rewriteOutcome}
 use Rattle.lexer.specs.Masked.{maskedOutcome}
+use Rattle.turns.specs.Outcome.{turnOutcome}
 use Rattle.printer.specs.Outcome.{printOutcome}
 use Rattle.separated.specs.Outcome.{separatedOutcome}
-use Rattle.zagvulem.specs.Words.{largestPlace, bookWord, ruleWord, lexWord, printWord}
-use Rattle.zagvulem.specs.Words.{bookAnswerIn, ruleAnswerIn, lexAnswerIn, printAnswerIn}
+use Rattle.zagvulem.specs.Words.{largestPlace, bookWord, ruleWord, lexWord, turnWord, nextAfter, examinedAfter, printWord}
+use Rattle.zagvulem.specs.Words.{bookAnswerIn, ruleAnswerIn, lexAnswerIn, turnAnswerIn, printAnswerIn}
 
 -- zgv_read_book, and zgv_read_book_strict, which is strict
 abbrev pub BookWordKept : Type 0
@@ -35,6 +36,15 @@ abbrev pub LexWordKept : Type 0
 LexWordKept =
     (book text records masks : List ℕ)
     → lexAnswerIn (lexWord ((maskedOutcome book text records masks) .answer)) ≡ (maskedOutcome book text records masks) .answer
+
+-- zgv_lex_within, with the numbers that it leaves beside the word, whatever stood there before
+abbrev pub TurnWordKept : Type 0
+TurnWordKept =
+    (book text : List ℕ) (place budget : ℕ) (records masks : List ℕ) (next examined : ℕ)
+    → turnAnswerIn (turnWord ((turnOutcome book text place budget records masks) .answer))
+    (nextAfter ((turnOutcome book text place budget records masks) .answer) next)
+    (examinedAfter ((turnOutcome book text place budget records masks) .answer) examined)
+    ≡ (turnOutcome book text place budget records masks) .answer
 
 -- zgv_print
 abbrev pub PrintWordKept : Type 0

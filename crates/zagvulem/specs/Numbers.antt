@@ -26,6 +26,10 @@ ruleNumbers = bookNumbers ++ (18 ∷ [])
 abbrev pub lexNumbers : List ℕ
 lexNumbers = bookNumbers ++ (14 ∷ 15 ∷ [])
 
+-- cutting in turns (document 02, wish 1)
+abbrev pub turnNumbers : List ℕ
+turnNumbers = bookNumbers ++ (14 ∷ 27 ∷ 15 ∷ [])
+
 -- plain writing
 abbrev pub printNumbers : List ℕ
 printNumbers = bookNumbers ++ (16 ∷ 17 ∷ 18 ∷ 19 ∷ 20 ∷ 21 ∷ 22 ∷ [])

@@ -7,11 +7,14 @@ use Rattle.answer.specs.declared.Refusal.{Refusal}
 use Rattle.answer.specs.declared.BookAnswer.{BookAnswer}
 use Rattle.answer.specs.declared.RuleAnswer.{RuleAnswer}
 use Rattle.answer.specs.declared.LexAnswer.{LexAnswer}
+use Rattle.answer.specs.declared.TurnAnswer.{TurnAnswer}
 use Rattle.answer.specs.declared.PrintAnswer.{PrintAnswer}
 use Rattle.automaton.specs.Choice.{if}
+use Rattle.longest_match.specs.Masks.{bit}
 use Rattle.answer.specs.declared.BookAnswer.the-variants as book
 use Rattle.answer.specs.declared.RuleAnswer.the-variants as rule
 use Rattle.answer.specs.declared.LexAnswer.the-variants as lexer
+use Rattle.answer.specs.declared.TurnAnswer.the-variants as turn
 use Rattle.answer.specs.declared.PrintAnswer.the-variants as printer
 
 -- ---- An answer's word.
@@ -43,6 +46,20 @@ abbrev pub lexWord : LexAnswer → ℕ
 lexWord (lexer.Lexed tokens rest) = acceptedWord tokens rest
 lexWord (lexer.Refused f) = refusalWord f
 
+-- token count, 1 where the turn is finished and 0 where it is spent; the next place and the bytes examined go into two numbers that are
+-- lent, which a refusal leaves as they were
+abbrev pub turnWord : TurnAnswer → ℕ
+turnWord (turn.Turned tokens next examined finished) = acceptedWord tokens (bit finished)
+turnWord (turn.Refused f) = refusalWord f
+
+abbrev pub nextAfter : TurnAnswer → ℕ → ℕ
+nextAfter (turn.Turned tokens next examined finished) before = next
+nextAfter (turn.Refused f) before = before
+
+abbrev pub examinedAfter : TurnAnswer → ℕ → ℕ
+examinedAfter (turn.Turned tokens next examined finished) before = examined
+examinedAfter (turn.Refused f) before = before
+
 -- byte count, 0
 abbrev pub printWord : PrintAnswer → ℕ
 printWord (printer.Printed bytes) = acceptedWord bytes 0
@@ -73,6 +90,11 @@ ruleAnswerIn w = if (eqb (numberIn w) 0) (rule.Rule (firstIn w) (secondIn w)) (r
 
 abbrev pub lexAnswerIn : ℕ → LexAnswer
 lexAnswerIn w = if (eqb (numberIn w) 0) (lexer.Lexed (firstIn w) (secondIn w)) (lexer.Refused (refusalIn w))
+
+-- with the two numbers beside it
+abbrev pub turnAnswerIn : ℕ → ℕ → ℕ → TurnAnswer
+turnAnswerIn w next examined =
+    if (eqb (numberIn w) 0) (turn.Turned (firstIn w) next examined (eqb (secondIn w) 1)) (turn.Refused (refusalIn w))
 
 abbrev pub printAnswerIn : ℕ → PrintAnswer
 printAnswerIn w = if (eqb (numberIn w) 0) (printer.Printed (firstIn w)) (printer.Refused (refusalIn w))

@@ -9,10 +9,11 @@ ghost use Rattle.reader.specs.Reading.{readBook, readStrict, answer};
 ghost use Rattle.reader.specs.Rules.{ruleOutcome};
 ghost use Rattle.rewriting.specs.Outcome.{rewriteOutcome};
 ghost use Rattle.lexer.specs.Masked.{maskedOutcome};
+ghost use Rattle.turns.specs.Outcome.{turnOutcome};
 ghost use Rattle.builtin.specs.Book.{builtinBytes};
 ghost use Rattle.printer.specs.Outcome.{printOutcome};
 ghost use Rattle.separated.specs.Outcome.{separatedOutcome};
-ghost use Rattle.zagvulem.specs.Words.{bookWord, ruleWord, lexWord, printWord};
+ghost use Rattle.zagvulem.specs.Words.{bookWord, ruleWord, lexWord, turnWord, nextAfter, examinedAfter, printWord};
 ghost use Rattle.zagvulem.specs.Separator.{separator};
 
 // Reads a book: the number of its rules and 0, or the refusal.
@@ -74,6 +75,39 @@ pub extern "C" fn zgv_lex_builtin(text: &[u8], records: &mut [u8], masks: &mut [
         ≡ (maskedOutcome builtinBytes (now (text .entry)) (now (records .entry)) (now (masks .entry))) .masks ⌝ }
 {
     crate::words::lexed(builtin::lex_builtin(text, records, masks))
+}
+
+// Lexes a text in turns: from `place` on while the next reach fits what is left of `budget`. The number of tokens and whether the turn is
+// finished (1, else 0), with the next place and the bytes examined in the two numbers that are lent; or the refusal, which leaves them.
+#[no_mangle]
+pub extern "C" fn zgv_lex_within(
+    book: &[u8],
+    text: &[u8],
+    place: usize,
+    budget: u64,
+    records: &mut [u8],
+    masks: &mut [u8],
+    next: &mut u64,
+    examined: &mut u64,
+) -> u64
+    ensures { λ r. ⌜ r
+        ≡ turnWord
+        ((turnOutcome (now (book .entry)) (now (text .entry)) place budget (now (records .entry)) (now (masks .entry))) .answer) ⌝ }
+    ensures { λ r. ⌜ now (records .exit)
+        ≡ (turnOutcome (now (book .entry)) (now (text .entry)) place budget (now (records .entry)) (now (masks .entry))) .records ⌝ }
+    ensures { λ r. ⌜ now (masks .exit)
+        ≡ (turnOutcome (now (book .entry)) (now (text .entry)) place budget (now (records .entry)) (now (masks .entry))) .masks ⌝ }
+    ensures { λ r. ⌜ now (next .exit)
+        ≡ nextAfter ((turnOutcome (now (book .entry)) (now (text .entry)) place budget (now (records .entry)) (now (masks .entry))) .answer)
+        (now (next .entry)) ⌝ }
+    ensures { λ r. ⌜ now (examined .exit)
+        ≡ examinedAfter
+        ((turnOutcome (now (book .entry)) (now (text .entry)) place budget (now (records .entry)) (now (masks .entry))) .answer)
+        (now (examined .entry)) ⌝ }
+{
+    let answer = turns::lex_within(book, text, place, budget as usize, records, masks);
+    crate::words::put_numbers(answer, next, examined);
+    crate::words::turned(answer)
 }
 
 // Prints the tokens that the records say with a pool: the number of bytes and 0, or the refusal.

@@ -3,9 +3,12 @@ use answer::BookAnswer;
 use answer::LexAnswer;
 use answer::PrintAnswer;
 use answer::Refusal;
+use answer::TurnAnswer;
 ghost use mathlib.Core.Path.{_≡_};
 ghost use Prim.Native.Nat.{min};
+ghost use Rattle.longest_match.specs.Masks.{bit};
 ghost use Rattle.zagvulem.specs.Words.{refusalWord, acceptedWord, bookWord, lexWord, printWord};
+ghost use Rattle.zagvulem.specs.Words.{turnWord, nextAfter, examinedAfter};
 
 pub fn read(answer: BookAnswer) -> u64
     ensures { λ r. ⌜ r ≡ bookWord answer ⌝ }
@@ -31,6 +34,46 @@ pub fn lexed(answer: LexAnswer) -> u64
     match answer {
         LexAnswer::Lexed { tokens, rest } => accepted(tokens, rest),
         LexAnswer::Refused(refusal) => refused(refusal),
+    }
+}
+
+pub fn turned(answer: TurnAnswer) -> u64
+    ensures { λ r. ⌜ r ≡ turnWord answer ⌝ }
+{
+    match answer {
+        TurnAnswer::Turned {
+            tokens,
+            next: _,
+            examined: _,
+            finished,
+        } => accepted(tokens, flag(finished)),
+        TurnAnswer::Refused(refusal) => refused(refusal),
+    }
+}
+
+// 1 where the turn is finished.
+fn flag(finished: bool) -> usize
+    ensures { λ r. ⌜ r ≡ bit finished ⌝ }
+{
+    if finished { 1 } else { 0 }
+}
+
+// The numbers of an answer that its word has no room for; after a refusal they stay.
+pub fn put_numbers(answer: TurnAnswer, next: &mut u64, examined: &mut u64)
+    ensures { λ r. ⌜ now (next .exit) ≡ nextAfter answer (now (next .entry)) ⌝ }
+    ensures { λ r. ⌜ now (examined .exit) ≡ examinedAfter answer (now (examined .entry)) ⌝ }
+{
+    match answer {
+        TurnAnswer::Turned {
+            tokens: _,
+            next: place,
+            examined: bytes,
+            finished: _,
+        } => {
+            *next = place as u64;
+            *examined = bytes as u64;
+        }
+        TurnAnswer::Refused(_) => {}
     }
 }
 

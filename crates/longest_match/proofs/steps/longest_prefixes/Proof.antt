@@ -3,34 +3,31 @@ use mathlib.Core.Path.{_≡_, refl, sym, _∙_}
 use mathlib.Core.List.{List}
 use Prim.Native.Nat.{ℕ, _-_, _<_, _≤_}
 use native.Mathlib.Omega.{arith}
-use lib.ListN.{length, getD, set, length-set}
-use lib.Seq.{getD-set-same, getD-set-other, ext-getD}
-use borrow.Author.Count.{below-more}
+use lib.ListN.{length, length-set}
 use borrow.Author.Needs.{needs}
 use denote.Ref.{now}
-use Rattle.automaton.specs.Rule.{Rule, longest}
+use Rattle.automaton.specs.Rule.{Rule}
 use Rattle.automaton.specs.Contracts.{Table, Holds, ruleAt}
-use Rattle.longest_match.specs.Steps.{prefixes}
-use Rattle.longest_match.proofs.Picking.{prefixes-length, prefixes-at}
+use Rattle.longest_match.proofs.Picking.{Prefixed, prefixed-none, prefixed-next, prefixed-all}
 use Rattle.longest_match.proofs.steps.longest_prefixes.Statement.{statement}
 use Rattle.longest_match.proofs.steps.longest_prefixes.Tie as tie
 
 abbrev Inv-loop : tie.InvT-loop
 Inv-loop table text lengths₀ rule₀ lengths rule = (length lengths ≡ length lengths₀) × (rule ≤ length lengths) ×
-    ((rs : List Rule) → Holds table rs → (j : ℕ) → j < rule → getD lengths j 0 ≡ longest (ruleAt rs j) text)
+    ((rs : List Rule) → Holds table rs → Prefixed rs text lengths rule)
 
 abbrev μ-loop : tie.MeasureT-loop
 μ-loop table text lengths₀ rule₀ lengths rule = length lengths - rule
 
 loop-holds : tie.Need-loop-holds Inv-loop μ-loop
-loop-holds c = (refl, omega arith, λ rs h j l. absurd (omega arith))
+loop-holds c = (refl, omega arith, λ rs h. prefixed-none rs _ _)
 
 -- the rule of the turn
 here : (c : tie.In-loop Inv-loop μ-loop) (rs : List Rule) (h : Holds (now (c .before .before .before .before .before .args .table)) rs)
     → Table (now (c .before .before .before .before .before .args .table)) (c .before .loop .rule) (ruleAt rs (c .before .loop .rule))
 here c rs h =
     h .each (c .before .loop .rule)
-        (omega (arith, c .loop-test .taken, c .before .loop .inv .0, c .before .before .before .before .before .pre .1, h .count))
+    (omega (arith, c .loop-test .taken, c .before .loop .inv .0, c .before .before .before .before .before .pre .1, h .count))
 
 longest-prefix-requires : tie.Need-longest-prefix-requires Inv-loop μ-loop
 longest-prefix-requires c κs =
@@ -42,13 +39,12 @@ loop-less c = simp length-set (omega arith)
 
 loop-again : tie.Need-loop-again Inv-loop μ-loop
 loop-again c =
-    let s = c .before .before .before .before .before .before in
-    let l = c .before .before .loop in
-    (rw length-set (l .inv .0), simp length-set (omega arith),
-        λ rs h. below-more
-            (λ j. getD (set (l .lengths) (l .rule) (c .longest-prefix .result)) j 0 ≡ longest (ruleAt rs j) (now (s .args .text)))
-            (l .rule) (λ j q. getD-set-other (l .lengths) (l .rule) j _ 0 (λ z. omega arith) ∙ l .inv .2 rs h j q)
-            (getD-set-same (l .lengths) (l .rule) _ 0 (c .before .loop-test .taken) ∙ c .longest-prefix .ensures _ (here (c .before) rs h)))
+    let l = c .before .before .loop in (
+      rw length-set (l .inv .0),
+      simp length-set (omega arith),
+      λ rs h. prefixed-next (l .inv .2 rs h) (c .before .loop-test .taken)
+          (c .longest-prefix .ensures _ (here (c .before) rs h)),
+    )
 
 same-length : tie.Need-same-length Inv-loop μ-loop
 same-length c = c .before .loop .inv .0
@@ -57,9 +53,7 @@ returns : tie.Need-returns Inv-loop μ-loop
 returns c = λ rs h.
     let s = c .before .before .before .before .before in
     let l = c .before .loop in
-    let many : length (l .lengths) ≡ length rs = l .inv .0 ∙ s .pre .1 ∙ h .count in
-    ext-getD 0 (l .lengths) (prefixes rs (now (s .args .text))) (many ∙ sym (prefixes-length (now (s .args .text)) rs))
-        (λ i q. l .inv .2 rs h i (omega (arith, c .loop-test .left)) ∙ sym (prefixes-at (now (s .args .text)) rs i (omega arith)))
+    prefixed-all (l .inv .2 rs h) (l .inv .0 ∙ s .pre .1 ∙ h .count) (omega (arith, c .loop-test .left))
 
 pub longest-prefixes-spec : {M : Type 1} → statement M
 longest-prefixes-spec =
