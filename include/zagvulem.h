@@ -115,7 +115,7 @@
  *
  *    zgv_lex_builtin()               8,192
  *    zgv_lex()                      45,056     176,128
- *    zgv_lex_within()               61,440     176,128
+ *    zgv_lex_within()               45,056     176,128
  *    zgv_read_book()                61,440     192,512
  *    zgv_read_book_strict()         61,440     192,512
  *    zgv_rule()                     61,440     192,512

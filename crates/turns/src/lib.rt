@@ -2,8 +2,8 @@
 // text and examines no more bytes than its budget; the caller goes on at the place that it reports.
 // The table is a local of the call, and `sizes` picks its size. `by_rules` takes a turn by the rules that a lent table holds, `running`
 // cuts and pays token by token.
-pub mod by_rules;
-pub mod running;
+mod by_rules;
+mod running;
 mod sizes;
 
 use answer::BookAnswer;

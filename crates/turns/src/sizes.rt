@@ -1,6 +1,5 @@
-// A turn with a table of the size that the book needs: a word for four of its bytes, and 66 beside them. Each table is a local of a
-// function of its own (docs/DECISIONS.md, "Sizes by need"). A size is four times the one before: reading a book takes many times as long as
-// clearing a table that is four times too large.
+// A turn with a table of the size that the book needs: a word for four of its bytes, and 66 beside them. The sizes double, and each table is
+// a local of a function of its own: a call clears, and takes of the stack, what its book needs (docs/DECISIONS.md, "Sizes by need").
 use answer::Refusal;
 use answer::TurnAnswer;
 use book::Book;
@@ -29,11 +28,20 @@ pub fn turn_sized(
     if len <= 1024 {
         return turn_1k(book, text, place, budget, records, masks);
     }
+    if len <= 2048 {
+        return turn_2k(book, text, place, budget, records, masks);
+    }
     if len <= 4096 {
         return turn_4k(book, text, place, budget, records, masks);
     }
+    if len <= 8192 {
+        return turn_8k(book, text, place, budget, records, masks);
+    }
     if len <= 16384 {
         return turn_16k(book, text, place, budget, records, masks);
+    }
+    if len <= 32768 {
+        return turn_32k(book, text, place, budget, records, masks);
     }
     turn_64k(book, text, place, budget, records, masks)
 }
@@ -72,6 +80,23 @@ fn turn_1k(
     crate::turn_with(book, &mut table, text, place, budget, records, masks)
 }
 
+fn turn_2k(
+    book: &[u8],
+    text: &[u8],
+    place: usize,
+    budget: usize,
+    records: &mut [u8],
+    masks: &mut [u8],
+) -> TurnAnswer
+    requires { ⌜ length (now book) ≤ 2048 ⌝ }
+    ensures { λ r. ⌜ TurnAnswered
+        (turnOutcome (now (book .entry)) (now (text .entry)) place budget (now (records .entry)) (now (masks .entry))) r
+        (now (records .exit)) (now (masks .exit)) ⌝ }
+{
+    let mut table = [0u64; 578];
+    crate::turn_with(book, &mut table, text, place, budget, records, masks)
+}
+
 fn turn_4k(
     book: &[u8],
     text: &[u8],
@@ -89,6 +114,23 @@ fn turn_4k(
     crate::turn_with(book, &mut table, text, place, budget, records, masks)
 }
 
+fn turn_8k(
+    book: &[u8],
+    text: &[u8],
+    place: usize,
+    budget: usize,
+    records: &mut [u8],
+    masks: &mut [u8],
+) -> TurnAnswer
+    requires { ⌜ length (now book) ≤ 8192 ⌝ }
+    ensures { λ r. ⌜ TurnAnswered
+        (turnOutcome (now (book .entry)) (now (text .entry)) place budget (now (records .entry)) (now (masks .entry))) r
+        (now (records .exit)) (now (masks .exit)) ⌝ }
+{
+    let mut table = [0u64; 2114];
+    crate::turn_with(book, &mut table, text, place, budget, records, masks)
+}
+
 fn turn_16k(
     book: &[u8],
     text: &[u8],
@@ -103,6 +145,23 @@ fn turn_16k(
         (now (records .exit)) (now (masks .exit)) ⌝ }
 {
     let mut table = [0u64; 4162];
+    crate::turn_with(book, &mut table, text, place, budget, records, masks)
+}
+
+fn turn_32k(
+    book: &[u8],
+    text: &[u8],
+    place: usize,
+    budget: usize,
+    records: &mut [u8],
+    masks: &mut [u8],
+) -> TurnAnswer
+    requires { ⌜ length (now book) ≤ 32768 ⌝ }
+    ensures { λ r. ⌜ TurnAnswered
+        (turnOutcome (now (book .entry)) (now (text .entry)) place budget (now (records .entry)) (now (masks .entry))) r
+        (now (records .exit)) (now (masks .exit)) ⌝ }
+{
+    let mut table = [0u64; 8258];
     crate::turn_with(book, &mut table, text, place, budget, records, masks)
 }
 
