@@ -14,7 +14,7 @@ use borrow.Author.Tests.{lt-ltb, le-ltb, ltb-false, eq-eqb}
 use Rattle.answer.specs.declared.Refusal.{Refusal}
 use Rattle.answer.specs.declared.TurnAnswer.{TurnAnswer}
 use Rattle.automaton.specs.Choice.{if, All}
-use Rattle.automaton.specs.Rule.{Rule, walk}
+use Rattle.automaton.specs.Rule.{Rule, walk, Sound, stateCount}
 use Rattle.automaton.proofs.Tests.{clash, all-map}
 use Rattle.book.specs.Limits.{maxText}
 use Rattle.book.specs.Valid.{ValidRule}
@@ -23,6 +23,7 @@ use Rattle.longest_match.specs.Lexer.{Token, Lexed, choose, lex, join}
 use Rattle.longest_match.specs.Masks.{masksOf}
 use Rattle.longest_match.proofs.Choosing.{choose-none, chosen-drop}
 use Rattle.longest_match.proofs.Lexing.{lex-tags}
+use Rattle.longest_match.proofs.Parts.{part-front, part-bytes}
 use Rattle.longest_match.proofs.Cutting.{lex-stop}
 use Rattle.record.specs.Records.{recordsAt, recordCount}
 use Rattle.record.specs.Tokens.{tokensOf}
@@ -35,14 +36,15 @@ use Rattle.turns.specs.Turn.{Turn, turn}
 use Rattle.turns.specs.Outcome.{TurnOutcome, turnRefused, turnAccepted, roomIn, turnRules, turnReading, turnOutcome}
 use Rattle.turns.proofs.Reaching.{all-fail, each-fails, reach-fewest}
 use Rattle.turns.proofs.Turning.{by-ways, turn-ends, turn-begins, turn-larger, Begins, Larger}
+use Rattle.turns.proofs.Alike.{Agree, Same, turn-alike}
 use Rattle.printer.proofs.ReadBack.{Storable, records-say}
 use Rattle.printer.proofs.RoundTrip.{same-rules, lexed-cut}
 use Rattle.zagvulem.proofs.Refused.{turn-refused}
 use Rattle.demands.specs.Calls.{Form, Lent, recordsIn, firstIn, listIn, maskBytesIn, Cut, MaskedCut, Turning}
 use Rattle.demands.specs.Words.{Book, LongestMatch}
 use Rattle.demands.specs.Turns.{AllStopped, ReachOf, ReachIsFewest, RefusedTurn, PastTheTurn, TurnTooLong, PlacePastText, TurnTooFew}
-use Rattle.demands.specs.Turns.{TurnIsAccepted, reaches, Says, listOf, TurnSays, LargerExtends, Taken, FromTo, Finish, given, agreed}
-use Rattle.demands.specs.Turns.{TurnsBegin, TurnsAreLongestMatch, TurnsAreCut, TurnsKept, EveryTurn}
+use Rattle.demands.specs.Turns.{TurnIsAccepted, reaches, Says, listOf, TurnSays, LargerExtends, LooksNoFurther, Taken, FromTo, Finish}
+use Rattle.demands.specs.Turns.{given, agreed, TurnsBegin, TurnsAreLongestMatch, TurnsAreCut, TurnsKept, EveryTurn}
 use Rattle.demands.proofs.LongestMatch.{lex-longest}
 use Rattle.demands.proofs.Demands.{valid, tokens-are}
 use Rattle.demands.proofs.Masks.{accepted-is-cut}
@@ -325,6 +327,9 @@ module _ (book : List ℕ) (rules : List Rule) (b : Book book rules) where
         let l = lengths text place (acc .inside) (here .tokens) (here .rest) (begins .joined) in
         (omega (arith, next-is, l), omega (arith, next-is, l))
 
+    ends-at : next ≡ place + length (join (here .tokens))
+    ends-at = omega (arith, next-is, lengths text place (acc .inside) (here .tokens) (here .rest) (begins .joined))
+
     says : Says rules text place budget (here .tokens) next examined finished
     says =
         let ends = turn-ends rules (drop place text) budget in
@@ -410,6 +415,49 @@ module _ (book : List ℕ) (rules : List Rule) (b : Book book rules) where
           let x : examined₁ ≡ examined = examined-is c₁ ∙ ap (λ (t : Turn). t .examined) q ∙ sym (examined-is c) in
           let f : finished₁ ≡ finished = finished-is c₁ ∙ ap (λ (t : Turn). t .finished) q ∙ sym (finished-is c) in
           cc (a, d, x, f)
+
+  pub looks-no-further : LooksNoFurther book rules
+  looks-no-further text other place budget e l m entry exit masks after n next examined finished c
+      entry₁ exit₁ masks₁ after₁ n₁ next₁ examined₁ finished₁ c₁ = (cc (many, place-same, paid, ended), records, agreeing)
+    where
+      agree : Agree budget (drop place text) (drop place other)
+      agree =
+          let p : budget < length text - place = omega arith in
+          let q : budget < length other - place = omega arith in
+          record {
+            same =
+                sym (part-bytes text place budget) ∙ part-front text place (place + budget) ∙ ap (drop place) e
+                ∙ sym (part-front other place (place + budget)) ∙ part-bytes other place budget;
+            more = rw length-drop p;
+            other-more = rw length-drop q;
+          }
+
+      same-turn : Same (turn rules (drop place text) budget) (turn rules (drop place other) budget)
+      same-turn = turn-alike stateCount rules
+          (all-map ValidRule (Sound stateCount) (λ r h. h .sound) rules (valid book rules b .rules-valid .each))
+          (drop place text) budget (drop place other) agree
+
+      many : n₁ ≡ n
+      many = count c₁ ∙ ap length (sym (same-turn .tokens)) ∙ sym (count c)
+
+      place-same : next₁ ≡ next
+      place-same = omega (arith, ends-at c₁, ends-at c, ap (λ (x : List Token). length (join x)) (same-turn .tokens))
+
+      paid : examined₁ ≡ examined
+      paid = examined-is c₁ ∙ sym (same-turn .examined) ∙ sym (examined-is c)
+
+      ended : finished₁ ≡ finished
+      ended = finished-is c₁ ∙ sym (same-turn .finished) ∙ sym (finished-is c)
+
+      records : take (10 * n) exit₁ ≡ take (10 * n) exit
+      records =
+          ap (λ (x : ℕ). take (10 * x) exit₁) (sym many) ∙ records-are c₁ ∙ ap (recordsAt place) (sym (same-turn .tokens))
+          ∙ sym (records-are c)
+
+      agreeing : take (4 * n) after₁ ≡ take (4 * n) after
+      agreeing =
+          ap (λ (x : ℕ). take (4 * x) after₁) (sym many) ∙ masks-are c₁
+          ∙ ap (λ (x : List Token). maskBytes (masksOf rules x)) (sym (same-turn .tokens)) ∙ sym (masks-are c)
 
   -- ---- turns one after the other
 
@@ -501,6 +549,7 @@ pub every-turn : EveryTurn
 every-turn book rules b = record {
   turn-says = turn-says book rules b;
   larger-extends = larger-extends book rules b;
+  looks-no-further = looks-no-further book rules b;
   turns-begin = turns-begin book rules b;
   turns-are-longest-match = turns-are-longest-match book rules b;
   turns-are-cut = turns-are-cut book rules b;

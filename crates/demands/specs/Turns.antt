@@ -133,6 +133,18 @@ module _ (book : List ℕ) (rules : List Rule) where
       → (n ≤ n₁) × (take (10 * n) exit₁ ≡ take (10 * n) exit) × (take (4 * n) after₁ ≡ take (4 * n) after)
       × (finished ≡ true → turned.Turned n₁ next₁ examined₁ finished₁ ≡ turned.Turned n next examined finished)
 
+  -- No byte behind what the budget allows plays a part: where two texts are the same so far, and both go on, both turns answer and store
+  -- the same.
+  abbrev pub LooksNoFurther : Type 0
+  LooksNoFurther = (text other : List ℕ) (place budget : ℕ) → take (place + budget) text ≡ take (place + budget) other
+      → place + budget < length text → place + budget < length other
+      → (entry exit masks after : List ℕ) (n next examined : ℕ) (finished : Bool)
+      → Turning book text place budget entry exit masks after (turned.Turned n next examined finished)
+      → (entry₁ exit₁ masks₁ after₁ : List ℕ) (n₁ next₁ examined₁ : ℕ) (finished₁ : Bool)
+      → Turning book other place budget entry₁ exit₁ masks₁ after₁ (turned.Turned n₁ next₁ examined₁ finished₁)
+      → (turned.Turned n₁ next₁ examined₁ finished₁ ≡ turned.Turned n next examined finished)
+      × (take (10 * n) exit₁ ≡ take (10 * n) exit) × (take (4 * n) after₁ ≡ take (4 * n) after)
+
 -- ---- turns one after the other
 
 -- an accepted turn: its budget, what it was lent and left, and what it reported
@@ -194,6 +206,7 @@ module _ (book : List ℕ) (rules : List Rule) where
 pub record TurnsKept (book : List ℕ) (rules : List Rule) : Type 0 where
   pub turn-says : TurnSays book rules
   pub larger-extends : LargerExtends book rules
+  pub looks-no-further : LooksNoFurther book rules
   pub turns-begin : TurnsBegin book rules
   pub turns-are-longest-match : TurnsAreLongestMatch book rules
   pub turns-are-cut : TurnsAreCut book rules

@@ -46,7 +46,7 @@ far-next {n} {rules} {count} {text} {known} {went} g sound f = record {
 
 -- ---- the longest prefix of a rule that stops within a part of a text
 
-longest-part : (r : Rule) (text : List ℕ) (m n : ℕ) → n ≤ m → longestWithin r (take m text) n ≡ longestWithin r text n
+pub longest-part : (r : Rule) (text : List ℕ) (m n : ℕ) → n ≤ m → longestWithin r (take m text) n ≡ longestWithin r text n
 unfolding longestWithin
 longest-part r text m zero l = refl
 longest-part r text m (suc n) l = rw (take-take (suc n) m text l, longest-part r text m n (omega arith))

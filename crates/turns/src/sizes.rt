@@ -1,5 +1,5 @@
-// A turn with a table of the size that the book needs: a word for four of its bytes, and 66 beside them. The sizes double, and each table is
-// a local of a function of its own: a call clears, and takes of the stack, what its book needs (docs/DECISIONS.md, "Sizes by need").
+// A turn with a table of the size that the book needs: a word for four of its bytes, and 66 beside them. The sizes double, and each table
+// is a local of a function of its own: a call clears, and takes of the stack, what its book needs (docs/DECISIONS.md, "Sizes by need").
 use answer::Refusal;
 use answer::TurnAnswer;
 use book::Book;
