@@ -137,8 +137,8 @@
  *                               rule walks on as far as it can go; twice that
  *                               where there is room for fewer than n records or
  *                               for fewer than n masks
- *    a turn of b bytes          reading the book, and r * b steps, however long
- *                               the text; twice those where there is room for
+ *    a turn of b bytes          reading the book, and 2 * r * b steps, however
+ *                               long the text; twice those where there is room for
  *                               fewer tokens than b and than the text has bytes
  *                               from the place on
  *    printing n bytes           the same r * n * n / 2, and r steps more for each
