@@ -1,8 +1,8 @@
 /*
  * player.c - a player that changes the cues of a timed lyric sheet
  *
- *    player [-l] [-r] [--turns N] BOOK SHEET [SECONDS [OLD NEW]]
- *    player --hidden [-r] [--turns N] BOOK TEXT
+ *    player [-l] [-r] [--turns N [--save FILE]] BOOK SHEET [SECONDS [OLD NEW]]
+ *    player --hidden [-r] [--turns N [--save FILE]] BOOK TEXT
  *
  * Cuts SHEET by BOOK, moves its time stamps, [mm:ss.hh], by SECONDS, puts the
  * word NEW in the place of the word OLD, and writes the sheet to standard output:
@@ -28,18 +28,27 @@
  * without a token is followed by one of twice the budget, from the same place; the
  * next one has N bytes again.
  *
+ * With --save FILE it saves after each turn, as an operator may while the cut is
+ * unfinished: FILE then holds the sheet so far. It is what zgv_print() makes of the
+ * tokens that the turns have given, and has been compared with the sheet: its bytes
+ * before the place at which the next turn begins. Stamps and words are as they were
+ * read. FILE is neither BOOK nor SHEET.
+ *
  * A rest is text that no rule of the book matches. Where one is left nothing is
  * written; with -r what was cut before it is.
  *
  * Standard error says what is done. The exit status is 0 where a text or the
  * hidden rules were written, 1 where nothing was, 2 where the command line is
- * wrong.
+ * wrong. What was saved stays in any case.
  */
+#define _POSIX_C_SOURCE 200112L
+
 #include "zagvulem.h"
 
 #include <stdio.h>
 #include <stdlib.h>
 #include <string.h>
+#include <sys/stat.h>
 
 enum {
     WRONG_USE = 2,
@@ -70,9 +79,16 @@ typedef struct rules {
     uint8_t separates[65536];
 } rules;
 
+/* Where the sheet so far is saved: no name where it is not; the file is opened at the first save; so many bytes stand in it. */
+typedef struct archive {
+    const char *name;
+    FILE *file;
+    size_t length;
+} archive;
+
 /* What the command line asks for. */
 typedef struct task {
-    const char *book, *sheet, *old_word, *new_word;
+    const char *book, *sheet, *save, *old_word, *new_word;
     long seconds, budget; /* no budget: one cut, without turns */
     int as_list, leave_rest, hidden;
 } task;
@@ -300,8 +316,42 @@ static void show_turn(const uint8_t *text, const list *l, size_t turn, uint64_t 
     }
 }
 
+/* Adds bytes to the file in which the sheet is saved; what stands in it already stays whatever happens. */
+static int add_to(archive *a, const uint8_t *bytes, size_t length)
+{
+    if (a->file == NULL)
+        a->file = fopen(a->name, "wb");
+    if (a->file == NULL || fwrite(bytes, 1, length, a->file) != length || fflush(a->file) != 0)
+        return 0;
+    a->length += length;
+    return 1;
+}
+
+/* Saves the sheet so far: the tokens of a list, joined, which are the text's bytes before the place of its rest. What was saved before
+   is the beginning of it. */
+static void save(archive *a, const rules *r, const uint8_t *text, size_t length, const list *l)
+{
+    uint8_t *out = allocate(l->rest);
+    uint64_t answer = zgv_print(r->book.bytes, r->book.length, l->records, l->count * ZGV_RECORD_BYTES, text, length, out,
+                                l->rest);
+    int saved = 0;
+    if (zgv_number(answer) != ZGV_ACCEPTED)
+        say_refused(a->name, answer);
+    else if (zgv_first(answer) != l->rest || (l->rest > 0 && memcmp(out, text, l->rest) != 0))
+        fprintf(stderr, "%s: not saved: what was printed is not the beginning of the sheet\n", a->name);
+    else if (!add_to(a, out + a->length, l->rest - a->length))
+        perror(a->name);
+    else
+        saved = 1;
+    free(out);
+    if (!saved)
+        exit(EXIT_FAILURE);
+    fprintf(stderr, "    saved: %lu token%s in %lu byte%s\n", (unsigned long)l->count, plural(l->count), (unsigned long)l->rest,
+            plural(l->rest));
+}
+
 /* The same list as by cut(), in turns of so many bytes; each adds its tokens behind those of the turns before it. */
-static uint64_t cut_in_turns(const rules *r, const uint8_t *text, size_t length, uint64_t usual, list *l)
+static uint64_t cut_in_turns(const rules *r, const uint8_t *text, size_t length, uint64_t usual, list *l, archive *a)
 {
     size_t room = make_list(l, length), turn;
     uint64_t budget = usual, next = 0, examined = 0, answer;
@@ -314,6 +364,8 @@ static uint64_t cut_in_turns(const rules *r, const uint8_t *text, size_t length,
         l->count += zgv_first(answer);
         l->rest = (size_t)next;
         show_turn(text, l, turn, budget, examined, answer);
+        if (a->name != NULL)
+            save(a, r, text, length, l);
         if (zgv_second(answer) == ZGV_FINISHED)
             return answer;
         /* What the place needs is not known, but as many bytes as the text has are enough: twice as much ends there at last. */
@@ -522,12 +574,13 @@ static int write_hidden(const task *asked, const rules *r, const buffer *text, c
 
 static int usage(void)
 {
-    fputs("usage: player [-l] [-r] [--turns N] BOOK SHEET [SECONDS [OLD NEW]]\n"
-          "       player --hidden [-r] [--turns N] BOOK TEXT\n"
-          "  -l         write the cue list, not the sheet\n"
-          "  -r         write what was cut although a rest is left\n"
-          "  --hidden   write which rules of the book are hidden by earlier ones\n"
-          "  --turns N  cut in turns of N bytes, and show their tokens as they come\n",
+    fputs("usage: player [-l] [-r] [--turns N [--save FILE]] BOOK SHEET [SECONDS [OLD NEW]]\n"
+          "       player --hidden [-r] [--turns N [--save FILE]] BOOK TEXT\n"
+          "  -l           write the cue list, not the sheet\n"
+          "  -r           write what was cut although a rest is left\n"
+          "  --hidden     write which rules of the book are hidden by earlier ones\n"
+          "  --turns N    cut in turns of N bytes, and show their tokens as they come\n"
+          "  --save FILE  after each turn save the sheet so far\n",
           stderr);
     return 0;
 }
@@ -555,6 +608,27 @@ static int read_budget(const char *word, long *budget)
     return 1;
 }
 
+/* Whether two names are of one file that is there. */
+static int same_file(const char *name, const char *other)
+{
+    struct stat a, b;
+    return stat(name, &a) == 0 && stat(other, &b) == 0 && a.st_dev == b.st_dev && a.st_ino == b.st_ino;
+}
+
+/* The file in which the sheet is saved: FILE of --save, which goes with --turns. */
+static int check_save(const task *asked)
+{
+    if (asked->save == NULL)
+        return 1;
+    if (asked->budget == 0)
+        return usage();
+    if (same_file(asked->save, asked->book) || same_file(asked->save, asked->sheet)) {
+        fprintf(stderr, "player: FILE of --save is another file than the book and the sheet, not \"%s\"\n", asked->save);
+        return 0;
+    }
+    return 1;
+}
+
 static int read_task(int argc, char **argv, task *asked)
 {
     int i = 1;
@@ -566,6 +640,8 @@ static int read_task(int argc, char **argv, task *asked)
             asked->leave_rest = 1;
         else if (strcmp(argv[i], "--hidden") == 0)
             asked->hidden = 1;
+        else if (strcmp(argv[i], "--save") == 0 && i + 1 < argc)
+            asked->save = argv[++i];
         else if (strcmp(argv[i], "--turns") != 0)
             return usage();
         else if (!read_budget(argv[++i], &asked->budget))
@@ -581,7 +657,7 @@ static int read_task(int argc, char **argv, task *asked)
         asked->old_word = argv[3];
         asked->new_word = argv[4];
     }
-    return argc == 2 || read_seconds(argv[2], &asked->seconds);
+    return (argc == 2 || read_seconds(argv[2], &asked->seconds)) && check_save(asked);
 }
 
 int main(int argc, char **argv)
@@ -589,6 +665,7 @@ int main(int argc, char **argv)
     static rules r;
     buffer sheet;
     list l;
+    archive saved = {NULL, NULL, 0};
     task asked;
     uint64_t answer;
     int done = 0;
@@ -597,8 +674,13 @@ int main(int argc, char **argv)
     if (!read_rules(&r, asked.book))
         return EXIT_FAILURE;
     sheet = read_file(asked.sheet);
+    saved.name = asked.save;
     answer = asked.budget == 0 ? cut(&r, sheet.bytes, sheet.length, &l)
-                               : cut_in_turns(&r, sheet.bytes, sheet.length, (uint64_t)asked.budget, &l);
+                               : cut_in_turns(&r, sheet.bytes, sheet.length, (uint64_t)asked.budget, &l, &saved);
+    if (saved.file != NULL && fclose(saved.file) != 0) {
+        perror(saved.name);
+        return EXIT_FAILURE;
+    }
     if (zgv_number(answer) != ZGV_ACCEPTED) {
         say_refused(asked.sheet, answer);
     } else {

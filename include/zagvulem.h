@@ -108,6 +108,13 @@
  * reported, since that takes looking further. Twice as much, and so on, gets there
  * soon; as many bytes as the text has from that place on are always enough.
  *
+ * What turns from place 0 have given can be saved at any time, finished or not.
+ * Lend each turn the part of one buffer that lies behind the records of the turns
+ * before it. zgv_print() accepts the records in front of it, with the text as the
+ * pool, and writes exactly the text's bytes before the next place. It needs room
+ * for these alone, and refuses nothing but less room, by 22. A buffer with as many
+ * records as the text has bytes, and masks as many, are enough for all turns.
+ *
  * STACK
  *
  * The table of a book and the scratch of a printer are local to the call. Bytes
@@ -175,10 +182,10 @@ extern "C" {
 
 /* ---- Version ------------------------------------------------------------ */
 
-#define ZGV_VERSION       "0.7.0"
+#define ZGV_VERSION       "0.7.1"
 #define ZGV_VERSION_MAJOR 0
 #define ZGV_VERSION_MINOR 7
-#define ZGV_VERSION_PATCH 0
+#define ZGV_VERSION_PATCH 1
 
 /* ---- Limits ------------------------------------------------------------- */
 

@@ -20,6 +20,7 @@ PATH=/usr/bin:/bin
 ! command -v rt >/dev/null || fail "rt is in $PATH"
 sh -e "$tmp/commands" >"$tmp/written" 2>"$tmp/said" || fail "the commands of the tarball's README.md: $(cat "$tmp/said")"
 grep -q 'ships' "$tmp/written" || fail 'the player of the tarball writes no changed sheet'
+cmp saved.txt "$sheet" || fail 'the player of the tarball saves another sheet'
 [ -s spans.bin ] || fail 'modernize of the tarball writes no book'
 cc -std=c99 -Wall -Wextra -Werror -pedantic -Iinclude cut.c lib/libzagvulem.a -o cut || fail 'compiling the program of README.md'
 [ "$(./cut <"$sheet" | wc -l)" -eq 168 ] || fail 'the program of README.md does not run'

@@ -9,7 +9,7 @@ grep -q "harness/src/edges.rs\`), $edges calls" docs/HARNESS.md || fail "docs/HA
 planted=$(build/harness --help 2>&1 | sed -n 's/^faults: //p' | tr -d ,)
 count=0
 for fault in $planted; do
-    found=$(build/harness --plant "$fault" | sed -n 's/^DIFFERENCE in \(case [0-9]*\) of seed 1:.*/\1/p')
+    found=$(build/harness --plant "$fault" | sed -n 's/^[A-Z ]* in \(case [0-9]*\) of seed 1:.*/\1/p')
     [ -n "$found" ] || fail "the fault $fault is not found"
     grep -q "^| \`$fault\` | .* | $found | " docs/HARNESS.md || fail "$fault is found in $found; docs/HARNESS.md says otherwise"
     count=$((count + 1))

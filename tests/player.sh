@@ -69,7 +69,7 @@ for bad in x 2x '' ' 2' +2 1.5 0x10 -- - 6000 -6000 99999999999999999999; do
     says "SECONDS is a whole number from -5999 to 5999, not \"$bad\""
 done
 run 2
-says 'usage: player [-l] [-r] [--turns N] BOOK SHEET [SECONDS [OLD NEW]]'
+says 'usage: player [-l] [-r] [--turns N [--save FILE]] BOOK SHEET [SECONDS [OLD NEW]]'
 run 2 "$builtin"
 run 2 "$builtin" sheet 2 boats
 run 2 "$builtin" sheet 2 boats ships more
@@ -277,7 +277,7 @@ says 'long: refused: the text has more than 65,536 bytes (number 14)'
 run 1 --hidden "$builtin" none
 says 'none: No such file or directory'
 run 2 --hidden
-says '       player --hidden [-r] [--turns N] BOOK TEXT'
+says '       player --hidden [-r] [--turns N [--save FILE]] BOOK TEXT'
 run 2 --hidden "$builtin"
 run 2 --hidden "$builtin" sheet 2
 run 2 --hidden "$builtin" sheet 2 boats ships
@@ -319,14 +319,99 @@ run 0 --turns 65536 other bars
 says 'turn 1, 65536 bytes: 17 examined, 6 tokens, finished at byte 12'
 says '    token 0 at byte 0, tag 65535, "oh"'
 
-# in_turns WORDS...: in turns of any budget it writes and says what it does without, with the same tokens, and the turns join
+# --save: after each turn the file holds what was cut so far
+printf 'oh no [00:1x\r' >text
+run 0 -r --turns 5 --save saved "$builtin" text
+writes 'oh no [00:1x'
+cmp saved out || fail "it saves: $(cat saved)"
+cmp - said <<'END' || fail "of turns of 5 bytes with saving it says: $(cat said)"
+turn 1, 5 bytes: 5 examined, 2 tokens, spent at byte 3
+    token 0 at byte 0, tag 2, "oh"
+    token 1 at byte 2, tag 3, " "
+    saved: 2 tokens in 3 bytes
+turn 2, 5 bytes: 5 examined, 2 tokens, spent at byte 6
+    token 2 at byte 3, tag 2, "no"
+    token 3 at byte 5, tag 3, " "
+    saved: 4 tokens in 6 bytes
+turn 3, 5 bytes: 0 examined, 0 tokens, spent at byte 6
+    saved: 4 tokens in 6 bytes
+    no token: the next turn has 10 bytes
+turn 4, 10 bytes: 6 examined, 1 token, spent at byte 7
+    token 4 at byte 6, tag 5, "["
+    saved: 5 tokens in 7 bytes
+turn 5, 5 bytes: 0 examined, 0 tokens, spent at byte 7
+    saved: 5 tokens in 7 bytes
+    no token: the next turn has 10 bytes
+turn 6, 10 bytes: 7 examined, 1 token, finished at byte 12
+    token 5 at byte 7, tag 2, "00:1x"
+    saved: 6 tokens in 12 bytes
+text: not cut from byte 12 on, which is 0D, in line 1: 1 of 13 bytes are left
+player: writing what was cut
+text: 0 stamps moved, 0 words changed
+text: 6 tokens written in 12 bytes, and read back as the same list
+END
+
+# a printer that goes wrong at one save: nothing wrong is saved, and what was saved before it is the text up to the place of that turn
+cat >wrong.c <<'END'
+#include "zagvulem.h"
+#include <stdlib.h>
+
+uint64_t wrong_print(const uint8_t *book, size_t book_len, const uint8_t *records, size_t records_len, const uint8_t *pool, size_t pool_len,
+                     uint8_t *out, size_t out_len)
+{
+    static int calls;
+    uint64_t answer = zgv_print(book, book_len, records, records_len, pool, pool_len, out, out_len);
+    if (++calls != atoi(getenv("AT")))
+        return answer;
+    switch (*getenv("HOW")) {
+    case 'r': /* refused */
+        return (uint64_t)ZGV_READ_ON << 56 | 1;
+    case 's': /* shorter */
+        return answer - ((uint64_t)1 << 28);
+    default: /* another byte */
+        out[zgv_first(answer) - 1] ^= 1;
+        return answer;
+    }
+}
+END
+$CC -std=c99 -Wall -Wextra -Werror -pedantic -O2 -I"$top/include" -c wrong.c -o wrong.o &&
+    $CC -std=c99 -O2 -I"$top/include" -Dzgv_print=wrong_print "$top/examples/player.c" wrong.o "$top/build/libzagvulem.a" -o wrong ||
+    fail 'compiling a player with a printer that goes wrong'
+sound=$player
+player=$PWD/wrong
+export AT HOW
+for HOW in refused shorter byte; do
+    for before in 1:0 2:3 3:6 4:6 5:7 6:7; do
+        AT=${before%:*}
+        run 1 -r --turns 5 --save saved-$HOW-$AT "$builtin" text
+        case $HOW in
+        refused) says "saved-$HOW-$AT: refused: a token would be read on into what follows it (number 21, token 1)" ;;
+        *) says "saved-$HOW-$AT: not saved: what was printed is not the beginning of the sheet" ;;
+        esac
+        [ "$(grep -c '    saved: ' said)" -eq $((AT - 1)) ] || fail "$HOW at save $AT: it says $(cat said)"
+        if [ "$AT" -eq 1 ]; then
+            [ ! -e saved-$HOW-$AT ] || fail "$HOW at the first save: something is saved"
+        else
+            head -c "${before#*:}" text | cmp - saved-$HOW-$AT || fail "$HOW at save $AT: $(cat saved-$HOW-$AT) is saved"
+        fi
+    done
+done
+AT=7 HOW=byte
+run 1 -r --turns 5 --save saved "$builtin" text
+says 'player: what was printed is not read back as the same list'
+player=$sound
+
+# in_turns WORDS...: in turns of any budget it writes and says what it does without, with the same tokens, and the turns join; what is
+# saved is the text up to the rest
 in_turns() {
     run 0 "$@"
     cp out once
     cp said said-once
+    sheet_of "$@"
     for n in 1 2 7 64 1000 65536; do
-        run 0 --turns "$n" "$@"
+        run 0 --turns "$n" --save saved "$@"
         cmp once out || fail "player $*: with --turns $n it writes something else"
+        head -c "$(sed -n 's/^turn .*finished at byte //p' said)" "$sheet" | cmp - saved || fail "player $*: --turns $n saves something else"
         grep -v '^turn \|^    ' said | cmp - said-once || fail "player $*: with --turns $n it says: $(cat said)"
         grep '^    token ' said >tokens
         [ "$n" -gt 1 ] || cp tokens tokens-once
@@ -338,13 +423,21 @@ in_turns() {
                 finished = $9 == "finished"
                 if ($2 != ++turns || $3 != due || left != 0 || over) wrong("the turn")
                 if ($5 > $3 || $5 < $7 || $7 == 0 && ($12 != place || !finished && $5 != 0)) wrong("the numbers")
-                from = place; place = $12; left = $7; over = finished
+                from = place; place = $12; left = $7; over = finished; all += $7
                 due = $7 == 0 ? 2 * $3 : usual
             }
+            $1 == "saved:" && (++saves != turns || $2 != all || $5 != place) { wrong("what is saved") }
             $1 == "token" && ($5 < from || $5 >= place || left-- == 0) { wrong("the token") }
             $1 == "no" && $7 != due { wrong("the next budget") }
-            END { if (!failed && (!over || left != 0)) wrong("the end") }' || fail "player $*: the turns of --turns $n"
+            END { if (!failed && (!over || left != 0 || saves != turns)) wrong("the end") }' || fail "player $*: the turns of --turns $n"
     done
+}
+# sheet_of WORDS...: the sheet of a command line, behind the options and the book
+sheet_of() {
+    while [ "${1#-}" != "$1" ]; do
+        shift
+    done
+    sheet=$2
 }
 # as_cutlist BOOK TEXT: the tokens that in_turns has seen last are those that cutlist lists
 as_cutlist() {
@@ -395,6 +488,8 @@ words=$(sed -n 's|^build/player \(--turns .*\)|\1|p' "$top/README.md")
 (cd "$top" && "$player" $words) >out 2>said || fail "the command of README.md: $(cat said)"
 cmp sheet out || fail "the command of README.md writes: $(cat out)"
 says 'turn 1, 64 bytes: 61 examined, 12 tokens, spent at byte 49'
+says 'saved: 12 tokens in 49 bytes'
+cmp sheet "$top/build/saved.txt" || fail "the command of README.md saves something else"
 
 # with --turns: a rest, refusals, and the words of the command line
 run 1 --turns 3 "$builtin" crlf
@@ -416,7 +511,40 @@ run 2 --turns=3 "$builtin" sheet
 run 2 --turns 3
 run 2 --turns 3 "$builtin"
 run 2 --hidden --turns 3 -l "$builtin" sheet
-says 'usage: player [-l] [-r] [--turns N] BOOK SHEET [SECONDS [OLD NEW]]'
+says 'usage: player [-l] [-r] [--turns N [--save FILE]] BOOK SHEET [SECONDS [OLD NEW]]'
 run 2 "$builtin" sheet --turns 3
+
+# with --save: a rest without -r, changes to the sheet, refusals before the first turn, and a file that is there and longer
+run 1 --turns 3 --save saved "$builtin" crlf
+printf '[00:01.00]oh no' | cmp - saved || fail "of a text with a rest it saves: $(cat saved)"
+cp full saved
+run 0 --turns 30 --save saved "$builtin" sheet 2 boats ships
+cmp sheet saved || fail 'it saves a changed sheet'
+rm saved
+run 1 --turns 3 --save saved "$builtin" long
+run 1 --turns 3 --save saved twice sheet
+run 1 --turns 3 --save saved "$builtin" none
+run 2 --turns 0 --save saved "$builtin" sheet
+run 2 --save saved "$builtin" sheet
+says '  --save FILE  after each turn save the sheet so far'
+run 2 --turns 3 --save
+[ ! -e saved ] || fail 'it saves although nothing was cut'
+run 1 --turns 3 --save none/saved "$builtin" sheet
+says 'none/saved: No such file or directory'
+run 1 --turns 3 --save . "$builtin" sheet
+if [ -w /dev/full ]; then
+    run 1 --turns 100 --save /dev/full "$builtin" sheet
+    says '/dev/full: No space left on device'
+fi
+# neither the sheet nor the book is written over, by whatever name
+cp "$builtin" book
+cp sheet kept
+ln sheet linked
+ln -s book pointing
+for bad in sheet ./sheet linked book pointing; do
+    run 2 --turns 3 --save "$bad" book sheet
+    says "FILE of --save is another file than the book and the sheet, not \"$bad\""
+done
+cmp sheet kept && cmp book "$builtin" || fail 'the sheet or the book is written over'
 
 echo "player: $runs runs"

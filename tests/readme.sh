@@ -1,5 +1,5 @@
 #!/bin/sh
-# README.md: its program in C, its turns and its first command do what it says.
+# README.md: its program in C, its turns, saving between them, and its first command do what it says.
 . "$(dirname "$0")/common"
 needs build/libzagvulem.a build/cutlist
 
@@ -9,34 +9,50 @@ $CC -std=c99 -Wall -Wextra -Werror -pedantic -O2 -Iinclude "$tmp/cut.c" build/li
 "$tmp/cut" <examples/sheet.txt >"$tmp/tokens" || fail 'the program of README.md refuses the sample sheet'
 [ "$(sed -n '1,4p' "$tmp/tokens" | tr '\n' '/')" = '1: [00:04.00]/2: Lamps/3:  /2: along/' ] || fail "it prints: $(head -n 4 "$tmp/tokens")"
 
-# turns of one period after the other print the same, also where the first budget is too small
+# Turns of one period after the other print the same, also where the first budget is too small. What is saved before the first, between
+# them and after the last is the text up to the next place.
 cat >"$tmp/turns.c" <<'END'
 #define main cut
 #include "cut.c"
 #undef main
 #include <stdlib.h>
+#include <string.h>
 
 int main(int argc, char **argv)
 {
-    static uint8_t text[ZGV_TEXT_BYTES + 1];
-    song s = {zgv_builtin_book, text, sizeof zgv_builtin_book, fread(text, 1, sizeof text, stdin), 0, 64};
+    static uint8_t text[ZGV_TEXT_BYTES + 1], saved[ZGV_TEXT_BYTES + 1];
+    static song s;
     int more;
-    if (argc == 2)
-        s.budget = strtoul(argv[1], NULL, 10);
-    while ((more = period(&s)) == 1)
-        ;
-    fprintf(stderr, "%d %lu\n", more, (unsigned long)s.place);
+    s.book = zgv_builtin_book;
+    s.book_len = sizeof zgv_builtin_book;
+    s.text = text;
+    s.text_len = fread(text, 1, sizeof text, stdin);
+    s.budget = argc == 2 ? strtoul(argv[1], NULL, 10) : 64;
+    do {
+        FILE *file = tmpfile();
+        if (!save(&s, file))
+            return 1;
+        rewind(file);
+        if (fread(saved, 1, sizeof saved, file) != s.place || memcmp(saved, text, s.place) != 0)
+            return 2;
+        fclose(file);
+    } while ((more = period(&s)) == 1);
+    if (!save(&s, stderr))
+        return 1;
+    fprintf(stderr, "\n%d %lu\n", more, (unsigned long)s.place);
     return 0;
 }
 END
 $CC -std=c99 -Wall -Wextra -Werror -pedantic -O2 -Iinclude "$tmp/turns.c" build/libzagvulem.a -o "$tmp/turns" ||
     fail 'compiling the turns of README.md'
 for budget in 1 64 65536; do
-    "$tmp/turns" "$budget" <examples/sheet.txt 2>"$tmp/said" | cmp - "$tmp/tokens" || fail "turns from $budget bytes print other tokens"
-    [ "$(cat "$tmp/said")" = '0 483' ] || fail "turns from $budget bytes end with: $(cat "$tmp/said")"
+    "$tmp/turns" "$budget" <examples/sheet.txt >"$tmp/printed" 2>"$tmp/said" || fail "saving between turns from $budget bytes: $?"
+    cmp "$tmp/printed" "$tmp/tokens" || fail "turns from $budget bytes print other tokens"
+    printf '\n0 483\n' | cat examples/sheet.txt - | cmp - "$tmp/said" || fail "turns from $budget bytes end with: $(cat "$tmp/said")"
 done
-[ "$(printf 'oh no\r\n' | "$tmp/turns" 2>&1 >/dev/null)" = '0 5' ] || fail 'turns do not finish at a rest'
-[ "$(head -c 65537 /dev/zero | "$tmp/turns" 2>&1 >/dev/null)" = '-1 0' ] || fail 'turns over a text that is too long are not refused'
+[ "$(printf 'oh no\r\n' | "$tmp/turns" 2>&1 >/dev/null | tr '\n' /)" = 'oh no/0 5/' ] || fail 'turns do not finish at a rest'
+[ "$(head -c 65537 /dev/zero | "$tmp/turns" 2>&1 >/dev/null | tr '\n' /)" = '/-1 0/' ] ||
+    fail 'turns over a text that is too long are not refused'
 
 # make sheet prints the same tokens as numbers
 make -s sheet >"$tmp/listed" || fail 'make sheet'

@@ -17,6 +17,7 @@ mod reference;
 mod report;
 mod rewriting;
 mod round_trip;
+mod saving;
 mod sequences;
 mod turn_faults;
 mod turns;
@@ -94,7 +95,7 @@ impl Run {
             met: Met::new(),
             tried: Tried::default(),
             laws: Laws::default(),
-            turns: sequences::Tried::default(),
+            turns: sequences::Tried { planted: plant, ..sequences::Tried::default() },
         }
     }
 
@@ -316,11 +317,12 @@ pub fn main() {
     if repeated == 0 || same == 0 {
         missing.push("a book to be rewritten".to_string());
     }
-    let sequences::Tried { extended, sequences, turns, idle } = turns;
+    let sequences::Tried { extended, sequences, turns, idle, saves, .. } = turns;
     println!(
-        "turns: {extended} that a larger budget extends; {sequences} times to the finish, in {turns} turns, {idle} of them idle"
+        "turns: {extended} that a larger budget extends; {sequences} times to the finish, in {turns} turns, {idle} of them idle; \
+         {saves} times saved before it"
     );
-    if extended == 0 || turns == sequences || idle == 0 {
+    if extended == 0 || turns == sequences || idle == 0 || saves == 0 {
         missing.push("a text that takes several turns".to_string());
     }
     let numbers: BTreeSet<u8> = met.keys().map(|(_, n)| *n).filter(|n| *n > 0).collect();

@@ -121,9 +121,11 @@ pub enum Fault {
     HalfABudget,
     /// The high half of a place plays no part.
     HalfAPlace,
+    /// Saved is what the last turn gave.
+    LastTurnAlone,
 }
 
-pub const FAULTS: [Fault; 56] = [
+pub const FAULTS: [Fault; 57] = [
     Fault::Tie,
     Fault::Need,
     Fault::PastTheCount,
@@ -180,6 +182,7 @@ pub const FAULTS: [Fault; 56] = [
     Fault::RoomForTheCut,
     Fault::HalfABudget,
     Fault::HalfAPlace,
+    Fault::LastTurnAlone,
 ];
 
 impl Fault {
@@ -241,6 +244,7 @@ impl Fault {
             Fault::RoomForTheCut => "room-for-the-cut",
             Fault::HalfABudget => "half-a-budget",
             Fault::HalfAPlace => "half-a-place",
+            Fault::LastTurnAlone => "last-turn-alone",
         }
     }
 
@@ -317,6 +321,8 @@ pub fn run(fault: Option<Fault>, library: &mut Library, call: &Call, against: Ag
         Fault::HalfAPlace => {
             turn_faults::by_others(library, call, against, sound, |place, budget| (place & 0xFFFF_FFFF, budget))?
         }
+        // in the calls that save, which sequences makes
+        Fault::LastTurnAlone => sound,
     })
 }
 

@@ -1,19 +1,25 @@
 //! What must hold of the library's turns among themselves and beside its single cut (document 02, wish 1). Of each accepted turn are
-//! tried: other bytes outside what it may examine, a smaller budget, larger ones, and turns from its place to the finish.
+//! tried: other bytes outside what it may examine, a smaller budget, larger ones, and turns from its place to the finish, with saving
+//! after each of them.
 
 use crate::calls::{Answer, Call, Operation, Outcome};
 use crate::library::{Against, Library};
+use crate::plant::Fault;
 use crate::random::Random;
 use crate::reference::{self, MASK_BYTES, RECORD_BYTES};
+use crate::saving;
 
 /// How many turns a larger budget gave more tokens; how often turns were repeated to the finish, in how many turns, and how many of
-/// these gave no token and were not finished.
+/// these gave no token and were not finished; how often tokens were saved before the finish.
 #[derive(Clone, Copy, Default)]
 pub struct Tried {
     pub extended: u64,
     pub sequences: u64,
     pub turns: u64,
     pub idle: u64,
+    pub saves: u64,
+    /// A fault of saving.
+    pub planted: Option<Fault>,
 }
 
 impl Tried {
@@ -22,6 +28,7 @@ impl Tried {
         self.sequences += other.sequences;
         self.turns += other.turns;
         self.idle += other.idle;
+        self.saves += other.saves;
     }
 
     /// Says how the library breaks a law with a turn that leaves `outcome` by the library and the second alike.
@@ -75,7 +82,12 @@ impl Tried {
             } else {
                 budget = r.from(0, scale) as u64;
             }
+            if self.planted == Some(Fault::LastTurnAlone) {
+                all.records.clear();
+            }
             all.append(one);
+            saving::check(library, call, &all.records, place..all.next as usize, r)?;
+            self.saves += (all.tokens > 0 && !all.finished) as u64;
         }
         self.sequences += 1;
         if all != unlimited {

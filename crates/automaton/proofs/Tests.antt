@@ -57,6 +57,10 @@ pub all-append : {A : Type 0} (P : A → Type 0) (xs ys : List A) → All P xs �
 all-append P [] ys h g = g
 all-append P (x ∷ xs) ys (p, h) g = (p, all-append P xs ys h g)
 
+pub all-left : {A : Type 0} (P : A → Type 0) (xs ys : List A) → All P (xs ++ ys) → All P xs
+all-left P [] ys h = tt
+all-left P (x ∷ xs) ys (p, h) = (p, all-left P xs ys h)
+
 pub all-right : {A : Type 0} (P : A → Type 0) (xs ys : List A) → All P (xs ++ ys) → All P ys
 all-right P [] ys h = h
 all-right P (x ∷ xs) ys h = all-right P xs ys (h .1)

@@ -1,19 +1,16 @@
 -- The table while a book is read: a final state more, a transition more, a rule closed. Assumes nothing.
 use mathlib.Core.Path.{_≡_, refl, sym, _∙_}
-use mathlib.Core.Bool.{Bool, true, false}
 use mathlib.Core.Logic.{inl}
 use mathlib.Core.List.{List, [], _∷_, _++_}
-use Prim.Native.Nat.{ℕ, _+_, _*_, _%_, _<_, _≤_}
+use Prim.Native.Nat.{ℕ, _+_, _%_, _<_, _≤_}
 use native.Mathlib.Omega.{arith}
-use lib.Dec.{eqb}
 use lib.ListN.{length, getD, set, length-set, length-append, List·getD-append}
 use lib.Seq.{getD-set-same, getD-set-other, getD-at}
-use borrow.Author.Tests.{eqb-true, eqb-false}
 use borrow.Author.Count.{below-more}
 use Rattle.automaton.specs.Rule.{Transition, Rule, stateCount}
 use Rattle.automaton.specs.Contracts.{edgeStart, namePlace, bodyPlace, nameWord, bodyWord, startOf, firstOf, endOf, bareSpot, edgeWord}
 use Rattle.automaton.specs.Contracts.{startWord, countAt, nameAt, bodyAt, edgeAt}
-use Rattle.automaton.specs.Contracts.{stampAt, rowWord, headIn, cellAt, blank, ruleAt, Chain, Within, Table, Settles}
+use Rattle.automaton.specs.Contracts.{rowWord, headIn, cellAt, blank, ruleAt, Chain, Within, Table, Settles}
 use Rattle.automaton.proofs.Built.{stamp-set, built-edge, built-final, built-blank, built-cells, built-start, built-body, built-order}
 use Rattle.automaton.proofs.Built.{Keeps, keeps-agrees, opens-agrees, body-keeps, table-keeps}
 use Rattle.book.specs.Limits.{maxRules}

@@ -1,7 +1,7 @@
 -- A proof of each demand (Demands), and what these rest on: `lex` goes by longest match (LongestMatch), what the printers accept, in
 -- the words of the demands (Separable, Spacing), a list in every form (Forms), what stands in the lent buffers (Untouched), how many
 -- separators a list wants (Gaps, Fewest), what becomes of STEP (Rewriting), which states there are (Widths), which rules agree on a
--- token (Masks), and what turns give (Turns).
+-- token (Masks), what turns give (Turns), and that it can be saved between them (Saving).
 pub mod LongestMatch
 pub mod Separable
 pub mod Forms
@@ -14,3 +14,4 @@ pub mod Rewriting
 pub mod Widths
 pub mod Masks
 pub mod Turns
+pub mod Saving

@@ -1,38 +1,32 @@
 -- Every rule that agreed: a cut with masks is the cut without them, and its masks say what they are to say. Assumes nothing.
 use mathlib.Core.Path.{_≡_, refl, sym, ap, _∙_, subst}
 use mathlib.Core.Logic.{_⊎_, inl, inr}
-use mathlib.Core.Bool.{true, false}
-use mathlib.Core.List.{List, [], _∷_, _++_, map}
-use Prim.Native.Nat.{ℕ, zero, suc, _+_, _*_, _^_, _<_, _≤_}
+use mathlib.Core.Bool.{false}
+use mathlib.Core.List.{List, [], _∷_, _++_}
+use Prim.Native.Nat.{ℕ, _+_, _*_, _^_, _<_, _≤_}
 use native.Mathlib.Nat.{pow-le-pow-right}
 use native.Mathlib.Omega.{arith}
-use lib.ListN.{length, getD, drop, length-append, length-map, List·getD-append}
+use lib.ListN.{length, drop, length-append, length-map, List·getD-append}
 use lib.Seq.{drop-at, getD-append-seam}
-use Rattle.answer.specs.declared.Refusal.{Refusal}
-use Rattle.answer.specs.declared.LexAnswer.{LexAnswer}
 use Rattle.big_endian.specs.Numbers.{fourAt}
 use Rattle.automaton.specs.Rule.{Rule, matches}
 use Rattle.automaton.specs.Contracts.{blank, ruleAt}
 use Rattle.automaton.proofs.Tests.{all-at}
-use Rattle.book.specs.Limits.{maxText}
-use Rattle.reader.specs.Reading.{readBook, accepted}
 use Rattle.longest_match.specs.Lexer.{Token, lex, Alone}
-use Rattle.longest_match.specs.Masks.{bit, bitAt, agreeing, masksOf}
-use Rattle.longest_match.proofs.First.{Earliest, earliest}
+use Rattle.longest_match.specs.Masks.{bit, agreeing, masksOf}
+use Rattle.longest_match.proofs.First.{earliest}
 use Rattle.longest_match.proofs.Lexing.{Cuts, lexed-cuts}
 use Rattle.longest_match.proofs.Agreeing.{agreeing-bit, agreeing-past, agreeing-below}
 use Rattle.record.specs.Masks.{maskBytes, maskCount, FitsMask}
 use Rattle.record.proofs.Masks.{length-mask-bytes, mask-at}
 use Rattle.lexer.specs.Outcome.{lexOutcome}
 use Rattle.lexer.specs.Masked.{maskedOutcome}
-use Rattle.lexer.specs.Contracts.{LexAnswered}
 use Rattle.lexer.proofs.ByRules.{roomIn, answered-few}
 use Rattle.lexer.proofs.Masking.{Refuses, masked-same, masked-refused, masked-lexed}
 use Rattle.printer.proofs.RoundTrip.{same-rules, lexed-cut}
 use Rattle.zagvulem.proofs.Refused.{LexWithin, masked-within}
-use Rattle.demands.specs.Calls.{Form, Lent, recordsIn, countIn, firstIn, listIn, maskBytesIn, maskCountIn, maskIn, Cut, MaskedCut}
-use Rattle.demands.specs.Words.{Book}
-use Rattle.demands.specs.Masks.{MasksEnough, MaskedIsCut, AcceptedIsCut, TooFew, RefusedMasked, PastTheMasks}
+use Rattle.demands.specs.Calls.{recordsIn, countIn, maskBytesIn, maskCountIn, maskIn}
+use Rattle.demands.specs.Masks.{MaskedIsCut, AcceptedIsCut, TooFew, RefusedMasked, PastTheMasks}
 use Rattle.demands.specs.Masks.{Agreement, Lowest, Hidden, MasksAgree}
 use Rattle.demands.proofs.Forms.{count-in, same-in, mask-count-in, mask-number-in, past-masks-in, typed-past-masks, same-masks}
 use Rattle.demands.proofs.Untouched.{cut-leaves}

@@ -4,47 +4,45 @@ use mathlib.Core.Logic.{_⊎_, inl, inr}
 use mathlib.Core.Bool.{Bool, true, false}
 use mathlib.Core.Option.{none}
 use mathlib.Core.List.{List, [], _∷_, _++_, append-assoc, append-nil}
-use Prim.Native.Nat.{ℕ, zero, suc, _+_, _-_, _*_, _<_, _≤_}
-use native.Mathlib.Nat.{add-assoc, add-zero}
+use Prim.Native.Nat.{ℕ, _+_, _-_, _*_, _<_, _≤_}
 use native.Mathlib.Omega.{arith}
 use lib.Dec.{ltb}
 use lib.ListN.{length, take, drop, length-append, length-drop, length-map}
 use lib.Seq.{take-at, drop-at, drop-drop, take-take}
 use borrow.Author.Tests.{lt-ltb, le-ltb, ltb-false, eq-eqb}
 use Rattle.answer.specs.declared.Refusal.{Refusal}
-use Rattle.answer.specs.declared.TurnAnswer.{TurnAnswer}
 use Rattle.automaton.specs.Choice.{if, All}
-use Rattle.automaton.specs.Rule.{Rule, walk, Sound, stateCount}
-use Rattle.automaton.proofs.Tests.{clash, all-map}
+use Rattle.automaton.specs.Rule.{Rule, Sound, stateCount}
+use Rattle.automaton.proofs.Tests.{clash, all-map, all-left}
 use Rattle.book.specs.Limits.{maxText}
 use Rattle.book.specs.Valid.{ValidRule}
 use Rattle.reader.specs.Reading.{Reading, accepted, refused, readBook}
 use Rattle.longest_match.specs.Lexer.{Token, Lexed, choose, lex, join}
 use Rattle.longest_match.specs.Masks.{masksOf}
 use Rattle.longest_match.proofs.Choosing.{choose-none, chosen-drop}
-use Rattle.longest_match.proofs.Lexing.{lex-tags}
+use Rattle.longest_match.proofs.Lexing.{join-append, lex-tags}
 use Rattle.longest_match.proofs.Parts.{part-front, part-bytes}
 use Rattle.longest_match.proofs.Cutting.{lex-stop}
 use Rattle.record.specs.Records.{recordsAt, recordCount}
 use Rattle.record.specs.Tokens.{tokensOf}
 use Rattle.record.specs.Masks.{maskBytes, maskCount}
-use Rattle.record.proofs.Records.{length-records}
+use Rattle.record.proofs.Records.{length-records, records-append}
 use Rattle.record.proofs.Masks.{length-mask-bytes}
 use Rattle.lexer.proofs.Masking.{masked-lexed}
 use Rattle.turns.specs.Reach.{allFail, reach}
 use Rattle.turns.specs.Turn.{Turn, turn}
 use Rattle.turns.specs.Outcome.{TurnOutcome, turnRefused, turnAccepted, roomIn, turnRules, turnReading, turnOutcome}
-use Rattle.turns.proofs.Reaching.{all-fail, each-fails, reach-fewest}
+use Rattle.turns.proofs.Reaching.{each-fails, reach-fewest}
 use Rattle.turns.proofs.Turning.{by-ways, turn-ends, turn-begins, turn-larger, Begins, Larger}
 use Rattle.turns.proofs.Alike.{Agree, Same, turn-alike}
 use Rattle.printer.proofs.ReadBack.{Storable, records-say}
 use Rattle.printer.proofs.RoundTrip.{same-rules, lexed-cut}
 use Rattle.zagvulem.proofs.Refused.{turn-refused}
-use Rattle.demands.specs.Calls.{Form, Lent, recordsIn, firstIn, listIn, maskBytesIn, Cut, MaskedCut, Turning}
+use Rattle.demands.specs.Calls.{recordsIn, maskBytesIn, Cut, Turning}
 use Rattle.demands.specs.Words.{Book, LongestMatch}
-use Rattle.demands.specs.Turns.{AllStopped, ReachOf, ReachIsFewest, RefusedTurn, PastTheTurn, TurnTooLong, PlacePastText, TurnTooFew}
+use Rattle.demands.specs.Turns.{AllStopped, ReachIsFewest, RefusedTurn, PastTheTurn, TurnTooLong, PlacePastText, TurnTooFew}
 use Rattle.demands.specs.Turns.{TurnIsAccepted, reaches, Says, listOf, TurnSays, LargerExtends, LooksNoFurther, Taken, FromTo, Finish}
-use Rattle.demands.specs.Turns.{given, agreed, TurnsBegin, TurnsAreLongestMatch, TurnsAreCut, TurnsKept, EveryTurn}
+use Rattle.demands.specs.Turns.{given, agreed, TurnsBegin, TurnsAreLongestMatch, TurnsAreCut, EveryTurn}
 use Rattle.demands.proofs.LongestMatch.{lex-longest}
 use Rattle.demands.proofs.Demands.{valid, tokens-are}
 use Rattle.demands.proofs.Masks.{accepted-is-cut}
@@ -102,19 +100,20 @@ module _ (book text : List ℕ) (place budget : ℕ) (entry masks : List ℕ) wh
           (ltb (roomIn entry masks) (length ((turn rules (drop place text) budget) .tokens))) q
 
   -- accepted, it is the turn by the book's rules
-  record Accepted (n next examined : ℕ) (finished : Bool) : Type 0 where
-    rules : List Rule
-    reads : readBook book ≡ accepted rules
-    short : length text ≤ maxText
-    inside : place ≤ length text
-    count : n ≡ length ((turn rules (drop place text) budget) .tokens)
-    next-is : next ≡ length text - length ((turn rules (drop place text) budget) .rest)
-    examined-is : examined ≡ (turn rules (drop place text) budget) .examined
-    finished-is : finished ≡ (turn rules (drop place text) budget) .finished
-    leaves-records : outcome .records
+  pub record Accepted (n next examined : ℕ) (finished : Bool) : Type 0 where
+    pub rules : List Rule
+    pub reads : readBook book ≡ accepted rules
+    pub short : length text ≤ maxText
+    pub inside : place ≤ length text
+    pub enough : length ((turn rules (drop place text) budget) .tokens) ≤ roomIn entry masks
+    pub count : n ≡ length ((turn rules (drop place text) budget) .tokens)
+    pub next-is : next ≡ length text - length ((turn rules (drop place text) budget) .rest)
+    pub examined-is : examined ≡ (turn rules (drop place text) budget) .examined
+    pub finished-is : finished ≡ (turn rules (drop place text) budget) .finished
+    pub leaves-records : outcome .records
         ≡ recordsAt place ((turn rules (drop place text) budget) .tokens)
         ++ drop (10 * length ((turn rules (drop place text) budget) .tokens)) entry
-    leaves-masks : outcome .masks
+    pub leaves-masks : outcome .masks
         ≡ maskBytes (masksOf rules ((turn rules (drop place text) budget) .tokens))
         ++ drop (4 * length ((turn rules (drop place text) budget) .tokens)) masks
 
@@ -150,7 +149,8 @@ module _ (book text : List ℕ) (place budget : ℕ) (entry masks : List ℕ) wh
           (ltb (roomIn entry masks) (length ((turn rules (drop place text) budget) .tokens))) refl q in
           let l : length text ≤ maxText = ltb-false _ _ (p .0) in
           let i : place ≤ length text = ltb-false _ _ (p .1) in
-          let o = accepts rules r l i (ltb-false _ _ (p .2)) in
+          let m : length ((turn rules (drop place text) budget) .tokens) ≤ roomIn entry masks = ltb-false _ _ (p .2) in
+          let o = accepts rules r l i m in
           let a : turned.Turned n next examined finished
           ≡ (turnAccepted rules (turn rules (drop place text) budget) text place entry masks) .answer =
           sym e ∙ ap (λ (x : TurnOutcome). x.answer) o in
@@ -159,6 +159,7 @@ module _ (book text : List ℕ) (place budget : ℕ) (entry masks : List ℕ) wh
             reads = r;
             short = l;
             inside = i;
+            enough = m;
             count = cc;
             next-is = cc;
             examined-is = cc;
@@ -231,14 +232,7 @@ turn-sum rules = by-ways rules (λ text left t. t.examined ≡ reaches rules tex
     (λ text left l e. omega arith)
     (λ text left f l e t sum. rw (← (chosen-drop rules text f e)) (omega (arith, sum)))
 
--- lists one behind the other
-records-append : (place : ℕ) (ts us : List Token)
-    → recordsAt place (ts ++ us) ≡ recordsAt place ts ++ recordsAt (place + length (join ts)) us
-unfolding recordsAt
-records-append place [] us = rw add-zero
-records-append place (t ∷ ts) us =
-    rw (records-append (place + length t.bytes) ts us, append-assoc, length-append, add-assoc)
-
+-- masks one behind the other
 masks-append : (rules : List Rule) (ts us : List Token)
     → maskBytes (masksOf rules (ts ++ us)) ≡ maskBytes (masksOf rules ts) ++ maskBytes (masksOf rules us)
 unfolding maskBytes
@@ -256,23 +250,27 @@ module _ (text : List ℕ) (place : ℕ) (inside : place ≤ length text) (ts : 
       let e : length text - length rest ≡ place + length (join ts) = omega (arith, lengths) in
       rw (e, ← (drop-drop (length (join ts)) place text), ← joined) (drop-at (join ts) rest (length (join ts)) refl)
 
-all-first : {A : Type 0} (P : A → Type 0) (xs ys : List A) → All P (xs ++ ys) → All P xs
-all-first P [] ys h = tt
-all-first P (x ∷ xs) ys (p, h) = (p, all-first P xs ys h)
-
 module _ (book : List ℕ) (rules : List Rule) (b : Book book rules) where
+  -- the tags of the first tokens of a cut can be stored
+  pub first-tags : (text : List ℕ) (ts us : List Token) → (lex rules text) .tokens ≡ ts ++ us → All (λ (t : Token). t.tag < 65536) ts
+  first-tags text ts us e =
+      all-left (λ (t : Token). t.tag < 65536) ts us
+      (subst (All (λ (t : Token). t.tag < 65536)) e
+      (lex-tags (λ (x : ℕ). x < 65536) rules
+      (all-map ValidRule _ (λ r h. h .tag-below) rules (valid book rules b .rules-valid .each)) text))
+
   module _ {text : List ℕ} {place budget : ℕ} {entry exit masks after : List ℕ} {n next examined : ℕ} {finished : Bool}
       (c : Turning book text place budget entry exit masks after (turned.Turned n next examined finished)) where
-    acc : Accepted book text place budget entry masks n next examined finished
+    pub acc : Accepted book text place budget entry masks n next examined finished
     acc = taken book text place budget entry masks n next examined finished (sym (c .answers))
 
-    abbrev here : Turn
+    abbrev pub here : Turn
     here = turn rules (drop place text) budget
 
     same : acc .rules ≡ rules
     same = same-rules book (acc .reads) (b .reads)
 
-    count : n ≡ length (here .tokens)
+    pub count : n ≡ length (here .tokens)
     count = acc .count ∙ ap (λ (rs : List Rule). length ((turn rs (drop place text) budget) .tokens)) same
 
     begins : Begins rules (drop place text) here
@@ -291,7 +289,7 @@ module _ (book : List ℕ) (rules : List Rule) (b : Book book rules) where
     finished-is = acc .finished-is ∙ ap (λ (rs : List Rule). (turn rs (drop place text) budget) .finished) same
 
     -- what is stored
-    records-are : take (10 * n) exit ≡ recordsAt place (here .tokens)
+    pub records-are : take (10 * n) exit ≡ recordsAt place (here .tokens)
     records-are =
         let ts = (turn (acc .rules) (drop place text) budget) .tokens in
         ap (take (10 * n)) (c .leaves ∙ acc .leaves-records)
@@ -308,26 +306,30 @@ module _ (book : List ℕ) (rules : List Rule) (b : Book book rules) where
 
     storable : Storable (here .tokens) place (here .rest) text
     storable = record {
-      tags = all-first (λ (t : Token). t.tag < 65536) (here .tokens) ((lex rules (here .rest)) .tokens)
-          (subst (All (λ (t : Token). t.tag < 65536)) (begins .tokens-first)
-          (lex-tags (λ (x : ℕ). x < 65536) rules
-          (all-map ValidRule _ (λ r h. h .tag-below) rules (valid book rules b .rules-valid .each)) (drop place text)));
+      tags = first-tags (drop place text) (here .tokens) ((lex rules (here .rest)) .tokens) (begins .tokens-first);
       short = acc .short;
       inside = acc .inside;
       joins = begins .joined;
     }
 
-    list-is : listOf n exit text ≡ here .tokens
+    pub list-is : listOf n exit text ≡ here .tokens
     list-is =
         ap (λ (x : List ℕ). tokensOf x text) records-are ∙ records-say (here .tokens) place (here .rest) text storable
 
+    -- the slice of records is as long as it was
+    pub same-long : length exit ≡ length entry
+    same-long =
+        let ts = (turn (acc .rules) (drop place text) budget) .tokens in
+        ap length (c .leaves ∙ acc .leaves-records) ∙ length-append (recordsAt place ts) _
+        ∙ omega (arith, length-records ts place, length-drop (10 * length ts) entry, acc .enough)
+
     -- the place lies before the next one
-    bounds : (place ≤ next) × (next ≤ length text)
+    pub bounds : (place ≤ next) × (next ≤ length text)
     bounds =
         let l = lengths text place (acc .inside) (here .tokens) (here .rest) (begins .joined) in
         (omega (arith, next-is, l), omega (arith, next-is, l))
 
-    ends-at : next ≡ place + length (join (here .tokens))
+    pub ends-at : next ≡ place + length (join (here .tokens))
     ends-at = omega (arith, next-is, lengths text place (acc .inside) (here .tokens) (here .rest) (begins .joined))
 
     says : Says rules text place budget (here .tokens) next examined finished
@@ -462,18 +464,20 @@ module _ (book : List ℕ) (rules : List Rule) (b : Book book rules) where
   -- ---- turns one after the other
 
   -- the cut from a place on begins with what the turns give
-  record Given (text : List ℕ) (place : ℕ) (ts : List Taken) (last : ℕ) : Type 0 where
-    tokens-first : (lex rules (drop place text)) .tokens ≡ given ts text ++ (lex rules (drop last text)) .tokens
-    same-rest : (lex rules (drop place text)) .rest ≡ (lex rules (drop last text)) .rest
-    masks : agreed ts ≡ maskBytes (masksOf rules (given ts text))
+  pub record Given (text : List ℕ) (place : ℕ) (ts : List Taken) (last : ℕ) : Type 0 where
+    pub joined : join (given ts text) ++ drop last text ≡ drop place text
+    pub tokens-first : (lex rules (drop place text)) .tokens ≡ given ts text ++ (lex rules (drop last text)) .tokens
+    pub same-rest : (lex rules (drop place text)) .rest ≡ (lex rules (drop last text)) .rest
+    pub masks : agreed ts ≡ maskBytes (masksOf rules (given ts text))
 
-  gives : (text : List ℕ) (place : ℕ) (ts : List Taken) (last : ℕ) → FromTo book text place ts last → Given text place ts last
+  pub gives : (text : List ℕ) (place : ℕ) (ts : List Taken) (last : ℕ) → FromTo book text place ts last → Given text place ts last
   unfolding maskBytes
-  gives text place [] last e = record { tokens-first = rw e; same-rest = rw e; masks = refl }
+  gives text place [] last e = record { joined = rw e; tokens-first = rw e; same-rest = rw e; masks = refl }
   gives text place (t ∷ ts) last (c, h) =
       let g = gives text (t .next) ts last h in
       let b₁ = begins c in
       record {
+        joined = rw (list-is c, join-append, append-assoc, g .joined, rest-is c) (b₁ .joined);
         tokens-first = b₁ .tokens-first ∙ rw (← (rest-is c), g .tokens-first, list-is c, append-assoc);
         same-rest = b₁ .same-rest ∙ rw (← (rest-is c)) (g .same-rest);
         masks = rw (masks-are c, g .masks, list-is c) (sym (masks-append rules ((here c) .tokens) (given ts text)));

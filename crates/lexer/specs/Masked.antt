@@ -12,7 +12,7 @@ use Rattle.reader.specs.Reading.{Reading, accepted, refused, readBook}
 use Rattle.longest_match.specs.Lexer.{lex}
 use Rattle.longest_match.specs.Masks.{masksOf}
 use Rattle.record.specs.Masks.{maskBytes, maskCount}
-use Rattle.lexer.specs.Outcome.{LexOutcome, lexRules}
+use Rattle.lexer.specs.Outcome.{lexRules}
 use Rattle.answer.specs.declared.LexAnswer.the-variants as answer
 
 -- the answer, and what the lent records and masks hold afterwards

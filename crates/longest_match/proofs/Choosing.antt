@@ -105,6 +105,15 @@ extends-false rules w (b ∷ after) e (suc (suc n)) p l =
     (extends-false rules (w ++ (b ∷ [])) after ((or-false (isSome (firstMatch rules (w ++ (b ∷ [])))) _ e) .1) (suc n) (omega arith)
         (omega arith))
 
+-- what is not read on into some bytes is not read on into the first of them
+pub extends-front : (rules : List Rule) (w after behind : List ℕ) → extends rules w (after ++ behind) ≡ false
+    → extends rules w after ≡ false
+unfolding extends
+extends-front rules w [] behind e = refl
+extends-front rules w (b ∷ after) behind e =
+    let h = or-false (isSome (firstMatch rules (w ++ (b ∷ [])))) _ e in
+    rw (h .0) (extends-front rules (w ++ (b ∷ [])) after behind (h .1))
+
 -- some rule matches w with the bytes `first ∷ more` after it
 pub record Longer (rules : List Rule) (w after : List ℕ) : Type 0 where
   pub first : ℕ

@@ -1,7 +1,7 @@
 -- How far the rules walk over a text, a rule after the other, and what a part of the text says of the whole. Assumes nothing.
 use mathlib.Core.Path.{_≡_, refl, sym, _∙_, subst}
 use mathlib.Core.List.{List}
-use Prim.Native.Nat.{ℕ, zero, suc, _+_, _-_, _<_, _≤_, max}
+use Prim.Native.Nat.{ℕ, zero, suc, _+_, _-_, _<_, _≤_}
 use native.Mathlib.Omega.{arith, max-cases}
 use lib.ListN.{length, take}
 use lib.Seq.{take-take, length-take-le, ext-getD}

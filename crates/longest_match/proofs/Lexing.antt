@@ -2,7 +2,7 @@
 use mathlib.Core.Path.{_≡_, refl, sym, ap, _∙_, subst}
 use mathlib.Core.Bool.{false}
 use mathlib.Core.Option.{Option, none, some}
-use mathlib.Core.List.{List, [], _∷_, _++_, append-assoc, append-nil}
+use mathlib.Core.List.{List, [], _∷_, _++_, append-assoc}
 use Prim.Native.Nat.{ℕ, zero, suc, _+_, _-_, _≤_, _<_}
 use native.Mathlib.Omega.{arith}
 use lib.ListN.{length, drop, length-append}
@@ -13,7 +13,7 @@ use Rattle.automaton.proofs.Tests.{all-middle}
 use Rattle.longest_match.specs.Lexer.{Token, Found, Lexed, firstMatch, chooseWithin, choose, proceed, lexFor, lex, join}
 use Rattle.longest_match.specs.Lexer.{extends, Alone, Printable}
 use Rattle.longest_match.proofs.First.{earliest}
-use Rattle.longest_match.proofs.Choosing.{choose-at, chosen-splits, chosen-shorter, choose-some}
+use Rattle.longest_match.proofs.Choosing.{choose-at, chosen-splits, chosen-shorter, choose-some, extends-front}
 
 -- ---- the lexer unfolds: nobody opens its definition again
 
@@ -96,7 +96,7 @@ printed-lexes rules [] e h = refl
 printed-lexes rules (t ∷ ts) e (a, x, h) =
     rw (lex-unfolds rules (t.bytes ++ join ts), choose-at rules t.bytes (join ts) t.tag e a x, printed-lexes rules ts e h)
 
--- ---- what is cut without a rest can be printed
+-- ---- what is cut can be printed, with a rest or without
 
 -- every token is cut as itself, and none is read on into those after it and the rest
 abbrev pub Cuts : List Rule → List Token → List ℕ → Type 0
@@ -133,17 +133,19 @@ pub lex-tags : (P : ℕ → Type 0) (rules : List Rule) → All (λ (r : Rule). 
     → All (λ (t : Token). P t.tag) ((lex rules text) .tokens)
 lex-tags P rules h text = cuts-tags P rules h ((lex rules text) .tokens) ((lex rules text) .rest) (lexed-cuts rules text)
 
-cuts-printable : (rules : List Rule) (ts : List Token) → Cuts rules ts [] → Printable rules ts
-cuts-printable rules [] c = tt
-cuts-printable rules (t ∷ ts) (a, stops, c) = (a, rw append-nil at stops, cuts-printable rules ts c)
+cuts-printable : (rules : List Rule) (ts : List Token) (rest : List ℕ) → Cuts rules ts rest → Printable rules ts
+cuts-printable rules [] rest c = tt
+cuts-printable rules (t ∷ ts) rest (a, stops, c) =
+    (a, extends-front rules t.bytes (join ts) rest stops, cuts-printable rules ts rest c)
 
-pub lexed-printable : (rules : List Rule) (text : List ℕ) → (lex rules text) .rest ≡ [] → Printable rules ((lex rules text) .tokens)
-lexed-printable rules text z =
-    cuts-printable rules ((lex rules text) .tokens) (subst (Cuts rules ((lex rules text) .tokens)) z (lexed-cuts rules text))
+pub lexed-printable : (rules : List Rule) (text : List ℕ) → Printable rules ((lex rules text) .tokens)
+lexed-printable rules text = cuts-printable rules ((lex rules text) .tokens) ((lex rules text) .rest) (lexed-cuts rules text)
 
-pub lexed-whole : (rules : List Rule) (text : List ℕ) (ts : List Token) → lex rules text ≡ record { tokens = ts; rest = [] }
-    → Printable rules ts × (join ts ≡ text)
-lexed-whole rules text ts e = ((rw e at (lexed-printable rules text)) refl, rw (e, append-nil) at (joins rules text))
+-- the beginning of a list that can be printed can be printed
+pub printable-first : (rules : List Rule) (ts us : List Token) → Printable rules (ts ++ us) → Printable rules ts
+printable-first rules [] us p = tt
+printable-first rules (t ∷ ts) us (a, stops, p) =
+    (a, extends-front rules t.bytes (join ts) (join us) (rw (join-append ts us) at stops), printable-first rules ts us p)
 
 -- ---- different lists are printed differently
 

@@ -11,7 +11,7 @@ use lib.ListN.{length, take, drop}
 use borrow.Author.Tests.{lt-ltb, le-ltb, ltb-true, ltb-false}
 use Rattle.answer.specs.declared.Refusal.{Refusal}
 use Rattle.answer.specs.declared.PrintAnswer.{PrintAnswer}
-use Rattle.output.specs.Outcome.{PrintOutcome, printAccepted, refusedIf, unless, written, writtenUpTo}
+use Rattle.output.specs.Outcome.{PrintOutcome, printRefused, printAccepted, refusedIf, unless, written, writtenUpTo}
 use Rattle.output.specs.Contracts.{PrintAnswered, WritesOut}
 use Rattle.answer.specs.declared.PrintAnswer.the-variants as answer
 
@@ -27,6 +27,15 @@ module _ (bytes out : List ℕ) {total : ℕ} (e : total ≡ length bytes) where
       → PrintAnswered (written bytes out) (answer.Printed total) exit
   unfolding refusedIf
   written-whole l p = rw (← e, le-ltb _ _ l) (record { answer = refl; out = p })
+
+  -- the whole outcome
+  pub written-lacks : length out < total → written bytes out ≡ printRefused 22 total out
+  unfolding refusedIf
+  written-lacks l = rw (← e, lt-ltb _ _ l)
+
+  pub written-fits : total ≤ length out → written bytes out ≡ printAccepted bytes out
+  unfolding refusedIf
+  written-fits l = rw (← e, le-ltb _ _ l)
 
   -- what `write` leaves of the bytes that stand in a scratch from `at` on
   pub written-out : (scratch : List ℕ) (at : ℕ) → take total (drop at scratch) ≡ bytes → {r : PrintAnswer} {exit : List ℕ}

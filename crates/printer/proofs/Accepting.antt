@@ -26,43 +26,39 @@ use Rattle.token_list.specs.Checks.{refuse, refuseBy, firstFault, firstExtended
 use Rattle.token_list.proofs.Alone.{alone-first, first-alone}
 use Rattle.token_list.proofs.Faulting.{fault-none, fine}
 use Rattle.token_list.proofs.Passes.{faultless-front}
-use Rattle.output.specs.Outcome.{PrintOutcome, printAccepted, refusedIf, unless}
-use Rattle.output.proofs.Written.{check-printed, unless-printed}
+use Rattle.output.specs.Outcome.{PrintOutcome, printAccepted, refusedIf, unless, written}
+use Rattle.output.proofs.Written.{written-fits, check-printed, unless-printed}
 use Rattle.printer.specs.Outcome.{printChecked, printRules, printReading, printOutcome}
 use Rattle.answer.specs.declared.PrintAnswer.the-variants as print
 
 -- ---- an accepted outcome passes each check
 
--- the tests of an accepted call
-pub record Passes (rules : List Rule) (records pool out : List ℕ) : Type 0 where
+-- the tests before 22
+pub record Passes (rules : List Rule) (records pool : List ℕ) : Type 0 where
   pub few : recordCount records ≤ maxTokens
   pub faultless : firstFault (faultOf rules pool) (recordsOf records) 0 ≡ none
   pub short : length (join (tokensOf records pool)) ≤ maxText
   pub apart : firstExtended rules (tokensOf records pool) 0 ≡ none
-  pub room : length (join (tokensOf records pool)) ≤ length out
 
-module _ {rules : List Rule} {records pool out : List ℕ} where
-  -- what passes them is accepted
-  pub passes-accepts : Passes rules records pool out → printRules rules records pool out ≡ printAccepted (join (tokensOf records pool)) out
+module _ (rules : List Rule) (records pool out : List ℕ) where
+  -- what passes them is written where there is room,
+  pub passes-written : Passes rules records pool → printRules rules records pool out ≡ written (join (tokensOf records pool)) out
   unfolding printRules printChecked refusedIf unless
-  passes-accepts p = rw (le-ltb _ _ (p .few), p .faultless, le-ltb _ _ (p .short), p .apart, le-ltb _ _ (p .room))
+  passes-written p = rw (le-ltb _ _ (p .few), p .faultless, le-ltb _ _ (p .short), p .apart)
 
   -- and nothing else
-  pub printed-passes : {n : ℕ} → (printRules rules records pool out) .answer ≡ print.Printed n → Passes rules records pool out
+  pub printed-passes : {n : ℕ} → (printRules rules records pool out) .answer ≡ print.Printed n
+      → Passes rules records pool × (length (join (tokensOf records pool)) ≤ length out)
   unfolding printRules printChecked
   printed-passes {n} e =
       let a = check-printed _ _ _ _ _ n e in
       let b = unless-printed _ _ _ n (a .1) in
       let c = check-printed _ _ _ _ _ n (b .1) in
       let d = unless-printed _ _ _ n (c .1) in
-      let f = check-printed _ _ _ _ _ n (d .1) in
-      record {
-        few = ltb-false _ _ (a .0);
-        faultless = b .0;
-        short = ltb-false _ _ (c .0);
-        apart = d .0;
-        room = ltb-false _ _ (f .0);
-      }
+      let f = check-printed _ _ _ _ _ n (d .1) in (
+        record { few = ltb-false _ _ (a .0); faultless = b .0; short = ltb-false _ _ (c .0); apart = d .0 },
+        ltb-false _ _ (f .0),
+      )
 
 -- ---- an accepted call, with the book
 
@@ -70,14 +66,14 @@ module _ {rules : List Rule} {records pool out : List ℕ} where
 pub record Accepts (book records pool out : List ℕ) (n : ℕ) : Type 0 where
   pub rules : List Rule
   pub reads : readBook book ≡ accepted rules
-  pub passes : Passes rules records pool out
+  pub passes : Passes rules records pool
   pub count : n ≡ length (join (tokensOf records pool))
   pub outcome : printOutcome book records pool out ≡ printAccepted (join (tokensOf records pool)) out
 
-pub book-accepts : (book records pool out : List ℕ) (rules : List Rule) → readBook book ≡ accepted rules → Passes rules records pool out
-    → printOutcome book records pool out ≡ printAccepted (join (tokensOf records pool)) out
+pub book-written : (book records pool out : List ℕ) (rules : List Rule) → readBook book ≡ accepted rules → Passes rules records pool
+    → printOutcome book records pool out ≡ written (join (tokensOf records pool)) out
 unfolding printOutcome
-book-accepts book records pool out rules e p = rw e (passes-accepts p)
+book-written book records pool out rules e p = rw e (passes-written rules records pool out p)
 
 pub printed-accepts : (book records pool out : List ℕ) (n : ℕ) → (printOutcome book records pool out) .answer ≡ print.Printed n
     → Accepts book records pool out n
@@ -87,10 +83,10 @@ printed-accepts book records pool out n e = go (readBook book) refl e
     go : (o : Reading) → readBook book ≡ o → (printReading o records pool out) .answer ≡ print.Printed n → Accepts book records pool out n
     go (refused number place) q z = let y : _≡_ {A = ℕ} 0 1 = cc in absurd (omega arith)
     go (accepted rules) q z =
-        let p = printed-passes z in
-        let o = book-accepts book records pool out rules q p in
-        let y = sym z ∙ ap (λ (x : PrintOutcome). x.answer) (passes-accepts p) in
-        record { rules = rules; reads = q; passes = p; count = cc; outcome = o }
+        let p = printed-passes rules records pool out z in
+        let o = book-written book records pool out rules q (p .0) ∙ written-fits (join (tokensOf records pool)) out refl (p .1) in
+        let y = sym e ∙ ap (λ (x : PrintOutcome). x.answer) o in
+        record { rules = rules; reads = q; passes = p .0; count = cc; outcome = o }
 
 -- the bytes written are the tokens' bytes joined
 pub written-joins : (book records pool out : List ℕ) (n : ℕ) → (printOutcome book records pool out) .answer ≡ print.Printed n
@@ -150,7 +146,6 @@ printable-faultless rules pool (r ∷ rs) k d (i, is) (a, x, p) =
     let z = fault-none rules pool r (i .in-pool) (alone-tagged rules (r .tag) (bytesIn pool r) l) l in
     rw z (printable-faultless rules pool rs (suc k) d is p)
 
-pub passes-printable : {rules : List Rule} {records pool out : List ℕ} → Passes rules records pool out
-    → Printable rules (tokensOf records pool)
+pub passes-printable : {rules : List Rule} {records pool : List ℕ} → Passes rules records pool → Printable rules (tokensOf records pool)
 passes-printable {rules} {records} {pool} p =
     apart-printable rules (tokensOf records pool) 0 (faultless-alone rules pool (recordsOf records) 0 (p .faultless)) (p .apart)

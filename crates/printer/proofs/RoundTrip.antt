@@ -25,9 +25,10 @@ use Rattle.record.specs.Records.{recordsAt, recordCount}
 use Rattle.record.proofs.Records.{length-records}
 use Rattle.record.specs.Tokens.{recordsOf, tokensOf, InPool}
 use Rattle.lexer.specs.Outcome.{LexOutcome, lexAccepted, lexRules, lexReading, lexOutcome}
-use Rattle.output.specs.Outcome.{PrintOutcome, printAccepted}
+use Rattle.output.specs.Outcome.{PrintOutcome, printAccepted, written}
+use Rattle.output.proofs.Written.{written-fits}
 use Rattle.printer.specs.Outcome.{printOutcome}
-use Rattle.printer.proofs.Accepting.{Passes, Accepts, book-accepts, printed-accepts, written-joins, passes-printable}
+use Rattle.printer.proofs.Accepting.{Accepts, book-written, printed-accepts, written-joins, passes-printable}
 use Rattle.printer.proofs.Accepting.{printable-faultless, printable-apart}
 use Rattle.printer.proofs.ReadBack.{Storable, records-say, records-inside, records-count}
 use Rattle.answer.specs.declared.LexAnswer.the-variants as lexed
@@ -143,6 +144,19 @@ module _ (book : List ℕ) (bytes : All (λ (b : ℕ). b < 256) book) where
             (rw (same-rules book (a .reads) (a₁ .reads)) (passes-printable (a₁ .passes))) (sym w ∙ q ∙ w₁),
       )
 
+  -- a list that is printable, within its limits, is written where there is room
+  pub printable-written : (rules : List Rule) → readBook book ≡ accepted rules → (records pool out : List ℕ)
+      → recordCount records ≤ maxTokens
+      → All (InPool pool) (recordsOf records) → length (join (tokensOf records pool)) ≤ maxText
+      → Printable rules (tokensOf records pool)
+      → printOutcome book records pool out ≡ written (join (tokensOf records pool)) out
+  printable-written rules e records pool out few inside short p = book-written book records pool out rules e record {
+    few = few;
+    faultless = printable-faultless rules pool (recordsOf records) 0 (valid e .rules-valid .distinct) inside p;
+    short = short;
+    apart = printable-apart rules (tokensOf records pool) 0 p;
+  }
+
   -- limits apart, a list is accepted exactly when it is printable
   pub accepts-printable : (rules : List Rule) → readBook book ≡ accepted rules → (records pool out : List ℕ)
       → recordCount records ≤ maxTokens
@@ -151,15 +165,11 @@ module _ (book : List ℕ) (bytes : All (λ (b : ℕ). b < 256) book) where
       → ((n : ℕ) × ((printOutcome book records pool out) .answer ≡ print.Printed n)) ↔ Printable rules (tokensOf records pool)
   accepts-printable rules e records pool out few inside short room = (
     λ q. let a = printed-accepts book records pool out (q .0) (q .1) in rw (same-rules book e (a .reads)) (passes-printable (a .passes)),
-    λ p.
-        let t : Passes rules records pool out = record {
-          few = few;
-          faultless = printable-faultless rules pool (recordsOf records) 0 (valid e .rules-valid .distinct) inside p;
-          short = short;
-          apart = printable-apart rules (tokensOf records pool) 0 p;
-          room = room;
-        } in
-        (length (join (tokensOf records pool)), ap (λ (x : PrintOutcome). x.answer) (book-accepts book records pool out rules e t)),
+    λ p. (
+      length (join (tokensOf records pool)),
+      ap (λ (x : PrintOutcome). x.answer) (printable-written rules e records pool out few inside short p
+          ∙ written-fits (join (tokensOf records pool)) out refl room),
+    ),
   )
 
   -- what is written is cut without a rest, into the list
@@ -198,25 +208,16 @@ module _ (book : List ℕ) (bytes : All (λ (b : ℕ). b < 256) book) where
     cut-says : tokensOf (recordsAt 0 ((lex rules text) .tokens)) text ≡ (lex rules text) .tokens
     cut-says = records-say ((lex rules text) .tokens) 0 ((lex rules text) .rest) text (cut-storable rules text (valid reads) short)
 
-    cut-passes : (out : List ℕ) → length text ≤ length out → Passes rules (recordsAt 0 ((lex rules text) .tokens)) text out
-    cut-passes out l =
-        let s = cut-storable rules text (valid reads) short in
-        let p : Printable rules (tokensOf (recordsAt 0 ((lex rules text) .tokens)) text) = rw cut-says
-        (lexed-printable rules text no-rest) in
-        record {
-          few = rw (records-count ((lex rules text) .tokens) 0 ((lex rules text) .rest) text s) (omega (arith, lex-few rules text));
-          faultless = printable-faultless rules text (recordsOf (recordsAt 0 ((lex rules text) .tokens))) 0
-              (valid reads .rules-valid .distinct)
-              (records-inside ((lex rules text) .tokens) 0 ((lex rules text) .rest) text s) p;
-          short = rw (cut-says, cut-joins) short;
-          apart = printable-apart rules (tokensOf (recordsAt 0 ((lex rules text) .tokens)) text) 0 p;
-          room = rw (cut-says, cut-joins) l;
-        }
-
     pub cut-outcome : (out : List ℕ) → length text ≤ length out → printOutcome book (recordsAt 0 ((lex rules text) .tokens)) text out
         ≡ printAccepted text out
-    cut-outcome out l = book-accepts book (recordsAt 0 ((lex rules text) .tokens)) text out rules reads (cut-passes out l)
-        ∙ rw (cut-says, cut-joins)
+    cut-outcome out l =
+        let ts = (lex rules text) .tokens in
+        let s = cut-storable rules text (valid reads) short in
+        printable-written rules reads (recordsAt 0 ts) text out
+        (rw (records-count ts 0 ((lex rules text) .rest) text s) (omega (arith, lex-few rules text)))
+        (records-inside ts 0 ((lex rules text) .rest) text s) (rw (cut-says, cut-joins) short)
+        (rw cut-says (lexed-printable rules text))
+        ∙ rw (cut-says, cut-joins) (written-fits text out refl l)
 
   -- a text that is cut without a rest is printed from the records that the cut stores
   pub cut-printed : (text room out : List ℕ) (n : ℕ) → (lexOutcome book text room) .answer ≡ lexed.Lexed n (length text)

@@ -2,7 +2,7 @@
 use mathlib.Core.Path.{_≡_, refl, sym, _∙_, ap, subst}
 use mathlib.Core.Bool.{Bool, true, false}
 use mathlib.Core.List.{List, []}
-use Prim.Native.Nat.{ℕ, zero, suc, _+_, _*_, _/_, _<_, _≤_}
+use Prim.Native.Nat.{ℕ, zero, suc, _+_, _/_, _<_, _≤_}
 use native.Mathlib.Omega.{arith}
 use lib.Dec.{leb}
 use lib.ListN.{replicate, length-replicate, getD-replicate, length, getD, set, length-set, List·getD-eq-default}
@@ -21,7 +21,7 @@ use Rattle.book.specs.declared.Progress.{Progress}
 use Rattle.book.specs.declared.Progress.the-variants.{On, Done, Refused, Narrow}
 use Rattle.book.specs.Limits.{maxBytes}
 use Rattle.book.specs.Draft.{Draft, between, Verdict, goes, accepts, refuses, apply}
-use Rattle.book.specs.Contracts.{idle, edgeLimit, Represents, Makes, Takes, adds, Fresh}
+use Rattle.book.specs.Contracts.{idle, edgeLimit, Makes, Takes, adds, Fresh}
 use Rattle.book.proofs.Fine.{fine-start}
 use Rattle.book.proofs.Filling.{stored-fresh, stored-cells}
 use Rattle.book.proofs.Steps.{inside-is}

@@ -11,7 +11,8 @@ use Rattle.big_endian.specs.Numbers.{two, four}
 use Rattle.automaton.specs.Rule.{Rule}
 use Rattle.longest_match.specs.Lexer.{Token, lex, join}
 use Rattle.longest_match.proofs.Lexing.{joins}
-use Rattle.record.specs.Records.{recordOf, recordsAt}
+use Rattle.record.specs.Records.{recordOf, recordsAt, recordCount}
+use Rattle.record.specs.Tokens.{recordsFrom, recordsOf, tokensIn, tokensOf}
 
 -- ---- stored
 
@@ -40,6 +41,25 @@ pub length-records : (ts : List Token) (place : ℕ) → length (recordsAt place
 unfolding recordsAt
 length-records [] place = refl
 length-records (t ∷ ts) place = omega (arith, length-records ts (place + length t.bytes))
+
+count-from : (records pool : List ℕ) (k n : ℕ) → length (tokensIn pool (recordsFrom records k n)) ≡ n
+unfolding recordsFrom tokensIn
+count-from records pool k zero = refl
+count-from records pool k (suc n) = rw (count-from records pool (suc k) n)
+
+-- records say as many tokens as they are
+pub length-tokens : (records pool : List ℕ) → length (tokensOf records pool) ≡ recordCount records
+unfolding recordsOf
+length-tokens records pool = count-from records pool 0 (recordCount records)
+
+-- ---- one list behind the other
+
+pub records-append : (place : ℕ) (ts us : List Token)
+    → recordsAt place (ts ++ us) ≡ recordsAt place ts ++ recordsAt (place + length (join ts)) us
+unfolding recordsAt
+records-append place [] us = rw add-zero
+records-append place (t ∷ ts) us =
+    rw (records-append (place + length t.bytes) ts us, append-assoc, length-append, add-assoc)
 
 -- ---- read back
 

@@ -1,7 +1,6 @@
 -- A turn depends on no byte behind what its budget allows: texts that agree so far, and both go on, have the same turn. Assumes nothing.
-use mathlib.Core.Path.{_≡_, refl, sym, _∙_, ap, subst}
-use mathlib.Core.Bool.{true, false}
-use mathlib.Core.Option.{Option, none, some}
+use mathlib.Core.Path.{_≡_, refl, sym, _∙_, ap}
+use mathlib.Core.Option.{none, some}
 use mathlib.Core.List.{List}
 use Prim.Native.Nat.{ℕ, zero, suc, _+_, _-_, _<_, _≤_}
 use native.Mathlib.Omega.{arith}
@@ -12,9 +11,9 @@ use Rattle.automaton.specs.Rule.{Rule, walk, longestWithin, longest, Sound}
 use Rattle.automaton.specs.Contracts.{blank, ruleAt}
 use Rattle.automaton.proofs.Tests.{all-at}
 use Rattle.automaton.proofs.Walks.{longest-done}
-use Rattle.longest_match.specs.Lexer.{Token, Found, choose}
+use Rattle.longest_match.specs.Lexer.{Found, choose}
 use Rattle.longest_match.specs.Steps.{prefixes, greatest, firstWith}
-use Rattle.longest_match.specs.Contracts.{part, front, Chooses}
+use Rattle.longest_match.specs.Contracts.{front, Chooses}
 use Rattle.longest_match.proofs.First.{nothing}
 use Rattle.longest_match.proofs.Choosing.{chosen-drop}
 use Rattle.longest_match.proofs.Far.{longest-part}
@@ -23,7 +22,7 @@ use Rattle.longest_match.proofs.Picking.{prefixes-length, prefixes-at, steps-ch
 use Rattle.turns.specs.Reach.{allFail, reach}
 use Rattle.turns.specs.Turn.{Turn, turn}
 use Rattle.turns.proofs.Reaching.{each-fails, fewest-past, reach-fewest, reach-is, reach-covers}
-use Rattle.turns.proofs.Turning.{by-ways, turn-spent, turn-done, turn-more, moved}
+use Rattle.turns.proofs.Turning.{by-ways, turn-spent, turn-done, turn-more}
 
 found-same : {f g : Found} → some f ≡ some g → f ≡ g
 found-same e = cc

@@ -12,7 +12,6 @@ use Rattle.answer.specs.declared.TurnAnswer.{TurnAnswer}
 use Rattle.automaton.specs.Rule.{Rule}
 use Rattle.automaton.specs.Contracts.{Holds}
 use Rattle.book.specs.Limits.{maxBytes, maxText}
-use Rattle.reader.specs.Reading.{accepted, readBook}
 use Rattle.reader.specs.Contracts.{Loaded}
 use Rattle.reader.proofs.Loading.{read-too-long}
 use Rattle.reader.proofs.Loaded.{loaded-rules, loaded-refusal}

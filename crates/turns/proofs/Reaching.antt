@@ -1,17 +1,16 @@
 -- The reach at a place: what it says, and how the rules' walks over a part of the text give it. Assumes nothing.
-use mathlib.Core.Path.{_≡_, refl, sym, _∙_, ap, subst}
-use mathlib.Core.Bool.{Bool, true, false, _&&_}
+use mathlib.Core.Path.{_≡_, refl, _∙_, ap, subst}
+use mathlib.Core.Bool.{Bool, true, false}
 use mathlib.Core.Option.{some}
 use mathlib.Core.List.{List, [], _∷_, _++_}
 use Prim.Native.Nat.{ℕ, zero, suc, _+_, _-_, _<_, _≤_}
 use native.Mathlib.Omega.{arith}
-use lib.Dec.{eqb}
-use lib.ListN.{length, take, getD}
-use lib.Seq.{take-take, length-take-le, getD-at}
+use lib.ListN.{length, take}
+use lib.Seq.{take-take, length-take-le}
 use borrow.Author.Tests.{eq-eqb, eqb-true, ne-eqb}
 use Rattle.automaton.specs.Choice.{if, All, among}
 use Rattle.automaton.specs.Rule.{Rule, walk, matches, Sound}
-use Rattle.automaton.specs.Contracts.{blank, ruleAt}
+use Rattle.automaton.specs.Contracts.{ruleAt}
 use Rattle.automaton.proofs.Tests.{clash, and-true, and-false-right, all-middle}
 use Rattle.automaton.proofs.Walks.{stays}
 use Rattle.longest_match.specs.Lexer.{Found, choose}

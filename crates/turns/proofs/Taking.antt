@@ -17,7 +17,7 @@ use Rattle.automaton.proofs.Tests.{clash}
 use Rattle.longest_match.specs.Lexer.{Token, Found, choose}
 use Rattle.longest_match.specs.Steps.{prefixes}
 use Rattle.longest_match.specs.Masks.{masksOf}
-use Rattle.longest_match.specs.Contracts.{Chooses, Agrees, Picks, Walks}
+use Rattle.longest_match.specs.Contracts.{Picks, Walks}
 use Rattle.longest_match.proofs.Choosing.{choose-some}
 use Rattle.longest_match.proofs.Far.{prefixes-window}
 use Rattle.longest_match.proofs.Agreeing.{steps-chosen, steps-agreed}
@@ -29,7 +29,7 @@ use Rattle.turns.specs.Reach.{allFail, reach}
 use Rattle.turns.specs.Turn.{Turn, turn}
 use Rattle.turns.specs.Contracts.{Next, KeepRoom, Keeps, turnAt, Room, Turned, Stores}
 use Rattle.turns.proofs.Reaching.{reach-idle, reach-covers, reach-some, reach-past, reach-all, reach-fits}
-use Rattle.turns.proofs.Turning.{turn-spent, turn-done, turn-more, turn-end}
+use Rattle.turns.proofs.Turning.{turn-done, turn-more, turn-end}
 use Rattle.output.proofs.Filling as output
 
 -- ---- what is next

@@ -1,6 +1,5 @@
 -- `put_four`: the upper two bytes, then the lower two. Assumes nothing.
 use denote.Ref.{now}
-use Rattle.big_endian.specs.Numbers.{two}
 use Rattle.big_endian.proofs.Numbers.{four-stored}
 use borrow.Author.Needs.{needs}
 use Rattle.big_endian.proofs.put_four.Statement.{statement}

@@ -1,6 +1,5 @@
 use borrow.Author.Needs.{needs}
 use borrow.Author.Tests.{lt-ltb, le-ltb}
-use Rattle.automaton.proofs.Tests.{or-true}
 use Rattle.book.proofs.moving.is_out_of_range.Statement.{statement}
 use Rattle.book.proofs.moving.is_out_of_range.Tie as tie
 

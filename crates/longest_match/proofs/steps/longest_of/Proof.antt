@@ -1,5 +1,5 @@
 -- `longest_of`: from the last to the first; what is found is the greatest of those passed, with their mask. Assumes nothing.
-use mathlib.Core.Path.{_≡_, refl, sym, _∙_}
+use mathlib.Core.Path.{_≡_, refl, sym}
 use mathlib.Core.List.{List}
 use Prim.Native.Nat.{ℕ, zero, suc, _+_, _-_, _*_, _^_, _<_, _≤_, max}
 use native.Mathlib.Nat.{le-refl, pow-le-pow-right}

@@ -1,7 +1,6 @@
 -- `keep`: both are stored, or none. Assumes nothing.
 use mathlib.Core.Path.{refl}
 use borrow.Author.Needs.{needs}
-use borrow.Author.Tests.{not-true}
 use Rattle.automaton.proofs.Tests.{clash}
 use Rattle.turns.proofs.running.keep.Statement.{statement}
 use Rattle.turns.proofs.running.keep.Tie as tie

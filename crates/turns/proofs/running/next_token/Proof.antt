@@ -1,15 +1,11 @@
 -- `next_token`: what the walks over the bytes that are left say of the rest of the text. Assumes nothing.
-use mathlib.Core.Path.{_≡_, sym, _∙_}
 use mathlib.Core.Logic.{⊎-elim}
-use mathlib.Core.List.{List}
-use Prim.Native.Nat.{ℕ, _+_, _-_, _<_, _≤_, min}
+use Prim.Native.Nat.{_-_, _≤_}
 use native.Mathlib.Omega.{arith}
-use lib.ListN.{length, take, drop, length-drop}
+use lib.ListN.{length, drop, length-drop}
 use borrow.Author.Needs.{needs}
 use denote.Ref.{now}
-use Rattle.automaton.specs.Rule.{Rule, stateCount}
-use Rattle.automaton.specs.Contracts.{Holds}
-use Rattle.longest_match.specs.Contracts.{Walks}
+use Rattle.automaton.specs.Rule.{stateCount}
 use Rattle.longest_match.proofs.Held.{held-sound}
 use Rattle.longest_match.proofs.Parts.{part-bytes}
 use Rattle.turns.proofs.Taking.{next-none, next-past, next-fits}
