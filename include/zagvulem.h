@@ -112,8 +112,8 @@
  * Lend each turn the part of one buffer that lies behind the records of the turns
  * before it. zgv_print() accepts the records in front of it, with the text as the
  * pool, and writes exactly the text's bytes before the next place. It needs room
- * for these alone, and refuses nothing but less room, by 22. A buffer with as many
- * records as the text has bytes, and masks as many, are enough for all turns.
+ * for these alone, and refuses nothing but less room, by 22. As many records as
+ * the text has bytes, and as many masks, are enough for all turns together.
  *
  * STACK
  *

@@ -105,7 +105,6 @@ module _ (book text : List ℕ) (place budget : ℕ) (entry masks : List ℕ) wh
     pub reads : readBook book ≡ accepted rules
     pub short : length text ≤ maxText
     pub inside : place ≤ length text
-    pub enough : length ((turn rules (drop place text) budget) .tokens) ≤ roomIn entry masks
     pub count : n ≡ length ((turn rules (drop place text) budget) .tokens)
     pub next-is : next ≡ length text - length ((turn rules (drop place text) budget) .rest)
     pub examined-is : examined ≡ (turn rules (drop place text) budget) .examined
@@ -116,6 +115,7 @@ module _ (book text : List ℕ) (place budget : ℕ) (entry masks : List ℕ) wh
     pub leaves-masks : outcome .masks
         ≡ maskBytes (masksOf rules ((turn rules (drop place text) budget) .tokens))
         ++ drop (4 * length ((turn rules (drop place text) budget) .tokens)) masks
+    pub enough : length ((turn rules (drop place text) budget) .tokens) ≤ roomIn entry masks
 
   accepts : (rules : List Rule) → readBook book ≡ accepted rules → length text ≤ maxText → place ≤ length text
       → length ((turn rules (drop place text) budget) .tokens) ≤ roomIn entry masks
@@ -159,13 +159,13 @@ module _ (book text : List ℕ) (place budget : ℕ) (entry masks : List ℕ) wh
             reads = r;
             short = l;
             inside = i;
-            enough = m;
             count = cc;
             next-is = cc;
             examined-is = cc;
             finished-is = cc;
             leaves-records = ap (λ (x : TurnOutcome). x.records) o;
             leaves-masks = ap (λ (x : TurnOutcome). x.masks) o;
+            enough = m;
           }
 
 pub refused-turn : RefusedTurn

@@ -5,6 +5,7 @@ use lib.ListN.{drop, length-drop}
 use borrow.Author.Needs.{needs}
 use denote.Ref.{now}
 use Rattle.automaton.specs.Rule.{stateCount}
+use Rattle.automaton.specs.Contracts.{Held}
 use Rattle.automaton.proofs.Tests.{clash}
 use Rattle.longest_match.proofs.Held.{held-sound}
 use Rattle.turns.proofs.Turning.{turn-short, turn-paid}
@@ -50,21 +51,20 @@ run-requires c κs =
 abbrev counted : tie.After-struct-known → tie.After-run
 counted c = c .before .before .before .before .before
 
+abbrev held : (c : tie.After-run) → Held (now (entry (asked c) .args .table))
+held c = entry (asked c) .pre .0
+
 returns-2 : tie.Need-returns-2
-returns-2 c =
-    let run = counted (c .before) in
-    let held = entry (asked run) .pre .0 in (
-      λ rs h. lacks-none (run .run .ensures .0 rs h) (omega (arith, asked run .before .room .ensures, c .if2 .taken)),
-      stores-nothing (run .run .ensures .1 (held .rules) (held .holds)),
-    )
+returns-2 c = let run = counted (c .before) in (
+  λ rs h. lacks-none (run .run .ensures .0 rs h) (omega (arith, asked run .before .room .ensures, c .if2 .taken)),
+  stores-nothing (run .run .ensures .1 (held run .rules) (held run .holds)),
+)
 
 returns-3 : tie.Need-returns-3
-returns-3 c =
-    let run = counted (c .before) in
-    let held = entry (asked run) .pre .0 in (
-      λ rs h. lacks-some (run .run .ensures .0 rs h) (omega (arith, asked run .before .room .ensures, c .if2 .left)),
-      stores-nothing (run .run .ensures .1 (held .rules) (held .holds)),
-    )
+returns-3 c = let run = counted (c .before) in (
+  λ rs h. lacks-some (run .run .ensures .0 rs h) (omega (arith, asked run .before .room .ensures, c .if2 .left)),
+  stores-nothing (run .run .ensures .1 (held run .rules) (held run .holds)),
+)
 
 pub lacking-spec : {M : Type 1} → statement M
 lacking-spec =
