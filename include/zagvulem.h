@@ -112,8 +112,9 @@
  * Lend each turn the part of one buffer that lies behind the records of the turns
  * before it. zgv_print() accepts the records in front of it, with the text as the
  * pool, and writes exactly the text's bytes before the next place. It needs room
- * for these alone, and refuses nothing but less room, by 22. As many records as
- * the text has bytes, and as many masks, are enough for all turns together.
+ * for these alone, and refuses nothing but less room, by 22. Its time goes by all
+ * that was cut so far, and not by a budget. As many records as the text has bytes,
+ * and as many masks, are enough for all turns together.
  *
  * STACK
  *
