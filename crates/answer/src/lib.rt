@@ -43,6 +43,12 @@ impl Refusal {
     pub const TOO_FEW_RECORDS: u8 = 15;
     // Lexing in turns.
     pub const PAST_THE_TEXT: u8 = 27;
+    // Making a rule of an expression.
+    pub const NO_EXPRESSION: u8 = 30;
+
+    pub const LARGE_EXPRESSION: u8 = 31;
+
+    pub const TOO_MANY_SETS: u8 = 32;
     // Printing.
     pub const TOO_MANY_TOKENS: u8 = 16;
 
