@@ -64,11 +64,11 @@ module _ (text records : List ℕ) where
 
 -- ---- the printers, and rewriting
 
-abbrev Keeps : List ℕ → PrintOutcome → Type 0
+abbrev pub Keeps : List ℕ → PrintOutcome → Type 0
 Keeps out o = (r : Refusal) → o.answer ≡ print.Refused r → o.out ≡ out
 
 module _ (out : List ℕ) where
-  keeps-if : (t : Bool) (number place : ℕ) (next : PrintOutcome) → Keeps out next → Keeps out (refusedIf t number place out next)
+  pub keeps-if : (t : Bool) (number place : ℕ) (next : PrintOutcome) → Keeps out next → Keeps out (refusedIf t number place out next)
   unfolding refusedIf
   keeps-if true number place next h r e = refl
   keeps-if false number place next h r e = h r e
@@ -81,7 +81,7 @@ module _ (out : List ℕ) where
   keeps-accepted : (w : List ℕ) → Keeps out (printAccepted w out)
   keeps-accepted w r e = let y : _≡_ {A = ℕ} 0 1 = cc in absurd (omega arith)
 
-  keeps-written : (w : List ℕ) → Keeps out (written w out)
+  pub keeps-written : (w : List ℕ) → Keeps out (written w out)
   keeps-written w = keeps-if _ _ _ _ (keeps-accepted w)
 
   keeps-up-to : (most number : ℕ) (w : List ℕ) → Keeps out (writtenUpTo most number w out)

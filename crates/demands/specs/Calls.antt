@@ -20,6 +20,7 @@ use Rattle.record.specs.Encoding.{encoded, Fits}
 use Rattle.record.specs.Masks.{maskBytes, maskCount, FitsMask}
 use Rattle.record.specs.declared.TokenRecord.{TokenRecord}
 use Rattle.rewriting.specs.Outcome.{rewriteOutcome}
+use Rattle.regex.specs.Outcome.{compileOutcome}
 use Rattle.lexer.specs.Outcome.{lexOutcome}
 use Rattle.lexer.specs.Masked.{maskedOutcome}
 use Rattle.turns.specs.Outcome.{turnOutcome}
@@ -111,6 +112,12 @@ pub record Ask (book : List ℕ) (index : ℕ) (r : RuleAnswer) : Type 0 where
 pub record Rewrite (book entry exit : List ℕ) (r : PrintAnswer) : Type 0 where
   pub answers : r ≡ (rewriteOutcome book entry) .answer
   pub leaves : exit ≡ (rewriteOutcome book entry) .out
+
+-- A call that makes a rule of an expression, for a tag and a kind: the output before and after it, and the answer, as `regex::compile`
+-- ensures it (document 02, wish 9).
+pub record Compile (tag kind : ℕ) (text entry exit : List ℕ) (r : PrintAnswer) : Type 0 where
+  pub answers : r ≡ (compileOutcome tag kind text entry) .answer
+  pub leaves : exit ≡ (compileOutcome tag kind text entry) .out
 
 -- A call of the cut, masks aside: the records lent before and after it, and its answer. Each call with masks (`MaskedCut`) is one, unless
 -- it has fewer masks than tokens (Masks.antt).

@@ -19,6 +19,7 @@ use Rattle.book.specs.Limits.{maxBytes, maxText}
 use Rattle.reader.specs.Reading.{readBook, readStrict, answer}
 use Rattle.reader.specs.Rules.{ruleOutcome}
 use Rattle.rewriting.specs.Outcome.{rewriteOutcome}
+use Rattle.regex.specs.Outcome.{compileOutcome}
 use Rattle.lexer.specs.Masked.{maskedOutcome}
 use Rattle.turns.specs.Outcome.{turnOutcome}
 use Rattle.printer.specs.Outcome.{printOutcome}
@@ -28,10 +29,10 @@ use Rattle.zagvulem.specs.Words.{turnWord, nextAfter, examinedAfter, tur
 use Rattle.zagvulem.specs.Words.{numberIn, placeIn, firstIn, secondIn, refusalIn}
 use Rattle.zagvulem.specs.Words.{bookAnswerIn, ruleAnswerIn, lexAnswerIn, printAnswerIn}
 use Rattle.zagvulem.specs.Numbers.{bookNumbers, strictNumbers, rewriteNumbers, printNumbers, separatedNumbers, Refused}
-use Rattle.zagvulem.specs.Kept.{BookWordKept, RewriteWordKept, RuleWordKept, LexWordKept}
+use Rattle.zagvulem.specs.Kept.{BookWordKept, RewriteWordKept, CompileWordKept, RuleWordKept, LexWordKept}
 use Rattle.zagvulem.specs.Kept.{TurnWordKept, PrintWordKept, SeparatedWordKept}
 use Rattle.zagvulem.proofs.Refused.{BookWithin, RuleWithin, TagAndKind, LexWithin, TurnWithin, PrintWithin, farthest}
-use Rattle.zagvulem.proofs.Refused.{book-within, strict-within, rewrite-within, rule-within, masked-within}
+use Rattle.zagvulem.proofs.Refused.{RuleMade, compile-within, book-within, strict-within, rewrite-within, rule-within, masked-within}
 use Rattle.zagvulem.proofs.Refused.{turn-within, print-within, separated-within}
 use Rattle.answer.specs.declared.BookAnswer.the-variants as books
 use Rattle.answer.specs.declared.RuleAnswer.the-variants as ruled
@@ -118,6 +119,13 @@ book-word-kept true book = book-kept strictNumbers refl (answer (readStrict book
 pub rewrite-word-kept : RewriteWordKept
 rewrite-word-kept book out =
     print-kept rewriteNumbers maxBytes refl (omega arith) ((rewriteOutcome book out) .answer) (rewrite-within book out)
+
+pub compile-word-kept : CompileWordKept
+compile-word-kept tag kind text out = go ((compileOutcome tag kind text out) .answer) (compile-within tag kind text out)
+  where
+    go : (a : PrintAnswer) → RuleMade a → printAnswerIn (printWord a) ≡ a
+    go (prints.Printed n) w = rw (accepted-number n 0 (omega arith) (omega arith), accepted-first n 0 (omega arith) (omega arith))
+    go (prints.Refused f) w = rw (refused-some w (omega arith) refl, refusal-kept w (omega arith))
 
 pub rule-word-kept : RuleWordKept
 rule-word-kept book bytes index = rule-kept (ruleOutcome book index) (rule-within book bytes index)

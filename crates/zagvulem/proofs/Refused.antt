@@ -54,6 +54,12 @@ use Rattle.used_bytes.specs.Bytes.{lowestFrom, shared, sharedByte}
 use Rattle.spacing.specs.Separators.{spelled}
 use Rattle.separated.specs.Refusals.{orElse, separatorFault, plainFault, sharing, listRefusal, separatedRefusal}
 use Rattle.separated.specs.Outcome.{separatedRules, separatedReading, separatedOutcome}
+use Rattle.expression.specs.Reading.{right, wrong, readExpression}
+use Rattle.expression.specs.Reading.{Reading as Expressed}
+use Rattle.expression.proofs.Faults.{wrong-first}
+use Rattle.regex.specs.Outcome.{maxExpression, tooLarge, manySets, compiled, compileReading, compileOutcome}
+use Rattle.regex.proofs.Compiled.{compiled-short}
+use Rattle.zagvulem.specs.Numbers.{compileNumbers}
 use Rattle.zagvulem.specs.Numbers.{bookNumbers, strictNumbers, rewriteNumbers, ruleNumbers, lexNumbers, turnNumbers}
 use Rattle.zagvulem.specs.Numbers.{printNumbers, separatedNumbers, Refused}
 use Rattle.answer.specs.declared.BookAnswer.the-variants as books
@@ -454,6 +460,38 @@ rewrite-within book out = go (readBook book) (book-read book)
     go : (r : Reading) → ReadWithin maxBytes r → PrintWithin rewriteNumbers maxBytes ((rewriteReading r book out) .answer)
     go (accepted rules) w = up-to-within rewriteNumbers maxBytes maxBytes 1 refl refl (omega arith) (omega arith) (rewritten book) out
     go (refused number place) w = of-book (22 ∷ []) (omega arith) w
+
+-- ---- making a rule of an expression
+
+-- bytes that a rule has at most, of 255 states and 256 SPANs of each
+abbrev pub mostRule : ℕ
+mostRule = 326919
+
+-- the same of a call that makes a rule, which may be longer than a text
+abbrev pub RuleMade : PrintAnswer → Type 0
+RuleMade (prints.Printed bytes) = bytes ≤ mostRule
+RuleMade (prints.Refused f) = Refused compileNumbers mostRule f
+
+made-if : (t : Bool) (number : ℕ) {place : ℕ} (out : List ℕ) (next : PrintOutcome) → among number compileNumbers ≡ true → place ≤ mostRule
+    → (t ≡ false → RuleMade (next .answer)) → RuleMade ((refusedIf t number place out next) .answer)
+unfolding refusedIf
+made-if true number out next e l h = by number _ e l
+made-if false number out next e l h = h refl
+
+pub compile-within : (tag kind : ℕ) (text out : List ℕ) → RuleMade ((compileOutcome tag kind text out) .answer)
+unfolding compileOutcome
+compile-within tag kind text out =
+    made-if (eqb tag 0 || ltb 1 kind) 6 out _ refl (omega arith) (λ x.
+    made-if (ltb maxExpression (length text)) 31 out _ refl (omega arith) (λ y.
+    go (readExpression text) refl (ltb-false maxExpression (length text) y)))
+  where
+    go : (r : Expressed) → readExpression text ≡ r → length text ≤ maxExpression → RuleMade ((compileReading tag kind r out) .answer)
+    go (wrong place) e l = by 30 place refl (omega (arith, wrong-first text e .within))
+    go (right x) e l =
+        made-if (tooLarge x) 31 out _ refl (omega arith) (λ s.
+        made-if (manySets x) 32 out _ refl (omega arith) (λ t.
+        let short : length (compiled tag kind x) ≤ mostRule = compiled-short tag kind x t in
+        made-if (ltb (length out) (length (compiled tag kind x))) 22 out _ refl short (λ z. short)))
 
 -- ---- printing
 

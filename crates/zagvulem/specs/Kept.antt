@@ -9,6 +9,7 @@ use Rattle.reader.specs.Rules.{ruleOutcome}
 use Rattle.record.specs.Records.{recordCount}
 use Rattle.record.specs.declared.TokenRecord.{TokenRecord}
 use Rattle.rewriting.specs.Outcome.{rewriteOutcome}
+use Rattle.regex.specs.Outcome.{compileOutcome}
 use Rattle.lexer.specs.Masked.{maskedOutcome}
 use Rattle.turns.specs.Outcome.{turnOutcome}
 use Rattle.printer.specs.Outcome.{printOutcome}
@@ -24,6 +25,12 @@ BookWordKept = (strict : Bool) (book : List ℕ) → bookAnswerIn (bookWord (ans
 abbrev pub RewriteWordKept : Type 0
 RewriteWordKept =
     (book out : List ℕ) → printAnswerIn (printWord ((rewriteOutcome book out) .answer)) ≡ (rewriteOutcome book out) .answer
+
+-- zgv_compile
+abbrev pub CompileWordKept : Type 0
+CompileWordKept =
+    (tag kind : ℕ) (text out : List ℕ)
+    → printAnswerIn (printWord ((compileOutcome tag kind text out) .answer)) ≡ (compileOutcome tag kind text out) .answer
 
 -- zgv_rule, of a book that is a run of bytes: two of them make a tag
 abbrev pub RuleWordKept : Type 0

@@ -18,6 +18,10 @@ strictNumbers = bookNumbers ++ (33 ∷ [])
 abbrev pub rewriteNumbers : List ℕ
 rewriteNumbers = bookNumbers ++ (22 ∷ [])
 
+-- making a rule of an expression (document 02, wish 9), in the order in which they are asked
+abbrev pub compileNumbers : List ℕ
+compileNumbers = 6 ∷ 31 ∷ 30 ∷ 32 ∷ 22 ∷ []
+
 -- asking for one rule, which that page does not have: 18 past the last
 abbrev pub ruleNumbers : List ℕ
 ruleNumbers = bookNumbers ++ (18 ∷ [])

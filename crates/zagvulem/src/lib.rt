@@ -8,6 +8,7 @@ ghost use mathlib.Core.Path.{_≡_};
 ghost use Rattle.reader.specs.Reading.{readBook, readStrict, answer};
 ghost use Rattle.reader.specs.Rules.{ruleOutcome};
 ghost use Rattle.rewriting.specs.Outcome.{rewriteOutcome};
+ghost use Rattle.regex.specs.Outcome.{compileOutcome};
 ghost use Rattle.lexer.specs.Masked.{maskedOutcome};
 ghost use Rattle.turns.specs.Outcome.{turnOutcome};
 ghost use Rattle.builtin.specs.Book.{builtinBytes};
@@ -39,6 +40,15 @@ pub extern "C" fn zgv_rewrite_book(book: &[u8], out: &mut [u8]) -> u64
     ensures { λ r. ⌜ now (out .exit) ≡ (rewriteOutcome (now (book .entry)) (now (out .entry))) .out ⌝ }
 {
     crate::words::printed(rewriting::rewrite(book, out))
+}
+
+// Makes a rule of an expression, of this tag and kind: the number of bytes of its commands and 0, or the refusal.
+#[no_mangle]
+pub extern "C" fn zgv_compile(tag: u16, kind: u32, regex: &[u8], out: &mut [u8]) -> u64
+    ensures { λ r. ⌜ r ≡ printWord ((compileOutcome tag kind (now (regex .entry)) (now (out .entry))) .answer) ⌝ }
+    ensures { λ r. ⌜ now (out .exit) ≡ (compileOutcome tag kind (now (regex .entry)) (now (out .entry))) .out ⌝ }
+{
+    crate::words::printed(regex::compile(tag, kind, regex, out))
 }
 
 // The tag and the kind of a rule of a book by its number, from 0, or the refusal.
