@@ -1,6 +1,7 @@
 # Zagvulem: what make builds goes to build/.
 #
-#   make               the library build/libzagvulem.a, the program build/cutlist and the examples build/player and build/modernize
+#   make               the library build/libzagvulem.a, the programs build/cutlist and build/zgvbook, which makes books of expressions,
+#                      and the examples build/player and build/modernize
 #   make sheet         cuts the sample sheet by the built-in book and prints its tokens
 #   make example       runs the player on the sample sheet
 #   make cutlist       build/cutlist alone: cuts text.bin by book.bin of the folder that it is run in
@@ -11,7 +12,7 @@
 #                      NO_FLEX=1 and NO_RE2C=1 leave them out; OLD=FILE measures an earlier library too, one whose cuts
 #                      have no masks; with OLD_MASKS=1 one whose cuts have them)
 #   make layouts       measures an earlier library (OLD=FILE) beside this one in 16 programs that differ in where the two lie
-#   make install       header, library, pkg-config file, cutlist, documents and examples below PREFIX (/usr/local; DESTDIR)
+#   make install       header, library, pkg-config file, cutlist, zgvbook, documents and examples below PREFIX (/usr/local; DESTDIR)
 #   make uninstall     removes what make install put there
 #   make dist          a tarball of the same in build/, for who has no kit
 #   make clean         removes build/; what rt has proved stays in target/
@@ -41,11 +42,12 @@ BELOW := $(shell sed -n 's/^zagvulem://p' crates.txt)
 RT = flock build/rt.lock tools/quiet.sh
 
 DOCUMENTS = docs/FORMAT.md docs/PERFORMANCE.md
-EXAMPLES = examples/player.c examples/modernize.c examples/sheet.txt examples/builtin.bin examples/make-book.sh examples/list-book.sh
+EXAMPLES = examples/player.c examples/modernize.c examples/zgvbook.c examples/sheet.txt examples/builtin.bin examples/builtin.rules \
+	examples/make-book.sh examples/list-book.sh
 DIST = zagvulem-$(VERSION)
 DOC = $(DESTDIR)$(PREFIX)/share/doc/zagvulem
 
-all: build/libzagvulem.a build/cutlist build/player build/modernize
+all: build/libzagvulem.a build/cutlist build/zgvbook build/player build/modernize
 
 help:
 	@sed -n -e '/^#/!q' -e 's/^# \{0,1\}//p' Makefile
@@ -70,7 +72,7 @@ cutlist: build/cutlist
 sheet: build/cutlist
 	@cd examples/sheet && ../../build/cutlist
 
-build/player build/modernize: build/%: examples/%.c include/zagvulem.h build/libzagvulem.a
+build/player build/modernize build/zgvbook: build/%: examples/%.c include/zagvulem.h build/libzagvulem.a
 	$(CC) $(WARNINGS) $(CFLAGS) -Iinclude $< build/libzagvulem.a -o $@
 
 example: build/player
@@ -100,32 +102,32 @@ layouts: build/libzagvulem.a
 check:
 	.ci/run
 
-install: build/libzagvulem.a build/cutlist
+install: build/libzagvulem.a build/cutlist build/zgvbook
 	sed -e 's|@PREFIX@|$(PREFIX)|' -e 's|@VERSION@|$(VERSION)|' zagvulem.pc.in >build/zagvulem.pc
 	install -d $(DESTDIR)$(PREFIX)/bin $(DESTDIR)$(PREFIX)/include $(DESTDIR)$(PREFIX)/lib/pkgconfig $(DOC)/examples
 	install -m 644 include/zagvulem.h $(DESTDIR)$(PREFIX)/include/
 	install -m 644 build/libzagvulem.a $(DESTDIR)$(PREFIX)/lib/
 	install -m 644 build/zagvulem.pc $(DESTDIR)$(PREFIX)/lib/pkgconfig/
-	install -m 755 build/cutlist $(DESTDIR)$(PREFIX)/bin/
+	install -m 755 build/cutlist build/zgvbook $(DESTDIR)$(PREFIX)/bin/
 	install -m 644 $(DOCUMENTS) $(DOC)/
 	install -m 644 $(filter-out %.sh,$(EXAMPLES)) $(DOC)/examples/
 	install -m 755 $(filter %.sh,$(EXAMPLES)) $(DOC)/examples/
 
 uninstall:
 	rm -f $(DESTDIR)$(PREFIX)/include/zagvulem.h $(DESTDIR)$(PREFIX)/lib/libzagvulem.a
-	rm -f $(DESTDIR)$(PREFIX)/lib/pkgconfig/zagvulem.pc $(DESTDIR)$(PREFIX)/bin/cutlist
+	rm -f $(DESTDIR)$(PREFIX)/lib/pkgconfig/zagvulem.pc $(DESTDIR)$(PREFIX)/bin/cutlist $(DESTDIR)$(PREFIX)/bin/zgvbook
 	rm -f $(DOCUMENTS:docs/%=$(DOC)/%) $(EXAMPLES:%=$(DOC)/%)
 	-rmdir $(DOC)/examples $(DOC)
 
 # The folders of the tarball are those of the sources, with lib/ and bin/; its pkg-config file finds its own folder.
-dist: build/libzagvulem.a build/cutlist
+dist: build/libzagvulem.a build/cutlist build/zgvbook
 	rm -rf build/$(DIST)
 	mkdir -p build/$(DIST)/include build/$(DIST)/lib/pkgconfig build/$(DIST)/bin build/$(DIST)/docs build/$(DIST)/examples
 	cp docs/TARBALL.md build/$(DIST)/README.md
 	cp include/zagvulem.h build/$(DIST)/include/
 	cp build/libzagvulem.a build/$(DIST)/lib/
 	sed -e 's|@PREFIX@|$${pcfiledir}/../..|' -e 's|@VERSION@|$(VERSION)|' zagvulem.pc.in >build/$(DIST)/lib/pkgconfig/zagvulem.pc
-	cp build/cutlist build/$(DIST)/bin/
+	cp build/cutlist build/zgvbook build/$(DIST)/bin/
 	cp $(DOCUMENTS) build/$(DIST)/docs/
 	cp $(EXAMPLES) build/$(DIST)/examples/
 	tar -C build --sort=name --owner=0 --group=0 --numeric-owner -czf build/$(DIST)-x86_64-linux.tar.gz $(DIST)

@@ -29,6 +29,7 @@ static uint8_t plain[2 * ZGV_RECORD_BYTES];
 static uint8_t out[256];
 static uint8_t spans[ZGV_BOOK_BYTES], rewritten[ZGV_BOOK_BYTES];
 static size_t spans_len;
+static uint8_t compiled[ZGV_REGEX_OUTPUT];
 static uint64_t next, examined;
 static volatile uint64_t sink;
 
@@ -55,6 +56,21 @@ static void *rewrite_book(void *unused)
 static void *rule(void *unused)
 {
     sink = zgv_rule(book, book_len, 2);
+    return unused;
+}
+/* Parentheses that open at each of 512 bytes, for which the reader goes deepest before it refuses; then an expression of which they are as
+   deep as they may be, with nearly as many positions and sets as it may have. */
+static void *compile(void *unused)
+{
+    static const uint8_t large[] = "((((((((((((((((a|b)*a))))(a|b)(a|b)(a|b)(a|b)(a|b))))))))))))"
+                                   "(.c.d.e.f.g.h.i.j.k.l.m.n.o.p.q.r.s.t.u.v.w.x.y.z)?";
+    static uint8_t deep[ZGV_REGEX_BYTES];
+    size_t i;
+    for (i = 0; i < sizeof deep; i++)
+        ((volatile uint8_t *)deep)[i] = '(';
+    sink = zgv_compile(1, ZGV_KIND_PLAIN, deep, sizeof deep, compiled, sizeof compiled);
+    if (zgv_number(sink) == ZGV_NO_EXPRESSION)
+        sink = zgv_compile(1, ZGV_KIND_PLAIN, large, sizeof large - 1, compiled, sizeof compiled);
     return unused;
 }
 static void *lex(void *unused)
@@ -92,6 +108,7 @@ static const struct {
              {"zgv_read_book_strict", read_book_strict},
              {"zgv_rule", rule},
              {"zgv_rewrite_book", rewrite_book},
+             {"zgv_compile", compile},
              {"zgv_lex", lex},
              {"zgv_lex_within", lex_within},
              {"zgv_lex_builtin", lex_builtin},

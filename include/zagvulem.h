@@ -2,14 +2,14 @@
  * zagvulem.h - a lexer by rule book, and two printers that undo it
  *
  * A rule book is data: a run of bytes that describes up to 32 rules, each a
- * finite automaton with a tag; FORMAT.md says how one is written. zgv_lex() cuts
- * a text by a book into tokens, always the longest match, the earliest rule on a
- * tie, and says of each token every rule that agreed. zgv_lex_within() gives the
- * same tokens in turns, each of which looks at no more bytes than it is allowed.
- * zgv_print() joins tokens to a text again, and refuses a list that would not be
- * cut back as it is. zgv_print_separated() joins tokens with separators between
- * them, so that cutting what it wrote and dropping the separators gives the same
- * list back.
+ * finite automaton with a tag; FORMAT.md says how one is written. zgv_compile()
+ * makes a rule of an extended regular expression. zgv_lex() cuts a text by a book
+ * into tokens, always the longest match, the earliest rule on a tie, and says of
+ * each token every rule that agreed. zgv_lex_within() gives the same tokens in
+ * turns, each of which looks at no more bytes than it is allowed. zgv_print() joins
+ * tokens to a text again, and refuses a list that would not be cut back as it is.
+ * zgv_print_separated() joins tokens with separators between them, so that cutting
+ * what it wrote and dropping the separators gives the same list back.
  *
  * A rule's moves are SPANs. STEP, a shorter form of a move at one byte, is retired:
  * books that have it are read as ever, zgv_rewrite_book() puts SPANs in the place
@@ -25,8 +25,8 @@
  *
  * WHAT HOLDS FOR EVERY CALL
  *
- *  - Every book, text, list and buffer has an answer, however damaged: nothing
- *    that stands in a buffer needs to be checked before a call.
+ *  - Every book, text, list, expression and buffer has an answer, however damaged:
+ *    nothing that stands in a buffer needs to be checked before a call.
  *  - It keeps no state between calls, allocates nothing and reads no file, clock
  *    or locale.
  *  - It answers either "accepted" with two values, or "refused" with a number and
@@ -39,9 +39,9 @@
  *  - Each buffer is a pointer and its length in bytes, and so many bytes are
  *    there. The pointer may be NULL where the length is 0. It needs no alignment.
  *  - A buffer that the call may write (`records` and `masks` of the three lexing
- *    calls, `out` of the two printing calls and of zgv_rewrite_book()) shares no
- *    byte with any other buffer of the same call. Buffers that are only read may
- *    overlap freely.
+ *    calls, `out` of the two printing calls, of zgv_rewrite_book() and of
+ *    zgv_compile()) shares no byte with any other buffer of the same call. Buffers
+ *    that are only read may overlap freely.
  *  - `next` and `examined` of zgv_lex_within() are numbers, lent like a buffer
  *    that may be written: neither pointer is NULL, and neither number shares a
  *    byte with the other one or with a buffer of the same call.
@@ -116,12 +116,41 @@
  * that was cut so far, and not by a budget. As many records as the text has bytes,
  * and as many masks, are enough for all turns together.
  *
+ * EXPRESSIONS
+ *
+ * zgv_compile() reads a part of the notation that POSIX.1 (IEEE Std 1003.1) has for
+ * extended regular expressions. An expression is a run of bytes and matches byte
+ * strings; no locale plays a part. A piece of it is one of these:
+ *
+ *    a byte       itself; any but 00 and these twelve: \ ^ . [ $ ( ) | * + ? {
+ *    \ and one    of these twelve, which then is that byte itself
+ *    .            every byte but 00 and 0A
+ *    [...]        one byte of a list. It has one or more bytes and ranges; a range
+ *                 is two bytes with - between them, the first not above the last,
+ *                 and all bytes from the one to the other. 00 and ] [ - \ ^ are
+ *                 neither bytes of a list nor ends of a range; a range may run over
+ *                 these five
+ *    (...)        what stands in it, alternatives again
+ *
+ * One of * + ? may stand behind a piece, and no second one: none or more of it, one
+ * or more, none or one. Pieces in a row are a sequence; sequences with | between
+ * them are alternatives, of which one has to match. None of these is empty.
+ * Anchors, intervals, negated lists and named classes are left out. A ] or } that
+ * stands outside a list is a byte as any other.
+ *
+ * A position is a byte, a \ with its byte, a period or a list, each where it stands
+ * in the expression. The states of its rule are the start and the sets of positions
+ * that can have matched the last byte. Most expressions have about as many sets as
+ * positions. One that asks for a byte at a fixed distance from the end has many:
+ * .*a...... has 128, and with each period more twice as many.
+ *
  * STACK
  *
  * The table of a book and the scratch of a printer are local to the call. Bytes
  * of stack to leave free for one, with a book of up to 8,192 bytes and with any:
  *
  *    zgv_lex_builtin()               8,192
+ *    zgv_compile()                 307,200
  *    zgv_lex()                      45,056     176,128
  *    zgv_lex_within()               45,056     176,128
  *    zgv_read_book()                61,440     192,512
@@ -157,6 +186,9 @@
  *    reading a book             its length, and for each move the moves that left
  *                               the same state before it: under 10 ms
  *    rewriting a book           reading it, and its length twice more
+ *    an expression              for each set and each byte, of 256, the positions
+ *                               that may come next, and a look for the set that
+ *                               they are among those found before
  *
  * A step looks through the moves that leave a state one by one, at most 256. On
  * the machine of PERFORMANCE.md one rule that matches "a", and also any number of
@@ -183,10 +215,10 @@ extern "C" {
 
 /* ---- Version ------------------------------------------------------------ */
 
-#define ZGV_VERSION       "0.7.1"
+#define ZGV_VERSION       "0.8.0"
 #define ZGV_VERSION_MAJOR 0
-#define ZGV_VERSION_MINOR 7
-#define ZGV_VERSION_PATCH 1
+#define ZGV_VERSION_MINOR 8
+#define ZGV_VERSION_PATCH 0
 
 /* ---- Limits ------------------------------------------------------------- */
 
@@ -198,6 +230,11 @@ extern "C" {
 #define ZGV_LIST_TOKENS      65536  /* tokens of a list */
 #define ZGV_RECORD_BYTES     10     /* bytes of a token's record */
 #define ZGV_MASK_BYTES       4      /* bytes of a token's mask */
+#define ZGV_REGEX_BYTES      512    /* bytes of an expression */
+#define ZGV_REGEX_POSITIONS  64     /* positions of an expression */
+#define ZGV_REGEX_DEPTH      16     /* parentheses of an expression inside others */
+#define ZGV_REGEX_SETS       254    /* sets of positions, the empty one aside */
+#define ZGV_REGEX_OUTPUT     326919 /* the most bytes of an expression's rule */
 #define ZGV_STACK_BYTES      376832 /* stack that is enough for every call */
 
 /* Kinds of a rule, as in its RULE command. */
@@ -239,7 +276,8 @@ enum {
     ZGV_BYTES_AFTER_END   = 4,   /* bytes follow END; place of the first */
     ZGV_TOO_MANY          = 5,   /* a 33rd rule, or a rule's 4,097th move */
     ZGV_OUT_OF_RANGE      = 6,   /* tag 0, kind above 1, low above high, or a
-                                    state above 4,095 */
+                                    state above 4,095; of zgv_compile() tag 0 or
+                                    kind above 1, and place 0 */
     ZGV_TAG_TAKEN         = 7,   /* an earlier rule has this tag */
     ZGV_TWICE_OR_MISSING  = 8,   /* a second START or ERROR, or at CLOSE none */
     ZGV_OVERLAP           = 9,   /* two moves of a state share a byte */
@@ -270,7 +308,7 @@ enum {
     ZGV_READ_ON           = 21,  /* some rule matches the token's bytes and a
                                     non-empty beginning of what follows */
     ZGV_OUTPUT_TOO_SHORT  = 22,  /* the place is the number of bytes needed; of
-                                    zgv_rewrite_book() too */
+                                    zgv_rewrite_book() and zgv_compile() too */
 
     /* Printing with separators. */
     ZGV_SHARED_BYTE       = 23,  /* a byte stands in a string that a plain rule
@@ -283,6 +321,15 @@ enum {
     /* Lexing in turns: it stands after 14 and before 15. */
     ZGV_PAST_THE_TEXT     = 27,  /* the turn would begin past the text's end;
                                     place 0 */
+
+    /* An expression, in zgv_compile() alone. */
+    ZGV_NO_EXPRESSION     = 30,  /* outside the part that is read; the place is
+                                    that of the first byte which no expression
+                                    has after what stands before it, or the
+                                    length where all of it may be gone on with */
+    ZGV_LARGE_EXPRESSION  = 31,  /* over 512 bytes; or over 64 positions, or
+                                    parentheses deeper than 16; place 0 */
+    ZGV_TOO_MANY_SETS     = 32,  /* over 254 sets of positions; place 0 */
 
     /* The book, in zgv_read_book_strict() alone. */
     ZGV_RETIRED           = 33   /* a STEP where one may stand: inside a rule */
@@ -321,6 +368,9 @@ static inline const char *zgv_refusal_text(unsigned number)
     case ZGV_NO_SEPARATOR:      return "the separator token is of a plain rule";
     case ZGV_SEPARATOR_IN_LIST: return "a token of the list is of a separator rule";
     case ZGV_PAST_THE_TEXT:     return "the place lies past the end of the text";
+    case ZGV_NO_EXPRESSION:     return "not an expression of the part of POSIX.1 that is read";
+    case ZGV_LARGE_EXPRESSION:  return "the expression has more than 512 bytes or 64 positions, or parentheses deeper than 16";
+    case ZGV_TOO_MANY_SETS:     return "the expression has more than 254 sets of positions";
     case ZGV_RETIRED:           return "the book has a STEP, which is retired";
     default:                    return "no number that a call answers";
     }
@@ -449,6 +499,52 @@ uint64_t zgv_read_book_strict(const uint8_t *book, size_t book_len);
  */
 uint64_t zgv_rewrite_book(const uint8_t *book, size_t book_len,
                           uint8_t *out, size_t out_len);
+
+/*
+ * Reads `regex`, an expression (EXPRESSIONS above), and writes a rule for `tag` and
+ * `kind`, ZGV_KIND_PLAIN or ZGV_KIND_SEPARATOR, from the start of `out`. The rule
+ * matches the byte strings that the expression matches, and no others.
+ *
+ * It is written as commands of a book: RULE, START 0, ERROR 255, FINALs by their
+ * states, SPANs by state and byte, CLOSE. State 0 is the start; the sets of
+ * positions have numbers from 1, by the shortest string that leads to each, among
+ * equally long ones by the lowest. Each SPAN is as long as can be, and none leads
+ * to 255. So the same call writes the same bytes, always.
+ *
+ * A book is such rules one behind the other, with an END, 08, behind the last.
+ * Read it: a rule may be one that no book may have. Alone with an END it is refused
+ * by 1 where both have more than ZGV_BOOK_BYTES; else by 5 where it has more than
+ * ZGV_RULE_TRANSITIONS moves; else by 12 where the expression matches the empty
+ * string, as a* does.
+ *
+ * Accepted: first value the number of bytes written, second 0. The bytes of `out`
+ * past them stay as they were. An `out` of ZGV_REGEX_OUTPUT bytes is always long
+ * enough, and one of ZGV_BOOK_BYTES for every rule that a book may have.
+ * Refused, in this order: 6; 31 where regex_len is above ZGV_REGEX_BYTES; 30; 31
+ * where it has more than ZGV_REGEX_POSITIONS positions, or parentheses deeper than
+ * ZGV_REGEX_DEPTH; 32 where more than ZGV_REGEX_SETS sets of positions, none of
+ * them empty, are reached; 22, whose place is the number of bytes needed. All of
+ * `out` stays as it was.
+ *
+ * A place of 30 is a byte of `regex`, from 0. In "a**" it is 2, in "[b-a]" 3, in
+ * "()" 1, in "a|" and in "(a" 2, the length; of the empty text it is 0.
+ *
+ * A book of one rule for words, of at least two letters:
+ *
+ *    uint8_t book[ZGV_BOOK_BYTES];
+ *    size_t length = 0;
+ *    uint64_t answer = zgv_compile(2, ZGV_KIND_PLAIN,
+ *                                  (const uint8_t *)"[a-z][a-z]+", 11,
+ *                                  book, sizeof book - 1);
+ *    if (zgv_number(answer) == ZGV_ACCEPTED) {
+ *        length = zgv_first(answer);
+ *        book[length++] = 0x08;
+ *        answer = zgv_read_book(book, length);
+ *    }
+ */
+uint64_t zgv_compile(uint16_t tag, uint32_t kind,
+                     const uint8_t *regex, size_t regex_len,
+                     uint8_t *out, size_t out_len);
 
 /*
  * Says the tag and the kind of rule number `index` of a book, from 0 in the

@@ -1,7 +1,7 @@
 #!/bin/sh
 # make dist: the tarball is unpacked and used with a C compiler alone, without rt on the path.
 . "$(dirname "$0")/common"
-needs build/libzagvulem.a build/cutlist
+needs build/libzagvulem.a build/cutlist build/zgvbook
 
 tarball=$(make -s dist | tail -n 1) || fail 'make dist'
 tar -C "$tmp" -xzf "$tarball" || fail "unpacking $tarball"
@@ -22,6 +22,7 @@ sh -e "$tmp/commands" >"$tmp/written" 2>"$tmp/said" || fail "the commands of the
 grep -q 'ships' "$tmp/written" || fail 'the player of the tarball writes no changed sheet'
 cmp saved.txt "$sheet" || fail 'the player of the tarball saves another sheet'
 [ -s spans.bin ] || fail 'modernize of the tarball writes no book'
+grep -q '^made.bin: accepted: 5 rules' "$tmp/written" || fail 'zgvbook of the tarball makes no book'
 cc -std=c99 -Wall -Wextra -Werror -pedantic -Iinclude cut.c lib/libzagvulem.a -o cut || fail 'compiling the program of README.md'
 [ "$(./cut <"$sheet" | wc -l)" -eq 168 ] || fail 'the program of README.md does not run'
 sh "$tmp/format" >"$tmp/printed" 2>&1

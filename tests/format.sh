@@ -1,15 +1,17 @@
 #!/bin/sh
 # docs/FORMAT.md: its commands print what it says, and its numbers are so.
 . "$(dirname "$0")/common"
-needs build/cutlist build/player build/modernize
+needs build/cutlist build/player build/modernize build/zgvbook
 cutlist=$PWD/build/cutlist
 modernize=$PWD/build/modernize
+zgvbook=$PWD/build/zgvbook
+document=$PWD/docs/FORMAT.md
 PATH=$PWD/examples:$PATH
 
 # run from a folder that has what the commands ask for
 mkdir "$tmp/top" "$tmp/top/build"
 cp -R examples "$tmp/top/"
-cp build/cutlist build/player build/modernize "$tmp/top/build/"
+cp build/cutlist build/player build/modernize build/zgvbook "$tmp/top/build/"
 printf 'all:\n' >"$tmp/top/Makefile"
 awk -v LANG=sh -f tests/blocks.awk docs/FORMAT.md >"$tmp/commands"
 awk -v LANG=text -f tests/blocks.awk docs/FORMAT.md >"$tmp/wanted"
@@ -123,6 +125,29 @@ printf 'abghijzzghijabghi' >text.bin
 [ "$("$cutlist" | tr '\n' /)" = '0 1 0 6/1 1 6 6/rest 12 5/' ] || fail 'words of a long list are not cut'
 pairs 2; : >text.bin; reads 'rest 0 0' 'two rules of 676 words of six letters'
 pairs 3; reads 'refused 1 0' 'three rules of 676 words of six letters'
+
+# sets of positions, an expression for all bytes but two, and one for letters and -
+sets() { # EXPRESSION
+    printf '1 plain %s\n' "$1" >rules
+    "$zgvbook" make rules -o book.bin 2>said || return 1
+    "$zgvbook" list book.bin | sed -n 's/^  from .* to //p' | sort -un | wc -l
+}
+[ "$(sets '.*a......')" -eq 128 ] || fail "the sets of .*a......: $(sets '.*a......')"
+! sets '.*a.......' || fail '256 sets are not refused'
+grep -q '(number 32)$' said || fail "of 256 sets zgvbook says: $(cat said)"
+sets '[\x01-!#-\xFF]' >/dev/null
+[ "$("$zgvbook" list book.bin | tail -n +2 | tr '\n' /)" = "  from 0 at 01-'!' to 1/  from 0 at '#'-FF to 1/" ] ||
+    fail 'all bytes but 00 and "'
+sets '([a-z]|-)+' >/dev/null || fail 'letters and -'
+
+# the catch-all as an expression: what the bytes cut, but for 00
+{
+    cat "$tmp/top/examples/builtin.rules"
+    sed -n 's/.*`\(6 plain [^`]*\)`.*/\1/p' "$document"
+} >rules
+"$zgvbook" make rules -o book.bin 2>said && grep -q '^rules: 6 rules' said || fail "the catch-all as an expression: $(cat said)"
+printf 'oh\r\n' >text.bin
+[ "$("$cutlist" | tr '\n' /)" = '0 2 0 2/1 6 2 1/2 4 3 1/rest 4 0/' ] || fail 'the catch-all as an expression'
 
 # refusals of a faulty hexadecimal text and of books that are no books
 echo '01 0' | make-book.sh >bad 2>said && fail 'make-book.sh takes a byte of one digit'

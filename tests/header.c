@@ -46,7 +46,7 @@ static void versions(void)
 
 static int is_answered(unsigned number)
 {
-    return number <= ZGV_PAST_THE_TEXT || number == ZGV_RETIRED;
+    return number <= ZGV_PAST_THE_TEXT || (number >= ZGV_NO_EXPRESSION && number <= ZGV_RETIRED);
 }
 
 /* Each number has a text of its own, all others one that is none of them. */
@@ -54,6 +54,7 @@ static void texts(void)
 {
     unsigned i, k;
     HOLDS(ZGV_SEPARATOR_IN_LIST == 26 && ZGV_PAST_THE_TEXT == 27 && ZGV_RETIRED == 33);
+    HOLDS(ZGV_NO_EXPRESSION == 30 && ZGV_LARGE_EXPRESSION == 31 && ZGV_TOO_MANY_SETS == 32);
     for (i = 0; i < 1000; i++) {
         HOLDS(strlen(zgv_refusal_text(i)) > 5);
         for (k = 0; k < i; k++)
@@ -512,6 +513,156 @@ static void strictly(void)
     HOLDS(zgv_read_book_strict(NULL, 0) == zgv_read_book(NULL, 0) && zgv_rewrite_book(NULL, 0, NULL, 0) == zgv_read_book(NULL, 0));
 }
 
+/* Where rules of expressions are written; a call that should write nothing must leave it painted. */
+static uint8_t compiled[ZGV_REGEX_OUTPUT];
+
+static uint64_t compile(const char *expression)
+{
+    memset(compiled, 1, sizeof compiled);
+    return zgv_compile(1, ZGV_KIND_PLAIN, (const uint8_t *)expression, strlen(expression), compiled, sizeof compiled);
+}
+
+static int compiles_not(const char *expression, unsigned number, size_t place)
+{
+    return compile(expression) == ((uint64_t)number << 56 | place) && is_painted(compiled, 0, sizeof compiled);
+}
+
+/* What is answered of a book of the expression's rule alone. */
+static unsigned read_alone(const char *expression, uint64_t *place)
+{
+    const uint64_t answer = compile(expression);
+    uint64_t read;
+    HOLDS(zgv_number(answer) == ZGV_ACCEPTED && zgv_second(answer) == 0 && compiled[zgv_first(answer) - 1] == 7);
+    compiled[zgv_first(answer)] = 8;
+    read = zgv_read_book(compiled, (size_t)zgv_first(answer) + 1);
+    HOLDS(zgv_number(read) != ZGV_ACCEPTED || zgv_read_book_strict(compiled, (size_t)zgv_first(answer) + 1) == read);
+    *place = zgv_place(read);
+    return zgv_number(read);
+}
+
+/* Rules byte for byte, for every room up to more than they need: 22 and nothing written, or the rule and nothing behind it. */
+static void compiling(void)
+{
+    static const struct {
+        const char *expression;
+        uint16_t tag;
+        uint32_t kind;
+        size_t length;
+        const char *rule;
+    } tries[] = {
+        {"a", 1, 0, 16, "\1\0\1\0\2\0\3\377\4\1\6\0aa\1\7"},
+        {"[ \t]+", 0x8034, 1, 31, "\1\200\64\1\2\0\3\377\4\1\6\0\t\t\1\6\0  \1\6\1\t\t\1\6\1  \1\7"},
+        {"(b|a)c", 2, 0, 31,
+         "\1\0\2\0\2\0\3\377\4\3\6\0aa\1\6\0bb\2\6\1cc\3\6\2cc\3\7"},
+        {"ab|c", 2, 0, 28, "\1\0\2\0\2\0\3\377\4\2\4\3\6\0aa\1\6\0cc\2\6\1bb\3\7"},
+        {"a*", 9, 0, 23, "\1\0\11\0\2\0\3\377\4\0\4\1\6\0aa\1\6\1aa\1\7"},
+        {"\\..?", 7, 0, 28,
+         "\1\0\7\0\2\0\3\377\4\1\4\2\6\0..\1\6\1\1\11\2\6\1\13\377\2\7"},
+    };
+    size_t i, room;
+    for (i = 0; i < sizeof tries / sizeof tries[0]; i++) {
+        const uint8_t *expression = (const uint8_t *)tries[i].expression;
+        const size_t length = strlen(tries[i].expression);
+        const size_t needed = tries[i].length;
+        HOLDS(zgv_compile(tries[i].tag, tries[i].kind, expression, length, NULL, 0) == ((uint64_t)ZGV_OUTPUT_TOO_SHORT << 56 | needed));
+        for (room = 0; room < needed + 20; room++) {
+            uint64_t answer;
+            memset(compiled, 1, 1000);
+            answer = zgv_compile(tries[i].tag, tries[i].kind, expression, length, compiled, room);
+            if (room < needed) {
+                HOLDS(answer == ((uint64_t)ZGV_OUTPUT_TOO_SHORT << 56 | needed) && is_painted(compiled, 0, 1000));
+                continue;
+            }
+            HOLDS(answer == (uint64_t)needed << 28 && is_painted(compiled, needed, 1000));
+            HOLDS(memcmp(compiled, tries[i].rule, needed) == 0);
+        }
+    }
+}
+
+/* Each place of 30 that the header names, and at each kind of byte that may not stand. */
+static void no_expressions(void)
+{
+    static const struct {
+        const char *expression;
+        size_t place;
+    } tries[] = {{"", 0},       {"a**", 2},   {"[b-a]", 3}, {"()", 1},   {"a|", 2},     {"(a", 2},    {"[a-]", 3}, {"[a-c-d]", 4},
+                 {"|a", 0},     {"a||b", 2},  {")", 0},     {"a)", 1},   {"^a", 0},     {"a$", 1},    {"a{2}", 1}, {"*a", 0},
+                 {"(*a)", 1},   {"a+?", 2},   {"[]", 1},    {"[^a]", 1}, {"[a\\]", 2},  {"[[:alpha:]]", 1},       {"[-a]", 1},
+                 {"[a", 2},     {"[a-", 3},   {"[", 1},     {"\\", 1},   {"\\n", 1},    {"a\\]", 2},  {"(a|)", 3}, {"((a)", 4}};
+    static const char ordinary[] = "]}-,#/ \t\n\r\177\377ab\"'&%!<>=~_:;@`";
+    size_t i;
+    for (i = 0; i < sizeof tries / sizeof tries[0]; i++)
+        HOLDS(compiles_not(tries[i].expression, ZGV_NO_EXPRESSION, tries[i].place));
+    HOLDS(zgv_compile(1, 0, (const uint8_t *)"a\0b", 3, compiled, sizeof compiled) == ((uint64_t)ZGV_NO_EXPRESSION << 56 | 1));
+    for (i = 0; ordinary[i] != '\0'; i++) {
+        const char one[] = {ordinary[i], '\0'};
+        HOLDS(zgv_first(compile(one)) == 16 && compiled[12] == (uint8_t)ordinary[i] && compiled[13] == (uint8_t)ordinary[i]);
+    }
+}
+
+/* `count` copies of a text between two others. */
+static const char *copies(const char *before, const char *text, size_t count, const char *after)
+{
+    static char made_text[2000];
+    HOLDS(strlen(before) + count * strlen(text) + strlen(after) < sizeof made_text);
+    strcpy(made_text, before);
+    while (count-- > 0)
+        strcat(made_text, text);
+    return strcat(made_text, after);
+}
+
+/* The edges of 31 and 32, and which number comes first. */
+static void large_expressions(void)
+{
+    char nested[2 * ZGV_REGEX_DEPTH + 4];
+    const char *doubling = ".*[ac]"; /* with n periods behind it, 2^(n + 1) sets */
+    const char *sets_224 = "[ab]*a[ab][ab][ab][ab][ab][ab]|[cd]*c[cd][cd][cd][cd][cd]|[ef]*e[ef][ef][ef][ef]|";
+    HOLDS(zgv_number(compile(copies("", "a", ZGV_REGEX_POSITIONS, ""))) == ZGV_ACCEPTED);
+    HOLDS(compiles_not(copies("", "a", ZGV_REGEX_POSITIONS + 1, ""), ZGV_LARGE_EXPRESSION, 0));
+    HOLDS(compiles_not(copies("", "a", ZGV_REGEX_BYTES, ""), ZGV_LARGE_EXPRESSION, 0));
+    HOLDS(compiles_not(copies("", "a", ZGV_REGEX_BYTES - 1, "("), ZGV_NO_EXPRESSION, ZGV_REGEX_BYTES));
+    HOLDS(compiles_not(copies("", "a", ZGV_REGEX_BYTES, "("), ZGV_LARGE_EXPRESSION, 0));
+    HOLDS(zgv_number(compile(copies("[", "a-c", (ZGV_REGEX_BYTES - 2) / 3, "]"))) == ZGV_ACCEPTED);
+    memset(nested, '(', sizeof nested);
+    strcpy(nested + ZGV_REGEX_DEPTH, "a))))))))))))))))");
+    HOLDS(zgv_number(compile(nested)) == ZGV_ACCEPTED);
+    memset(nested, '(', sizeof nested);
+    strcpy(nested + ZGV_REGEX_DEPTH + 1, "a)))))))))))))))))");
+    HOLDS(strlen(nested) == 2 * ZGV_REGEX_DEPTH + 3 && compiles_not(nested, ZGV_LARGE_EXPRESSION, 0));
+    HOLDS(compiles_not(copies("", "(", 300, "*"), ZGV_NO_EXPRESSION, 300));
+    HOLDS(zgv_number(compile(copies(doubling, ".", 6, ""))) == ZGV_ACCEPTED);
+    HOLDS(compiles_not(copies(doubling, ".", 7, ""), ZGV_TOO_MANY_SETS, 0));
+    HOLDS(compiles_not(copies(doubling, ".", 63, ""), ZGV_LARGE_EXPRESSION, 0));
+    HOLDS(zgv_number(compile(copies(sets_224, "x", ZGV_REGEX_SETS - 224, ""))) == ZGV_ACCEPTED);
+    HOLDS(compiles_not(copies(sets_224, "x", ZGV_REGEX_SETS - 223, ""), ZGV_TOO_MANY_SETS, 0));
+    HOLDS(zgv_number(zgv_compile(1, 0, (const uint8_t *)".*a.......", 10, NULL, 0)) == ZGV_TOO_MANY_SETS);
+}
+
+/* 6 before all others; what a book with the rule alone answers: accepted, 12 and 5. */
+static void compiled_alone(void)
+{
+    static char odd[ZGV_REGEX_BYTES];
+    uint64_t place;
+    size_t length = 0;
+    unsigned byte;
+    HOLDS(zgv_compile(0, 0, NULL, 0, NULL, 0) == (uint64_t)ZGV_OUT_OF_RANGE << 56);
+    HOLDS(zgv_compile(1, 2, sheet, ZGV_REGEX_BYTES + 1, NULL, 0) == (uint64_t)ZGV_OUT_OF_RANGE << 56);
+    HOLDS(zgv_compile(1, 0xFFFFFFFF, (const uint8_t *)"a", 1, NULL, 0) == (uint64_t)ZGV_OUT_OF_RANGE << 56);
+    HOLDS(zgv_compile(1, 1, NULL, 0, NULL, 0) == (uint64_t)ZGV_NO_EXPRESSION << 56);
+    HOLDS(read_alone("(a|bc)*d", &place) == ZGV_ACCEPTED);
+    HOLDS(read_alone("(a|bc)*", &place) == ZGV_START_FINAL && compiled[place] == 7);
+    HOLDS(read_alone("a?b?", &place) == ZGV_START_FINAL && compiled[place] == 7);
+    /* moves at nearly every byte, from each of 17 states, and from each of 129 */
+    strcpy(odd, ".*[");
+    for (byte = 1; byte < 256; byte += 2)
+        if (strchr("][-", (int)byte) == NULL)
+            odd[length++ + 3] = (char)byte;
+    strcpy(odd + 3 + length, "]...");
+    HOLDS(read_alone(odd, &place) == ZGV_TOO_MANY && compiled[place] == 6);
+    strcat(odd, "...");
+    HOLDS(read_alone(odd, &place) == ZGV_BOOK_TOO_LONG && place == 0);
+}
+
 /* Empty buffers may be NULL; 15 says how many records and masks are needed, 22 how many bytes. */
 static void empty(void)
 {
@@ -557,6 +708,10 @@ int main(int argc, char **argv)
     cuts();
     rewriting();
     strictly();
+    compiling();
+    no_expressions();
+    large_expressions();
+    compiled_alone();
     records();
     mask_bits();
     mask_ends();

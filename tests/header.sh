@@ -1,6 +1,6 @@
 #!/bin/sh
-# The header: compiles without a warning as C and as C++, its book, texts, masks, turns, modes and rewriting hold, and its stack is
-# more than calls take.
+# The header: compiles without a warning as C and as C++, its book, texts, masks, turns, modes, rewriting and expressions hold, and its
+# stack is more than calls take.
 . "$(dirname "$0")/common"
 needs build/libzagvulem.a
 
@@ -31,4 +31,4 @@ $CC -std=c99 -O2 -Wall -Wextra -Werror -Iinclude bench/stack.c build/libzagvulem
     fail 'compiling bench/stack.c'
 "$tmp/stack" examples/builtin.bin include/zagvulem.h || fail 'the stack that the header states'
 
-echo "header: $runs compilations without a warning; version, texts, book, cuts, masks, turns, modes, rewriting and stack hold"
+echo "header: $runs compilations without a warning; version, texts, book, cuts, masks, turns, modes, rewriting, expressions and stack hold"

@@ -1,7 +1,7 @@
 #!/bin/sh
 # make install, used as a C programmer would, and make uninstall.
 . "$(dirname "$0")/common"
-needs build/libzagvulem.a build/cutlist
+needs build/libzagvulem.a build/cutlist build/zgvbook
 
 make -s install PREFIX="$tmp/usr" >"$tmp/said" 2>&1 || fail "make install: $(cat "$tmp/said")"
 awk -v LANG=c -f tests/blocks.awk README.md >"$tmp/cut.c"
@@ -13,7 +13,7 @@ else
     flags="-I$tmp/usr/include -L$tmp/usr/lib -lzagvulem"
 fi
 examples=$tmp/usr/share/doc/zagvulem/examples
-(cd "$tmp" && $CC -std=c99 cut.c $flags -o cut && for program in player modernize; do
+(cd "$tmp" && $CC -std=c99 cut.c $flags -o cut && for program in player modernize zgvbook; do
     $CC -std=c99 "$examples/$program.c" $flags -o "$program" || exit 1
 done) || fail 'compiling by what is installed'
 "$tmp/cut" <examples/sheet.txt >/dev/null || fail 'the program of README.md does not run'
@@ -25,6 +25,10 @@ END
 [ "$(cd "$tmp/try" && "$tmp/usr/bin/cutlist")" = 'rest 0 0' ] || fail 'cutlist does not run'
 "$tmp/modernize" "$tmp/try/book.bin" "$tmp/try/spans.bin" 2>/dev/null || fail 'modernize does not run'
 [ "$("$examples/list-book.sh" "$tmp/try/spans.bin" | grep -c ' SPAN ')" -eq 1 ] || fail 'modernize does not rewrite'
+for program in "$tmp/zgvbook" "$tmp/usr/bin/zgvbook"; do
+    "$program" make "$examples/builtin.rules" -o "$tmp/try/made.bin" 2>/dev/null || fail "$program does not run"
+    "$program" check "$tmp/try/made.bin" | grep -q 'accepted: 5 rules' || fail "$program makes another book"
+done
 
 # each document that the header names is there, and points to nothing that is not
 for document in $(grep -o '[A-Z][A-Z]*\.md' "$tmp/usr/include/zagvulem.h" | sort -u); do

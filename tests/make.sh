@@ -14,12 +14,12 @@ unset MAKEFLAGS MFLAGS MAKELEVEL
 make -j4 all >said 2>&1 || fail "make -j4 on a fresh clone: $(cat said)"
 [ ! -e overlap ] || fail "two runs of rt at once: $(cat overlap)"
 [ -s build/libzagvulem.a ] || fail 'make -j4 leaves the library unbuilt'
-for program in cutlist player modernize; do
+for program in cutlist zgvbook player modernize; do
     [ -x "build/$program" ] || fail "make -j4 leaves $program unbuilt"
 done
 grep -q '^rt: reader proved (4 s)$' said || fail "no line for a crate: $(cat said)"
 ! grep -q 'fn reader\|logic=\|unchanged' said || fail "make prints proofs: $(cat said)"
-[ "$(wc -l <said)" -lt 12 ] || fail "make prints $(wc -l <said) lines"
+[ "$(wc -l <said)" -lt 13 ] || fail "make prints $(wc -l <said) lines"
 for log in build/crates.log build/library.log build/cutlist.log; do
     grep -q '^fn reader::read: proved$' "$log" || fail "$log has not all that rt printed"
 done

@@ -1,7 +1,7 @@
 #!/bin/sh
-# README.md: its program in C, its turns, saving between them, and its first command do what it says.
+# README.md: its program in C, its turns, saving between them, its first command and its song house's book do what it says.
 . "$(dirname "$0")/common"
-needs build/libzagvulem.a build/cutlist
+needs build/libzagvulem.a build/cutlist build/zgvbook
 
 awk -v LANG=c -f tests/blocks.awk README.md >"$tmp/cut.c"
 $CC -std=c99 -Wall -Wextra -Werror -pedantic -O2 -Iinclude "$tmp/cut.c" build/libzagvulem.a -o "$tmp/cut" ||
@@ -61,6 +61,20 @@ LC_ALL=C awk 'FNR == NR { sheet = sheet $0 "\n"; next } $1 != "rest" { print $2 
     examples/sheet.txt "$tmp/listed" |
     cmp - "$tmp/tokens" || fail 'make sheet and the program of README.md cut the sheet differently'
 
+# the song house's book is accepted, without a remark, and cuts a sheet to its end
+mkdir "$tmp/build"
+cp build/zgvbook build/cutlist "$tmp/build/"
+awk -v LANG=sh -f tests/blocks.awk README.md | sed -n '/^cat >build\/house.rules/,/^echo @@/p' >"$tmp/house"
+grep -q 'zgvbook check' "$tmp/house" || fail "README.md has no song house's book"
+(cd "$tmp" && sh -e house) >"$tmp/said" 2>&1 || fail "the song house's book: $(cat "$tmp/said")"
+length=$(wc -c <"$tmp/build/house.bin")
+printf 'build/house.rules: 5 rules, a book of %s bytes\nbuild/house.bin: accepted: 5 rules, %s bytes\n@@\n' "$length" "$length" |
+    cmp - "$tmp/said" || fail "of the song house's book it says: $(cat "$tmp/said")"
+mkdir "$tmp/try"
+cp "$tmp/build/house.bin" "$tmp/try/book.bin"
+printf "[00:01.00]Don't go!\r\n" >"$tmp/try/text.bin"
+[ "$(cd "$tmp/try" && ../build/cutlist | cut -d' ' -f2 | tr '\n' ' ')" = '1 2 4 2 3 5 21 ' ] || fail "the song house's book cuts otherwise"
+
 # a rest and a refusal
 printf 'oh no\r\n' | "$tmp/cut" >"$tmp/tokens" 2>"$tmp/said" && fail 'a rest is not told'
 [ "$(cat "$tmp/said")" = 'not cut from byte 5 on, which is 0D' ] || fail "of a rest it says: $(cat "$tmp/said")"
@@ -71,6 +85,6 @@ head -c 65537 /dev/zero | "$tmp/cut" >"$tmp/tokens" 2>"$tmp/said" && fail 'a tex
 nm build/libzagvulem.a | awk '$2 == "T" { print $3 }' | sort >"$tmp/has"
 sed -n 's/^uint64_t \(zgv_[a-z_]*\)(.*/\1/p' include/zagvulem.h | sort >"$tmp/declares"
 diff "$tmp/has" "$tmp/declares" || fail 'the library has other functions than the header declares'
-grep -q 'Nine functions' README.md && [ "$(wc -l <"$tmp/has")" -eq 9 ] || fail 'README.md says another number of functions'
+grep -q 'Ten functions' README.md && [ "$(wc -l <"$tmp/has")" -eq 10 ] || fail 'README.md says another number of functions'
 
-echo "readme: its program, its turns and its first command do what it says"
+echo "readme: its program, its turns, its first command and its song house's book do what it says"

@@ -1,5 +1,6 @@
-//! A call of one of the nine operations, and what it leaves.
+//! A call of one of the ten operations, and what it leaves.
 
+use crate::expressions;
 use crate::reference::{self, Cut, Reading, Record, Refusal, Turn};
 
 #[derive(Clone, Copy, Debug, PartialEq, Eq, PartialOrd, Ord)]
@@ -13,9 +14,10 @@ pub enum Operation {
     LexWithin,
     Print,
     PrintSeparated,
+    Compile,
 }
 
-pub const OPERATIONS: [Operation; 9] = [
+pub const OPERATIONS: [Operation; 10] = [
     Operation::ReadBook,
     Operation::ReadBookStrict,
     Operation::RewriteBook,
@@ -25,6 +27,7 @@ pub const OPERATIONS: [Operation; 9] = [
     Operation::LexWithin,
     Operation::Print,
     Operation::PrintSeparated,
+    Operation::Compile,
 ];
 
 impl Operation {
@@ -39,6 +42,7 @@ impl Operation {
             Operation::LexWithin => "zgv_lex_within",
             Operation::Print => "zgv_print",
             Operation::PrintSeparated => "zgv_print_separated",
+            Operation::Compile => "zgv_compile",
         }
     }
 }
@@ -48,7 +52,7 @@ impl Operation {
 pub struct Call {
     pub operation: Operation,
     pub book: Vec<u8>,
-    /// The text, or the pool.
+    /// The text, the pool or the expression.
     pub text: Vec<u8>,
     pub records: Vec<u8>,
     pub masks: Vec<u8>,
@@ -63,6 +67,9 @@ pub struct Call {
     /// The numbers that are lent to a turn, as the machine holds them.
     pub next: Vec<u8>,
     pub examined: Vec<u8>,
+    /// Of the rule that an expression becomes.
+    pub tag: u16,
+    pub kind: u32,
 }
 
 const NO_RECORD: Record = Record { tag: 0, place: 0, length: 0 };
@@ -83,6 +90,8 @@ impl Call {
             budget: 0,
             next: Vec::new(),
             examined: Vec::new(),
+            tag: 0,
+            kind: 0,
         }
     }
 
@@ -146,6 +155,10 @@ impl Call {
         }
     }
 
+    pub fn compile(tag: u16, kind: u32, regex: &[u8], out: Vec<u8>) -> Call {
+        Call { tag, kind, text: regex.to_vec(), out, ..Call::new(Operation::Compile) }
+    }
+
     /// Of a cut: the tokens that both records and masks can hold.
     pub fn room(&self) -> usize {
         (self.records.len() / reference::RECORD_BYTES).min(self.masks.len() / reference::MASK_BYTES)
@@ -156,6 +169,7 @@ impl Call {
         match self.operation {
             Operation::ReadBook | Operation::ReadBookStrict | Operation::Rule => vec![("book", &self.book)],
             Operation::RewriteBook => vec![("book", &self.book), ("out", &self.out)],
+            Operation::Compile => vec![("regex", &self.text), ("out", &self.out)],
             Operation::Lex => {
                 vec![("book", &self.book), ("text", &self.text), ("records", &self.records), ("masks", &self.masks)]
             }
@@ -177,7 +191,7 @@ impl Call {
     pub fn set_buffer(&mut self, name: &str, bytes: Vec<u8>) {
         match name {
             "book" => self.book = bytes,
-            "text" | "pool" => self.text = bytes,
+            "text" | "pool" | "regex" => self.text = bytes,
             "records" => self.records = bytes,
             "masks" => self.masks = bytes,
             "next" => self.next = bytes,
@@ -289,6 +303,8 @@ pub fn expected(call: &Call) -> Outcome {
             reference::print_separated(&call.book, call.separator, call.mode, &list(), &call.text, call.out.len())
                 .map(|bytes| write(bytes, &mut after.out))
         }
+        Operation::Compile => expressions::compile(call.tag, call.kind, &call.text, call.out.len())
+            .map(|bytes| write(bytes, &mut after.out)),
     };
     Outcome {
         answer: answer.unwrap_or_else(refused),

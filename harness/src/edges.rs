@@ -2,6 +2,7 @@
 
 use crate::calls::{Call, Operation, BUILTIN};
 use crate::dead;
+use crate::expression_edges;
 use crate::fewest;
 use crate::generate::{bytes_of, Book, Rule};
 use crate::masks;
@@ -125,6 +126,7 @@ pub fn calls() -> Vec<(String, Call)> {
     prints(&mut add);
     separated(&mut add);
     dead::branches(&mut add);
+    expression_edges::expressions(&mut add);
     fewest::lists(&mut add);
     masks::cuts(&mut add);
     rewriting::books(&mut add);

@@ -154,7 +154,7 @@ fn said(call: &Call, outcome: &Outcome) -> String {
     }
     match call.operation {
         Operation::ReadBook | Operation::ReadBookStrict => format!("{count} rule"),
-        Operation::RewriteBook => format!("{count} bytes"),
+        Operation::RewriteBook | Operation::Compile => format!("{count} bytes"),
         Operation::Rule => format!("tag {count}, kind {}", answer.second()),
         Operation::Print | Operation::PrintSeparated => {
             format!("{:?}", String::from_utf8_lossy(&outcome.buffers[3][..count]))

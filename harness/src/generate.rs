@@ -1,6 +1,7 @@
 //! Random books, texts, lists and buffers, valid and damaged.
 
 use crate::calls::{self, Answer, Call, Operation};
+use crate::compiling;
 use crate::random::Random;
 use crate::reference::{self as paper, Command, Move, Record, Width};
 use crate::rewriting;
@@ -880,7 +881,7 @@ fn without_step(r: &mut Random, book: &[u8], count: usize) -> Vec<Call> {
 }
 
 /// The calls of one case: a book, each operation on it, and writing with separators by another book, which is read strictly and
-/// rewritten too; now and then a book that rewriting may make too long, and one with large rules. Turns come last.
+/// rewritten too; now and then a book that rewriting may make too long, and one with large rules; turns, and expressions.
 pub fn case(r: &mut Random) -> Vec<Call> {
     let (rules, alphabet) = book(r);
     let sound = shuffled(r, &rules);
@@ -922,6 +923,7 @@ pub fn case(r: &mut Random) -> Vec<Call> {
         calls.extend(turns(r, (&large, &letters), &bytes, 60));
     }
     calls.extend(turns(r, (&rules, &alphabet), &bytes, longest));
+    calls.extend(compiling::calls(r));
     calls
 }
 

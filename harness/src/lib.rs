@@ -4,9 +4,13 @@
 //! harness [--cases N] [--seed S] [--case K] [--plant FAULT] [--threads N] [--verbose] [--count]
 
 mod calls;
+mod compile_faults;
+mod compiling;
 mod dead;
 mod edges;
 mod examples;
+mod expression_edges;
+mod expressions;
 mod fewest;
 mod generate;
 mod library;
@@ -76,7 +80,7 @@ fn options() -> Options {
 type Met = BTreeMap<(Operation, u8), u64>;
 
 /// What a thread has met and tried.
-type Found = (Met, Tried, rewriting::Tried, sequences::Tried);
+type Found = (Met, Tried, rewriting::Tried, sequences::Tried, compiling::Tried);
 
 struct Run {
     library: Library,
@@ -85,6 +89,7 @@ struct Run {
     tried: Tried,
     laws: Laws,
     turns: sequences::Tried,
+    compiled: compiling::Tried,
 }
 
 impl Run {
@@ -96,6 +101,7 @@ impl Run {
             tried: Tried::default(),
             laws: Laws::default(),
             turns: sequences::Tried { planted: plant, ..sequences::Tried::default() },
+            compiled: compiling::Tried::default(),
         }
     }
 
@@ -137,7 +143,8 @@ impl Run {
     /// Of the laws of the library's calls among themselves, the first that is broken, and how.
     fn law(&mut self, call: &Call, second: &Outcome) -> Result<(), (&'static str, String)> {
         self.laws.check(&mut self.library, call, second).map_err(|how| ("REWRITING", how))?;
-        self.turns.check(&mut self.library, call, second).map_err(|how| ("TURNS", how))
+        self.turns.check(&mut self.library, call, second).map_err(|how| ("TURNS", how))?;
+        self.compiled.check(&mut self.library, call, second).map_err(|how| ("RULE OF AN EXPRESSION", how))
     }
 
     fn difference(&mut self, call: &Call, against: Against, second: &Outcome) -> Option<String> {
@@ -169,6 +176,7 @@ fn possible(operation: Operation) -> Vec<u8> {
         Operation::LexWithin => book.chain([14, 15, 27]).collect(),
         Operation::Print => book.chain(16..=22).collect(),
         Operation::PrintSeparated => book.chain(16..=20).chain(22..=26).collect(),
+        Operation::Compile => vec![0, 6, 22, 30, 31, 32],
     }
 }
 
@@ -216,7 +224,7 @@ impl Work<'_> {
             let result = self.one(&mut run, number);
             self.done(number, result);
         }
-        (run.met, run.tried, run.laws.tried, run.turns)
+        (run.met, run.tried, run.laws.tried, run.turns, run.compiled)
     }
 
     /// The next number; none where there is no more or one before it has a difference.
@@ -298,11 +306,13 @@ pub fn main() {
     let mut tried = Tried::default();
     let mut books = rewriting::Tried::default();
     let mut turns = sequences::Tried::default();
-    for (answers, lists, rewritten, in_turns) in each {
+    let mut expressions = compiling::Tried::default();
+    for (answers, lists, rewritten, in_turns, compiled) in each {
         answers.into_iter().for_each(|(answer, count)| *met.entry(answer).or_default() += count);
         tried.add(lists);
         books.add(rewritten);
         turns.add(in_turns);
+        expressions.add(compiled);
     }
     let mut missing = never_met(&met);
     let Tried { lists, ways, tighter } = tried;
@@ -324,6 +334,14 @@ pub fn main() {
     );
     if extended == 0 || turns == sequences || idle == 0 || saves == 0 {
         missing.push("a text that takes several turns".to_string());
+    }
+    let compiling::Tried { rules, tokens, too_long, too_many, empty } = expressions;
+    println!(
+        "expressions: {rules} rules read, {tokens} tokens by them; not read for their bytes {too_long}, their moves {too_many}, the \
+         empty string {empty}"
+    );
+    if [rules, tokens, too_long, too_many, empty].contains(&0) {
+        missing.push("an expression whose rule is read, or not".to_string());
     }
     let numbers: BTreeSet<u8> = met.keys().map(|(_, n)| *n).filter(|n| *n > 0).collect();
     println!(

@@ -65,6 +65,7 @@ extern "C" {
         out: *mut u8,
         out_len: usize,
     ) -> u64;
+    fn zgv_compile(tag: u16, kind: u32, regex: *const u8, regex_len: usize, out: *mut u8, out_len: usize) -> u64;
 
     fn mmap(addr: *mut c_void, len: usize, prot: i32, flags: i32, fd: i32, offset: i64) -> *mut c_void;
     fn mprotect(addr: *mut c_void, len: usize, prot: i32) -> i32;
@@ -212,6 +213,7 @@ impl Library {
                 Operation::PrintSeparated => zgv_print_separated(
                     p[0], n[0], s.tag, s.place, s.length, call.mode, p[1], n[1], p[2], n[2], p[3], n[3],
                 ),
+                Operation::Compile => zgv_compile(call.tag, call.kind, p[0], n[0], p[1], n[1]),
             }
         }
     }

@@ -2,6 +2,7 @@
 //! fault alters what goes into a call or what comes out of it.
 
 use crate::calls::{Answer, Call, Operation, Outcome, BUILTIN};
+use crate::compile_faults;
 use crate::library::{Against, Library};
 use crate::reference::{self, Command, Reading, Width};
 use crate::turn_faults;
@@ -123,9 +124,39 @@ pub enum Fault {
     HalfAPlace,
     /// Saved is what the last turn gave.
     LastTurnAlone,
+    /// A period takes 0A.
+    LineFeed,
+    /// + is taken as *.
+    PlusIsStar,
+    /// A range ends before its last end.
+    OpenRange,
+    /// Of strings of equal length the highest comes first in the numbering of sets.
+    HighestFirst,
+    /// The last SPAN of several bytes ends one earlier.
+    SpanShort,
+    /// The last SPAN of several bytes becomes two.
+    SpanSplit,
+    /// Moves to the error state have SPANs too.
+    ErrorSpans,
+    /// The SPANs of a state stand by their target.
+    ByTarget,
+    /// FINAL 0 is not written.
+    StartUnsaid,
+    /// 30 is said at the byte behind its place.
+    FaultLate,
+    /// 31 for positions and depth comes before 30.
+    LimitFirst,
+    /// 32 is said of 254 sets.
+    ASetLess,
+    /// 6 comes after 31 and 30.
+    TagLate,
+    /// 22 leaves the beginning of the rule in the output.
+    RuleCutOff,
+    /// The byte behind the rule is changed.
+    BehindTheRule,
 }
 
-pub const FAULTS: [Fault; 57] = [
+pub const FAULTS: [Fault; 72] = [
     Fault::Tie,
     Fault::Need,
     Fault::PastTheCount,
@@ -183,6 +214,21 @@ pub const FAULTS: [Fault; 57] = [
     Fault::HalfABudget,
     Fault::HalfAPlace,
     Fault::LastTurnAlone,
+    Fault::LineFeed,
+    Fault::PlusIsStar,
+    Fault::OpenRange,
+    Fault::HighestFirst,
+    Fault::SpanShort,
+    Fault::SpanSplit,
+    Fault::ErrorSpans,
+    Fault::ByTarget,
+    Fault::StartUnsaid,
+    Fault::FaultLate,
+    Fault::LimitFirst,
+    Fault::ASetLess,
+    Fault::TagLate,
+    Fault::RuleCutOff,
+    Fault::BehindTheRule,
 ];
 
 impl Fault {
@@ -245,6 +291,21 @@ impl Fault {
             Fault::HalfABudget => "half-a-budget",
             Fault::HalfAPlace => "half-a-place",
             Fault::LastTurnAlone => "last-turn-alone",
+            Fault::LineFeed => "line-feed",
+            Fault::PlusIsStar => "plus-is-star",
+            Fault::OpenRange => "open-range",
+            Fault::HighestFirst => "highest-first",
+            Fault::SpanShort => "span-short",
+            Fault::SpanSplit => "span-split",
+            Fault::ErrorSpans => "error-spans",
+            Fault::ByTarget => "by-target",
+            Fault::StartUnsaid => "start-unsaid",
+            Fault::FaultLate => "fault-late",
+            Fault::LimitFirst => "limit-first",
+            Fault::ASetLess => "a-set-less",
+            Fault::TagLate => "tag-late",
+            Fault::RuleCutOff => "rule-cut-off",
+            Fault::BehindTheRule => "behind-the-rule",
         }
     }
 
@@ -323,6 +384,21 @@ pub fn run(fault: Option<Fault>, library: &mut Library, call: &Call, against: Ag
         }
         // in the calls that save, which sequences makes
         Fault::LastTurnAlone => sound,
+        Fault::LineFeed => compile_faults::by_tree(call, sound, compile_faults::line_feed, |byte| byte),
+        Fault::PlusIsStar => compile_faults::by_tree(call, sound, compile_faults::plus_is_star, |byte| byte),
+        Fault::OpenRange => compile_faults::open_range(library, call, against, sound)?,
+        Fault::HighestFirst => compile_faults::by_tree(call, sound, |tree| tree, |byte| !byte),
+        Fault::SpanShort => compile_faults::by_spans(call, sound, compile_faults::span_short),
+        Fault::SpanSplit => compile_faults::by_spans(call, sound, compile_faults::span_split),
+        Fault::ErrorSpans => compile_faults::by_spans(call, sound, compile_faults::error_spans),
+        Fault::ByTarget => compile_faults::by_spans(call, sound, compile_faults::by_target),
+        Fault::StartUnsaid => compile_faults::by_spans(call, sound, compile_faults::start_unsaid),
+        Fault::FaultLate => compile_faults::fault_late(call, sound),
+        Fault::LimitFirst => compile_faults::limit_first(call, sound),
+        Fault::ASetLess => compile_faults::a_set_less(call, sound),
+        Fault::TagLate => compile_faults::tag_late(library, call, against, sound)?,
+        Fault::RuleCutOff => compile_faults::rule_cut_off(call, sound),
+        Fault::BehindTheRule => compile_faults::behind_the_rule(call, sound),
     })
 }
 
@@ -387,7 +463,7 @@ fn last_separator(call: &Call, outcome: Outcome) -> Outcome {
 }
 
 /// What a printer leaves that has this text to write.
-fn written(call: &Call, text: &[u8]) -> Outcome {
+pub fn written(call: &Call, text: &[u8]) -> Outcome {
     let mut after = call.clone();
     let answer = if call.out.len() < text.len() {
         22 << 56 | text.len() as u64
@@ -586,7 +662,7 @@ fn by_other_book(
     sound: Outcome,
     other: fn(&[u8]) -> Vec<u8>,
 ) -> Result<Outcome, String> {
-    if matches!(call.operation, Operation::LexBuiltin | Operation::RewriteBook) {
+    if matches!(call.operation, Operation::LexBuiltin | Operation::RewriteBook | Operation::Compile) {
         return Ok(sound);
     }
     let book = other(&call.book);

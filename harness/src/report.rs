@@ -150,6 +150,9 @@ pub fn reproduction(call: &Call, ours: &Result<Outcome, String>, second: &Outcom
     if call.operation == Operation::Rule {
         lines.push(format!("  index {}", call.index));
     }
+    if call.operation == Operation::Compile {
+        lines.push(format!("  tag {}, kind {}", call.tag, call.kind));
+    }
     if call.operation == Operation::LexWithin {
         lines.push(format!("  place {}, budget {}", call.place, call.budget));
     }
