@@ -6,7 +6,7 @@
  *
  * The library stores a record and a mask of each token, the other lexers records alone.
  */
-#define _POSIX_C_SOURCE 199309L
+#define _XOPEN_SOURCE 600
 
 #include "books.h"
 #include "chains.h"
@@ -17,6 +17,7 @@
 #include <stdio.h>
 #include <stdlib.h>
 #include <string.h>
+#include <sys/resource.h>
 #include <time.h>
 
 enum { ROUNDS = 80, SHEET = 65536, LINE = 30, LINES = 512, MAX_CONTENDERS = 128 };
@@ -1042,6 +1043,293 @@ static void bench_growth(void)
         moves_spread(spread[i]);
 }
 
+/* ---- Expressions */
+
+typedef struct expression {
+    const char *name;
+    uint8_t text[ZGV_REGEX_BYTES];
+    size_t len;
+    unsigned number; /* that it is answered by */
+    size_t sets;     /* of its rule, where one is made */
+    uint64_t answer;
+} expression;
+
+enum { HOUSE = 12, EXPRESSIONS = 32, HOUSE_BYTES = 60, TOOL_ROUNDS = 20 };
+
+static expression expressions[EXPRESSIONS];
+static size_t expression_count;
+static uint8_t rule_bytes[ZGV_REGEX_OUTPUT];
+
+static void run_expression(size_t i)
+{
+    const expression *e = &expressions[i];
+    sink = zgv_compile(1, ZGV_KIND_PLAIN, e->text, e->len, rule_bytes, sizeof rule_bytes);
+}
+
+/* The highest state that the rule's moves lead to, which is the number of its sets. */
+static size_t highest_state(size_t len)
+{
+    static const uint8_t widths[] = {1, 4, 2, 2, 2, 4, 5, 1};
+    size_t at, highest = 0;
+    for (at = 0; at < len; at += widths[rule_bytes[at]])
+        if (rule_bytes[at] == 6 && rule_bytes[at + 4] > highest)
+            highest = rule_bytes[at + 4];
+    return highest;
+}
+
+static expression *new_expression(const char *name, unsigned number)
+{
+    expression *e = &expressions[expression_count];
+    if (expression_count++ == EXPRESSIONS)
+        fail("too many expressions");
+    memset(e, 0, sizeof *e);
+    e->name = name;
+    e->number = number;
+    return e;
+}
+
+static void put_text(expression *e, const void *text, size_t len)
+{
+    if (e->len + len > sizeof e->text)
+        fail("an expression is too long");
+    memcpy(e->text + e->len, text, len);
+    e->len += len;
+}
+
+static void put_byte(expression *e, unsigned byte, size_t times)
+{
+    const uint8_t text = (uint8_t)byte;
+    for (; times > 0; times--)
+        put_text(e, &text, 1);
+}
+
+/* It is answered as it should be. */
+static void check_expression(expression *e)
+{
+    run_expression((size_t)(e - expressions));
+    e->answer = sink;
+    if (zgv_number(sink) != e->number)
+        fail("an expression is answered otherwise");
+    e->sets = e->number == ZGV_ACCEPTED ? highest_state(zgv_first(sink)) : 0;
+}
+
+static void add_expression(const char *name, const char *text)
+{
+    expression *e = new_expression(name, ZGV_ACCEPTED);
+    put_text(e, text, strlen(text));
+    if (e->len > HOUSE_BYTES)
+        fail("an expression of a song house is too long");
+    check_expression(e);
+}
+
+/* The rules of bench/house.l and bench/house.re. */
+static void add_house(void)
+{
+    add_expression("timestamp", "\\[[0-9][0-9]:[0-9][0-9]\\.[0-9][0-9]]");
+    add_expression("word", "[A-Za-z\x80-\xFF]+('[a-z]+)?");
+    add_expression("quoted cue", "\"[A-Za-z0-9 ,.!?']*\"");
+    add_expression("key name", "(title|artist|album|key|tempo|offset|length|by):");
+    add_expression("colour", "#[0-9a-f][0-9a-f][0-9a-f][0-9a-f][0-9a-f][0-9a-f]");
+    add_expression("chord", "[A-G](#|b)?(m|maj|min|dim)?7?");
+    add_expression("chord over a bass", "[A-G](#|b)?(m|maj7?|dim|sus[24])?/[A-G](#|b)?");
+    add_expression("number", "[0-9]+(\\.[0-9]+)?");
+    add_expression("directive", "\\{[a-z_]+(:[A-Za-z0-9 ,.]+)?}");
+    add_expression("repeat", "\\|:|:\\||x[0-9][0-9]?");
+    add_expression("blanks", "[ \t]+");
+    add_expression("line's end", "\r?\n");
+    if (expression_count != HOUSE)
+        fail("a song house has a dozen expressions");
+}
+
+/* A list of the bytes for which the test holds; no byte that may not stand in one is its end. */
+static void put_list(expression *e, int (*holds)(unsigned byte, unsigned k), unsigned k)
+{
+    unsigned low, high;
+    put_byte(e, '[', 1);
+    for (low = 1; low < 256; low = high + 1) {
+        unsigned first = low, last;
+        high = low;
+        if (!holds(low, k))
+            continue;
+        while (high < 255 && holds(high + 1, k))
+            high++;
+        last = high;
+        while (first <= last && strchr("][-\\^", (int)first) != NULL)
+            first++;
+        while (first <= last && strchr("][-\\^", (int)last) != NULL)
+            last--;
+        if (first > last)
+            continue;
+        put_byte(e, first, 1);
+        if (last - first > 1)
+            put_byte(e, '-', 1);
+        if (last > first)
+            put_byte(e, last, 1);
+    }
+    put_byte(e, ']', 1);
+}
+
+/* Bit k of a code that each byte has for itself: its lowest bit, then a Gray code of the others. */
+static int has_code_bit(unsigned byte, unsigned k) { return (k == 0 ? byte : (byte >> 1 ^ byte >> 2) >> (k - 1)) & 1; }
+static int is_even(unsigned byte, unsigned unused)
+{
+    (void)unused;
+    return byte % 2 == 0 && byte != '\n';
+}
+
+/* Eight lists, so that nearly every byte leads to a set of its own. */
+static void put_lists(expression *e)
+{
+    unsigned k;
+    put_byte(e, '(', 1);
+    for (k = 0; k < 8; k++) {
+        if (k > 0)
+            put_byte(e, '|', 1);
+        put_list(e, has_code_bit, k);
+    }
+    put_byte(e, ')', 1);
+}
+
+/* First a set for nearly each byte; from each of them, and from there on, two other sets in turns, so that a set is looked up at each
+   byte, behind all others. */
+static void add_turns(const char *name, unsigned number, const char *tail)
+{
+    expression *e = new_expression(name, number);
+    put_lists(e);
+    put_text(e, "(.|", 3);
+    put_list(e, is_even, 0);
+    put_text(e, tail, strlen(tail));
+    check_expression(e);
+}
+
+static void add_worst(void)
+{
+    expression *e = new_expression("a byte at a fixed distance from the end", ZGV_ACCEPTED);
+    put_text(e, ".*a......", 9);
+    check_expression(e);
+    e = new_expression("each byte leads to a set of its own, from everywhere", ZGV_ACCEPTED);
+    put_lists(e);
+    put_byte(e, '*', 1);
+    check_expression(e);
+    add_turns("each byte leads to a set of its own, then to one of the two last in turns", ZGV_ACCEPTED, "\xFF?)*");
+    if (expressions[expression_count - 1].sets != ZGV_REGEX_SETS)
+        fail("the worst expression has not as many sets as it may have");
+}
+
+static void add_refused(void)
+{
+    expression *e;
+    add_turns("as the last above, and a set too many at the last byte of the last set", ZGV_TOO_MANY_SETS, "(\xFF\xFF?)?)*");
+    e = new_expression("a byte at a fixed distance from the end, one period more", ZGV_TOO_MANY_SETS);
+    put_text(e, ".*a.......", 10);
+    check_expression(e);
+    e = new_expression("512 opening parentheses", ZGV_NO_EXPRESSION);
+    put_byte(e, '(', ZGV_REGEX_BYTES);
+    check_expression(e);
+    e = new_expression("255 parentheses inside others", ZGV_LARGE_EXPRESSION);
+    put_byte(e, '(', 255);
+    put_byte(e, 'a', 1);
+    put_byte(e, ')', 255);
+    check_expression(e);
+    e = new_expression("102 lists of all bytes", ZGV_LARGE_EXPRESSION);
+    while (e->len < 510)
+        put_text(e, "[\x01-\xFF]", 5);
+    check_expression(e);
+    e = new_expression("512 bytes", ZGV_LARGE_EXPRESSION);
+    put_byte(e, 'a', ZGV_REGEX_BYTES);
+    check_expression(e);
+}
+
+/* The expression as code of a page. */
+static void print_expression(const expression *e)
+{
+    size_t i;
+    printf("`");
+    for (i = 0; i < e->len; i++)
+        if (e->text[i] == '|')
+            printf("\\|");
+        else if (e->text[i] < ' ' || e->text[i] > '~')
+            printf(e->text[i] == '\t' ? "\\t" : e->text[i] == '\n' ? "\\n" : e->text[i] == '\r' ? "\\r" : "\\x%02X", e->text[i]);
+        else
+            printf("%c", e->text[i]);
+    printf("`");
+}
+
+static void house_zgv(void)
+{
+    size_t i;
+    for (i = 0; i < HOUSE; i++)
+        run_expression(i);
+}
+
+#if defined HAVE_FLEX || defined HAVE_RE2C
+/* Processor time of programs that this one started. */
+static double now_started(void)
+{
+    struct rusage r;
+    getrusage(RUSAGE_CHILDREN, &r);
+    return (double)(r.ru_utime.tv_sec + r.ru_stime.tv_sec) + 1e-6 * (double)(r.ru_utime.tv_usec + r.ru_stime.tv_usec);
+}
+
+/* A line of the table: the best time of a program over a file of the rules. */
+static void tool_line(const char *name, const char *command, double house)
+{
+    double best = 1e9;
+    int round;
+    for (round = 0; round < TOOL_ROUNDS; round++) {
+        double begin = now_started(), spent;
+        if (system(command) != 0)
+            fail("a generator fails");
+        spent = now_started() - begin;
+        if (spent < best)
+            best = spent;
+    }
+    printf("| %s | %.2f | %.0f |\n", name, best * 1e6, best / house);
+}
+#endif
+
+static void bench_expressions(void)
+{
+    double best[EXPRESSIONS], house;
+    size_t i, worst, refused;
+    contender all[] = {{"", house_zgv, 0, 0}};
+    add_house();
+    worst = expression_count;
+    add_worst();
+    refused = expression_count;
+    add_refused();
+    measure_each(run_expression, expression_count, best);
+    printf("\n### Making rules of a song house's expressions\n\n"
+           "| rule | expression | its bytes | sets | bytes of the rule | µs a call |\n|---|---|---:|---:|---:|---:|\n");
+    for (i = 0; i < worst; i++) {
+        printf("| %s | ", expressions[i].name);
+        print_expression(&expressions[i]);
+        printf(" | %lu | %lu | %lu | %.2f |\n", (unsigned long)expressions[i].len, (unsigned long)expressions[i].sets,
+               (unsigned long)zgv_first(expressions[i].answer), best[i] * 1e6);
+    }
+    printf("\n### Making rules of the worst expressions\n\n"
+           "| expression | its bytes | sets | bytes of the rule | µs a call |\n|---|---:|---:|---:|---:|\n");
+    for (i = worst; i < refused; i++)
+        printf("| %s | %lu | %lu | %lu | %.2f |\n", expressions[i].name, (unsigned long)expressions[i].len,
+               (unsigned long)expressions[i].sets, (unsigned long)zgv_first(expressions[i].answer), best[i] * 1e6);
+    printf("\n### Refusing expressions\n\n| expression | its bytes | refused by | µs a call |\n|---|---:|---:|---:|\n");
+    for (i = refused; i < expression_count; i++)
+        printf("| %s | %lu | %u | %.2f |\n", expressions[i].name, (unsigned long)expressions[i].len, expressions[i].number,
+               best[i] * 1e6);
+    measure(all, 1);
+    house = all[0].best;
+    printf("\n### The song house's dozen, beside generators of scanners\n\n| | µs | time, first line = 1 |\n|---|---:|---:|\n"
+           "| `zgv_compile`, a call for each | %.2f | 1 |\n", house * 1e6);
+    fflush(stdout);
+#ifdef HAVE_FLEX
+    tool_line("flex, full tables, a run of the program", "exec flex -Cf -o build/bench/house.flex.c bench/house.l", house);
+    tool_line("flex, compressed tables, the same", "exec flex -Cem -o build/bench/house.flex.c bench/house.l", house);
+#endif
+#ifdef HAVE_RE2C
+    tool_line("re2c, a run of the program", "exec re2c -o build/bench/house.re2c.c bench/house.re", house);
+#endif
+}
+
 /* ---- Hostile inputs */
 
 static size_t hostile_len;
@@ -1183,8 +1471,12 @@ int main(int argc, char **argv)
     table = malloc(sizeof *table);
     if (sheet == NULL || records == NULL || masks == NULL || out == NULL || table == NULL)
         fail("out of memory");
-    if (argc != 2 && !(argc == 3 && strcmp(argv[2], "earlier") == 0))
-        fail("usage: bench BOOK [earlier]");
+    if (argc != 2 && !(argc == 3 && (strcmp(argv[2], "earlier") == 0 || strcmp(argv[2], "expressions") == 0)))
+        fail("usage: bench BOOK [earlier | expressions]");
+    if (argc == 3 && strcmp(argv[2], "expressions") == 0) {
+        bench_expressions();
+        return 0;
+    }
     read_builtin(argv[1]);
     make_sheet();
     make_lines();
@@ -1213,6 +1505,7 @@ int main(int argc, char **argv)
     bench_small();
     bench_rewriting();
     bench_largest();
+    bench_expressions();
     bench_hostile();
     return 0;
 }

@@ -12,7 +12,7 @@ missing=
 [ -n "${NO_FLEX:-}" ] || command -v flex >/dev/null || missing="$missing flex"
 [ -n "${NO_RE2C:-}" ] || command -v re2c >/dev/null || missing="$missing re2c"
 if [ -n "$missing" ] && [ "${INSTALL:-}" = 1 ]; then
-    apt-get install -y $missing >&2
+    apt-get update >&2 && apt-get install -y $missing >&2
 elif [ -n "$missing" ]; then
     echo "The benchmark measures the library beside flex and re2c, and has not:$missing." >&2
     echo "Install the packages of these names, or have make bench INSTALL=1 do it by apt-get; NO_FLEX=1 and NO_RE2C=1 leave them out." >&2

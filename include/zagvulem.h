@@ -187,8 +187,9 @@
  *                               the same state before it: under 10 ms
  *    rewriting a book           reading it, and its length twice more
  *    an expression              for each set and each byte, of 256, the positions
- *                               that may come next, and a look for the set that
- *                               they are among those found before
+ *                               that may come next and, where they change from
+ *                               one byte to the next, a look for their set among
+ *                               those found before: under 20 ms
  *
  * A step looks through the moves that leave a state one by one, at most 256. On
  * the machine of PERFORMANCE.md one rule that matches "a", and also any number of
