@@ -1,9 +1,11 @@
 // What a call answers: a refusal, or, in an enum for each kind of call, what it came to.
 
+#![tactic(auto)]
+
 // The number of document 01 and a place.
 ghost use Rattle.std.specs.Prelude.{◌≡◌};
 
-#[derive(Drop)]
+#[derive(Clone, Copy)]
 pub struct Refusal {
     pub number: u8,
     pub place: usize,
@@ -75,7 +77,7 @@ impl Refusal {
 }
 
 // What reading a book answers: the number of its rules, or a refusal.
-#[derive(Drop)]
+#[derive(Clone, Copy)]
 pub enum BookAnswer {
     Accepted(usize),
     Refused(Refusal),
@@ -90,7 +92,7 @@ impl BookAnswer {
 }
 
 // What asking for one rule of a book answers: its tag and its kind, or a refusal.
-#[derive(Drop)]
+#[derive(Clone, Copy)]
 pub enum RuleAnswer {
     Rule { tag: usize, kind: usize },
     Refused(Refusal),
@@ -105,7 +107,7 @@ impl RuleAnswer {
 }
 
 // What lexing a text answers: the number of tokens and the place of the rest, or a refusal.
-#[derive(Drop)]
+#[derive(Clone, Copy)]
 pub enum LexAnswer {
     Lexed { tokens: usize, rest: usize },
     Refused(Refusal),
@@ -121,7 +123,7 @@ impl LexAnswer {
 
 // What a turn of lexing answers: the number of its tokens, the next place, the bytes that it examined, and whether it is finished (else it
 // is spent); or a refusal.
-#[derive(Drop)]
+#[derive(Clone, Copy)]
 pub enum TurnAnswer {
     Turned {
         tokens: usize,
@@ -141,7 +143,7 @@ impl TurnAnswer {
 }
 
 // What printing answers: the number of bytes written, or a refusal.
-#[derive(Drop)]
+#[derive(Clone, Copy)]
 pub enum PrintAnswer {
     Printed(usize),
     Refused(Refusal),

@@ -1,4 +1,6 @@
 // An answer as one word of 64 bits, and read back; specs/Words.antt says which bits hold what.
+#![tactic(auto)]
+
 ghost use Rattle.std.specs.Prelude.{◌≡◌, min};
 ghost use Rattle.longest_match.specs.Masks.{bit};
 ghost use Rattle.answer_word.specs.Words.{refusal_word, accepted_word, book_word, lex_word, print_word};

@@ -1,5 +1,7 @@
 // Rules at run time: a book's rules in one slice of words, the table. What is in a table and where is said in specs/Layers.antt and
 // known here, in `words` and in crate `table_builder` alone, which fills one. Crate `walker` goes along a rule's transitions over a text.
+#![tactic(auto)]
+
 pub mod words;
 
 ghost use Rattle.std.specs.Prelude.{◌≡◌, List, eqb, length};

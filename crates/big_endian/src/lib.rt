@@ -1,4 +1,6 @@
 // Numbers of two and of four bytes, high byte first, as books and records have them.
+#![tactic(auto)]
+
 ghost use Rattle.std.specs.Prelude.{◌≡◌, ◌+◌, ◌≤◌, length};
 ghost use Rattle.std.proofs.lemmas.List.Edits.{sets};
 ghost use Rattle.big_endian.specs.Numbers.{two_at, four_at, two, four};

@@ -1,5 +1,7 @@
 // What has been read of a book, and what each command makes of it and of the table.
 // Here are the limits, START, ERROR, FINAL and END; `opening` has RULE, `moving` STEP and SPAN; CLOSE is crate `closing`.
+#![tactic(auto)]
+
 pub mod moving;
 pub mod opening;
 
@@ -14,7 +16,7 @@ use command::Command;
 
 // A book that is being read: how many rules are closed, where the transitions of the open rule begin in the table and the next one
 // goes, and the rest of the open rule. Its transitions are in the table already, its final states in the cells of its states.
-#[derive(Drop)]
+#[derive(Clone, Copy)]
 pub struct Book {
     pub rules: usize,
     pub first: usize,
@@ -31,7 +33,7 @@ pub struct Book {
 }
 
 // What a command comes to. `Narrow`: nothing yet, since the cells that are lent do not reach a state of the command.
-#[derive(Drop)]
+#[derive(Clone, Copy)]
 pub enum Progress {
     On(Book),
     Done(usize),

@@ -11,7 +11,7 @@ use crate::{Book, Progress};
 use answer::Refusal;
 
 // The paper's move: from one state, at each byte from `low` to `high`, to another.
-#[derive(Drop)]
+#[derive(Clone, Copy)]
 pub struct Move {
     pub from: u16,
     pub low: u8,

@@ -1,6 +1,8 @@
 // Cutting by a book's bytes, open to every caller: it asks nothing and refuses what is unfit. `lex` cuts a text, `rest` hands back what is
 // left of it. The table for the book's rules is a local of the call: `sizes` picks its size, loads the book, and has crate `lexer` cut by
 // the rules that it then holds.
+#![tactic(auto)]
+
 pub mod sizes;
 
 ghost use Rattle.std.specs.Prelude.{◌≡◌};

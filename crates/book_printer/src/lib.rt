@@ -1,6 +1,8 @@
 // Printing by a book's bytes, open to every caller: it asks nothing and refuses what is unfit. The scratch in which a list is put together
 // and the table for the book's rules are locals of the call: `sizes` picks their sizes, loads the book, and has crate `printer` print by
 // the rules that it then holds.
+#![tactic(auto)]
+
 mod sizes;
 
 ghost use Rattle.std.specs.Prelude.{◌≡◌};

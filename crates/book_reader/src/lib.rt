@@ -1,5 +1,7 @@
 // Reading a book by its bytes, open to every caller: `read` answers the number of rules or the refusal, `read_strict` the same but that it
 // refuses STEP, `rule` the tag and kind of one rule. The table is a local of the call, and `sizes` picks its size.
+#![tactic(auto)]
+
 pub mod sizes;
 
 ghost use Rattle.std.specs.Prelude.{◌≡◌, List, length};
@@ -44,7 +46,7 @@ pub fn rule(book: &[u8], index: usize) -> RuleAnswer
 }
 
 // What is read off a book: the answer of reading it, and what is said of one of its rules.
-#[derive(Drop)]
+#[derive(Clone, Copy)]
 pub struct Inspected {
     pub rules: BookAnswer,
     pub rule: RuleAnswer,

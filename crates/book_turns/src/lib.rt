@@ -1,5 +1,7 @@
 // Cutting in turns (document 02, wish 1) by a book's bytes, open to every caller: it asks nothing and refuses what is unfit. The table for
 // the book's rules is a local of the call: `sizes` picks its size, loads the book, and has crate `turns` take the turn.
+#![tactic(auto)]
+
 mod sizes;
 
 ghost use Rattle.std.specs.Prelude.{◌≡◌};

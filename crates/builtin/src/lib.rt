@@ -1,5 +1,7 @@
 // Lexing by the built-in book of document 01, through its byte classes. `commands` has the book's bytes, `tables` the classes and the
 // automaton of all five rules, `scanner` the walk over them.
+#![tactic(auto)]
+
 pub mod commands;
 pub mod scanner;
 pub mod tables;

@@ -12,7 +12,7 @@ const START: usize = 16;
 const ACCEPTING: usize = 160;
 
 // What stands at the front of a text: the state behind a token, and how many bytes it takes, 0 for none.
-#[derive(Drop)]
+#[derive(Clone, Copy)]
 pub struct Match {
     pub state: usize,
     pub len: usize,

@@ -1,15 +1,17 @@
 // A set of bytes: 256 marks in one record, by value. Sets are joined, tested for overlap, searched for the lowest common byte.
+#![tactic(auto)]
+
 ghost use Rattle.std.specs.Prelude.{◌≡◌, false, ◌||◌, ◌&&◌, ℕ, ◌<◌, length};
 ghost use Rattle.byte_set.specs.Lowest.{lowest_from};
 ghost use Rattle.byte_set.specs.Layers.{mark, Ranged, some_below, lowest_of};
 
-#[derive(Drop)]
+#[derive(Clone, Copy)]
 pub struct ByteSet {
     pub marks: [bool; 256],
 }
 
 // The lowest byte of a set, if it has one.
-#[derive(Drop)]
+#[derive(Clone, Copy)]
 pub enum Lowest {
     Byte(usize),
     Nothing,

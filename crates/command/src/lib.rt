@@ -1,9 +1,11 @@
 // The commands of a book, and the cursor that reads them.
+#![tactic(auto)]
+
 ghost use Rattle.std.specs.Prelude.{◌≡◌, ◌+◌, ◌≤◌, ◌<◌, length};
 ghost use Rattle.command.specs.Commands.{byte_at, placed, operands_of, decode, retired, command_at};
 
 // A command with its operands, under the names of document 01. A state is given in one byte or in two: the command is the same.
-#[derive(Drop)]
+#[derive(Clone, Copy)]
 pub enum Command {
     Rule {
         tag: u16,
@@ -36,7 +38,7 @@ impl Command {
 
 // What stands at a cursor: a command and the cursor past it, a byte that is no command or not one for this place, a command that
 // the stricter reading does not take, or a command whose operands run past the end.
-#[derive(Drop)]
+#[derive(Clone, Copy)]
 pub enum Decoded {
     Command(Command, Cursor),
     Misplaced,
@@ -45,7 +47,7 @@ pub enum Decoded {
 }
 
 // A place in a book at which a command begins. Reading hands it back moved.
-#[derive(Drop)]
+#[derive(Clone, Copy)]
 pub struct Cursor {
     pub at: usize,
 }

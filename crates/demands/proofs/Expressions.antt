@@ -36,14 +36,14 @@ use Rattle.rule_commands.specs.Spans.{spans_of}
 use Rattle.rule_commands.specs.Fit.{rule_by}
 use Rattle.rule_commands.specs.Table.{SpanOf}
 use Rattle.rule_commands.proofs.Runs.{spans_longest}
-use Rattle.regex.specs.Outcome.{max_expression, max_positions, max_depth, is_too_large, many_sets, compiled, compile_outcome, compile_reading}
-use Rattle.regex.specs.Outcome.{firsts_of, follow_of, takers_of, finals_for, rows_for}
-use Rattle.regex.specs.Layers.{Sets}
-use Rattle.regex.proofs.Fitting.{Between, finals_between}
-use Rattle.regex.proofs.Rules.{rule-matches, fit, read_too_long, read_too_many, read_nullable, read_accepted}
-use Rattle.regex.proofs.Compiled.{compiled_sets}
-use Rattle.regex.proofs.Reached.{states_of_lem, many_reached}
-use Rattle.regex.proofs.Answers.{wrong_rule_lem, text_long, text_read, text_wrong, expression_large, sets_many, sets_few, Makes, makes}
+use Rattle.expression_rule.specs.Outcome.{max_expression, max_positions, max_depth, is_too_large, many_sets, compiled, compile_outcome, compile_reading}
+use Rattle.expression_rule.specs.Outcome.{firsts_of, follow_of, takers_of, finals_for, rows_for}
+use Rattle.expression_rule.specs.Layers.{Sets}
+use Rattle.expression_rule.proofs.Fitting.{Between, finals_between}
+use Rattle.expression_rule.proofs.Rules.{rule-matches, fit, read_too_long, read_too_many, read_nullable, read_accepted}
+use Rattle.expression_rule.proofs.Compiled.{compiled_sets}
+use Rattle.expression_rule.proofs.Reached.{states_of_lem, many_reached}
+use Rattle.expression_rule.proofs.Answers.{wrong_rule_lem, text_long, text_read, text_wrong, expression_large, sets_many, sets_few, Makes, makes}
 use Rattle.zagvulem.specs.Numbers.{compile_numbers}
 use Rattle.demands.specs.Expressions.{refused_by, RefusedCompile, PastTheRule, Asked, Large, Small, TurnedAway}
 use Rattle.demands.specs.Expressions.{CompileRefusals, Ends, CallEnds, ManyAreReached, SpelledOrFaulty}

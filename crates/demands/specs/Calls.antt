@@ -16,7 +16,7 @@ use Rattle.record.specs.Encoding.{encoded, Fits}
 use Rattle.record.specs.Masks.{mask_bytes, mask_count, FitsMask}
 use Rattle.record.specs.declared.TokenRecord.{TokenRecord}
 use Rattle.rewriting.specs.Outcome.{rewrite_outcome}
-use Rattle.regex.specs.Outcome.{compile_outcome}
+use Rattle.expression_rule.specs.Outcome.{compile_outcome}
 use Rattle.lexer.specs.Outcome.{lex_outcome}
 use Rattle.lexer.specs.Masked.{masked_outcome}
 use Rattle.turns.specs.Outcome.{turn_outcome}
@@ -109,7 +109,7 @@ pub record Rewrite (book entry exit : List ℕ) (r : PrintAnswer) : Type 0 where
   pub answers : r ≡ (rewrite_outcome book entry).answer
   pub leaves : exit ≡ (rewrite_outcome book entry).out
 
--- A call that makes a rule of an expression, for a tag and a kind: the output before and after it, and the answer, as `regex::compile`
+-- A call that makes a rule of an expression, for a tag and a kind: the output before and after it, and the answer, as `expression_rule::compile`
 -- ensures it (document 02, wish 9).
 pub record Compile (tag kind : ℕ) (text entry exit : List ℕ) (r : PrintAnswer) : Type 0 where
   pub answers : r ≡ (compile_outcome tag kind text entry).answer

@@ -15,8 +15,8 @@ use Rattle.rule_commands.specs.Bytes.{rule_bytes}
 use Rattle.rule_commands.specs.Spans.{spans_of}
 use Rattle.rule_commands.specs.Fit.{error_state, rule_by}
 use Rattle.zagvulem.specs.Numbers.{compile_numbers}
-use Rattle.regex.specs.Reached.{StatesOf, ManyReached}
-use Rattle.regex.specs.Outcome.{max_expression, max_positions, max_depth, many_sets, compiled}
+use Rattle.expression_rule.specs.Reached.{StatesOf, ManyReached}
+use Rattle.expression_rule.specs.Outcome.{max_expression, max_positions, max_depth, many_sets, compiled}
 use Rattle.demands.specs.Calls.{Compile}
 use Rattle.answer.specs.declared.PrintAnswer.TheVariants as print
 

@@ -1,4 +1,6 @@
 // Reading an expression of document 02, wish 9: to its first fault, and what its positions take and which of them follow each other.
+#![tactic(auto)]
+
 ghost use Rattle.std.specs.Prelude.{◌≡◌};
 ghost use Rattle.expression.specs.Spelling.{alternatives, sequence, piece};
 ghost use Rattle.position_reader.specs.Layers.{Ready};

@@ -1,5 +1,7 @@
 // What the program cutlist prints of a book and a text: `list` cuts the text and writes the lines of the outcome into a lent buffer.
 // `digits` writes numbers in decimal, `lines` a token's line.
+#![tactic(auto)]
+
 pub mod digits;
 pub mod lines;
 

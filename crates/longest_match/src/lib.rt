@@ -1,5 +1,7 @@
 // Lexing a text by the rules that a table holds: at each place the longest match, by the earliest rule.
 // A token costs one walk for each rule. `steps` has the choice in the order of the defining text.
+#![tactic(auto)]
+
 pub mod steps;
 
 ghost use Rattle.std.specs.Prelude.{◌≡◌, List, ℕ, ◌≤◌, length, take};
@@ -9,7 +11,7 @@ ghost use Rattle.longest_match.specs.Layers.{part, Chooses, Agrees, Picks, Walks
 
 // What is chosen at the start of a text: the number of the rule, how many bytes it takes, and the mask of all rules that match just these
 // bytes, bit k for rule number k; all 0 for no rule.
-#[derive(Drop)]
+#[derive(Clone, Copy)]
 pub struct Choice {
     pub rule: usize,
     pub len: usize,
@@ -106,7 +108,7 @@ fn choose_among(table: &[u64], lengths: &[usize]) -> Choice
 }
 
 // A cut of a text: how many tokens it has, and the place of the rest.
-#[derive(Drop)]
+#[derive(Clone, Copy)]
 pub struct Cut {
     pub tokens: usize,
     pub rest: usize,

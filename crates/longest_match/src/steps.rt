@@ -76,7 +76,7 @@ pub fn walk_rules(table: &[u64], text: &[u8], lengths: &mut [usize]) -> usize
 }
 
 // The longest of some lengths, and as a mask which of them are as long; both 0 where none is more than 0.
-#[derive(Drop)]
+#[derive(Clone, Copy)]
 struct Longest {
     len: usize,
     mask: u32,

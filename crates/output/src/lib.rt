@@ -1,5 +1,7 @@
 // Bytes that go to a lent buffer: copied, put in front of what is written at the high end of a scratch, and, the last step of every
 // printer, written to the caller's output if that has room for them.
+#![tactic(auto)]
+
 ghost use Rattle.std.specs.Prelude.{◌≡◌, ◌++◌, ◌+◌, ◌≤◌, length, drop, take};
 ghost use Rattle.std.proofs.Math.Seq.{paste};
 ghost use Rattle.record.specs.Tokens.{bytes_in, InPool};
@@ -21,7 +23,7 @@ pub fn copy(from: &[u8], place: usize, len: usize, to: &mut [u8], at: usize)
 }
 
 // Where what is written begins, or that there is no room for it.
-#[derive(Drop)]
+#[derive(Clone, Copy)]
 pub enum Placed {
     At(usize),
     Full,

@@ -1,4 +1,6 @@
 // Reading one position of an expression: a byte, an escaped byte, a period or a list, with the bytes that it takes noted.
+#![tactic(auto)]
+
 ghost use Rattle.std.specs.Prelude.{◌≡◌, false, ◌&&◌, List, ℕ, ◌+◌, ◌<◌, ◌≤◌, eqb, leb, length, drop};
 ghost use Rattle.expression.specs.Expression.{byte, period};
 ghost use Rattle.expression.specs.Spelling.{is_special, is_ordinary, is_listed};
@@ -9,7 +11,7 @@ ghost use Rattle.position_reader.specs.Steps.{Full, Positioned, ReadPosition};
 
 // What has been read of a text, with the positions from a number on: the place behind it, the number of the next position, how deep its
 // parentheses are, whether it matches the empty string, and which positions can match the first and the last byte of a string.
-#[derive(Drop)]
+#[derive(Clone, Copy)]
 pub struct Part {
     pub at: usize,
     pub end: usize,
@@ -19,7 +21,7 @@ pub struct Part {
     pub last: u64,
 }
 
-#[derive(Drop)]
+#[derive(Clone, Copy)]
 pub enum Read {
     Right(Part),
     // the place of the fault
@@ -27,21 +29,21 @@ pub enum Read {
 }
 
 // What is read of a list at a place: an item and the place behind it, or the place of the fault.
-#[derive(Drop)]
+#[derive(Clone, Copy)]
 enum ItemRead {
     Item { low: u8, high: u8, next: usize },
     Fault(usize),
 }
 
 // A list: the place behind its ], or that of the fault.
-#[derive(Drop)]
+#[derive(Clone, Copy)]
 enum ListRead {
     Closed(usize),
     Fault(usize),
 }
 
 // After an item: the place of the next, or the list's end.
-#[derive(Drop)]
+#[derive(Clone, Copy)]
 enum ListStep {
     More(usize),
     Done(ListRead),

@@ -13,7 +13,7 @@ use token_list::readback::Extent;
 
 // What a rehearsal comes to: so many bytes stand at the front of the scratch and are read back, or something is wrong with the list:
 // a token is at fault, or else this refusal applies.
-#[derive(Drop)]
+#[derive(Clone, Copy)]
 pub enum Rehearsed {
     Clean(usize),
     Wrong(Refusal),

@@ -1,5 +1,7 @@
 // Reading the commands of a book into a lent table: `load` for the crates that use the rules, `load_by` by the ordinary or the stricter
 // reading. Both go by one loop, to which `strict` is a value; `applying` gives each command to the function that it is for.
+#![tactic(auto)]
+
 pub mod applying;
 
 ghost use Rattle.std.specs.Prelude.{◌<◌, ◌≤◌, length};
@@ -49,7 +51,7 @@ fn load_rows(strict: bool, book: &[u8], table: &mut [u64], rows: &mut [u32]) -> 
 }
 
 // Why `read_on` stops: the book is answered, or the command at the cursor needs a cell that is not there.
-#[derive(Drop)]
+#[derive(Clone, Copy)]
 enum Stop {
     Answered(BookAnswer),
     Narrow(Cursor, Book),

@@ -1,12 +1,14 @@
 // What is stored of a token: its record, a tag and where the token's bytes lie in a pool, and the mask of the rules that agree on it. For
 // the player a record is ten bytes and a mask four; inside the server lists of tokens are slices of the struct, and masks of numbers.
+#![tactic(auto)]
+
 ghost use Rattle.std.specs.Prelude.{◌≡◌, ◌++◌, ◌+◌, ◌*◌, ◌≤◌, min, length, take, drop};
 ghost use Rattle.big_endian.specs.Numbers.{four};
 ghost use Rattle.record.specs.Records.{record_of, record_count};
 ghost use Rattle.record.specs.Masks.{mask_count};
 ghost use Rattle.record.specs.Tokens.{record_at};
 
-#[derive(Drop)]
+#[derive(Clone, Copy)]
 pub struct TokenRecord {
     pub tag: u16,
     pub place: u32,

@@ -1,4 +1,6 @@
 // Rewriting an old book: a SPAN in each STEP's place, and every other command byte for byte. The rules stay the very same.
+#![tactic(auto)]
+
 ghost use Rattle.std.specs.Prelude.{◌≡◌, ◌++◌, ◌+◌, ◌≤◌, eqb, length, take, drop};
 ghost use Rattle.std.proofs.Math.Seq.{paste};
 ghost use Rattle.automaton.specs.Choice.{if};

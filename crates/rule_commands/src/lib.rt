@@ -1,4 +1,6 @@
 // A rule that is given by a table, as commands of a book: for each state and byte the state that it leads to.
+#![tactic(auto)]
+
 ghost use Rattle.std.specs.Prelude.{◌≡◌, ◌+◌, ◌*◌, ◌<◌, ◌≤◌, length, take};
 ghost use mathlib.Core.List.{[], ◌∷◌, map, flatten};
 ghost use Rattle.automaton.specs.Choice.{if};

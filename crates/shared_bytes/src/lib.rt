@@ -1,4 +1,6 @@
 // The lowest byte that both a plain and a separator rule of a table use: refusal 23.
+#![tactic(auto)]
+
 ghost use Rattle.std.specs.Prelude.{◌≡◌, true, List, ℕ, ◌≤◌, length};
 ghost use Rattle.automaton.specs.Rule.{Rule};
 ghost use Rattle.automaton.specs.Layers.{count_at, Table, Tabled, Holds, Held};
@@ -121,7 +123,7 @@ fn is_narrow(table: &[u64], rule: usize) -> bool
 }
 
 // What a look at rules comes to: whether they are narrow, and if not, the lowest shared byte.
-#[derive(Drop)]
+#[derive(Clone, Copy)]
 struct Looked {
     narrow: bool,
     lowest: Lowest,

@@ -13,7 +13,7 @@ use record::TokenRecord;
 
 // What is pending: whether `token` and `mask` are to be stored, as number `index`, and where the text goes on behind it; where there is
 // none, `index` tokens are stored and the rest is at `next`, or the call is refused.
-#[derive(Drop)]
+#[derive(Clone, Copy)]
 pub struct Pending {
     pub more: bool,
     pub index: usize,

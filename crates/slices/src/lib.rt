@@ -1,5 +1,7 @@
 // Lexing into and printing from a slice of token structs, for callers inside the server; lexing fills a slice of masks beside it.
 // All that is decided stands in the modules, in functions over plain data; a function that holds slices is one loop.
+#![tactic(auto)]
+
 pub mod lexing;
 pub mod printing;
 

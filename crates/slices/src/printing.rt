@@ -17,7 +17,7 @@ use token_list::faults::Fault;
 
 // Where printing stands: the pass, the number of the token to be read, and how many bytes its pass is past; `total` is known
 // after the first pass. Where no token is to be read, all have passed, or the call is refused.
-#[derive(Drop)]
+#[derive(Clone, Copy)]
 pub struct Stage {
     pub more: bool,
     pub pass: u8,

@@ -1,4 +1,6 @@
 // Where separators are put: whether one follows a token. `spelling` puts a list together with them.
+#![tactic(auto)]
+
 pub mod spelling;
 
 ghost use Rattle.std.specs.Prelude.{◌≡◌, List, ◌≤◌, length, drop};

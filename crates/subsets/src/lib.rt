@@ -1,5 +1,7 @@
 // The states of a rule that is made of an expression: the sets of its positions that can have matched the last byte, numbered from 1 as
 // they are reached, and where each of them leads at each byte.
+#![tactic(auto)]
+
 ghost use Rattle.std.specs.Prelude.{◌≡◌, ◌+◌, ◌≤◌, ◌<◌, ◌%◌, eqb, length, take};
 ghost use Rattle.automaton.specs.Choice.{if};
 ghost use Rattle.subsets.specs.States.{after, sets_ahead, ahead_of, place, number_of, finals_of};
@@ -54,7 +56,7 @@ fn number_of(sets: &[u64], count: usize, set: u64) -> usize
 }
 
 // How many sets are known, and the set that was met last, with its number.
-#[derive(Drop)]
+#[derive(Clone, Copy)]
 struct Latest {
     count: usize,
     set: u64,
@@ -129,7 +131,7 @@ fn ahead_of(first: u64, follow: &[u64; 64], sets: &[u64], k: usize) -> u64
 }
 
 // How many sets are reached, or that there are more than a rule has numbers for.
-#[derive(Drop)]
+#[derive(Clone, Copy)]
 pub enum Explored {
     States(usize),
     TooMany,

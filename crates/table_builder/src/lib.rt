@@ -1,5 +1,7 @@
 // Filling a table: names, bodies and transitions of rules, and the cells of a rule that is being read. Its transitions are chained by the
 // state that they leave, and get the spots to which they lead at its end. While a rule is open, `rows` has the cells of its states.
+#![tactic(auto)]
+
 ghost use Rattle.std.specs.Prelude.{◌≡◌, List, ℕ, ◌+◌, ◌*◌, ◌/◌, ◌%◌, ◌≤◌, ◌<◌, min, max, length, set};
 ghost use Rattle.automaton.specs.Choice.{any};
 ghost use Rattle.automaton.specs.Rule.{Transition, state_count};

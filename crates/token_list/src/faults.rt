@@ -9,7 +9,7 @@ use answer::Refusal;
 use record::TokenRecord;
 
 // The number that refuses a token, if one does.
-#[derive(Drop)]
+#[derive(Clone, Copy)]
 pub enum Fault {
     By(u8),
     Nothing,

@@ -1,5 +1,7 @@
 // A list of tokens as a caller lends it, records that point into a byte pool: its bytes joined, the first token at fault (`faults` has the
 // fault of one), and whether it is read back (`readback`).
+#![tactic(auto)]
+
 pub mod faults;
 pub mod readback;
 
@@ -16,7 +18,7 @@ use crate::faults::Fault;
 use answer::Refusal;
 
 // What checks come to.
-#[derive(Drop)]
+#[derive(Clone, Copy)]
 pub enum Checked {
     Passed,
     Refused(Refusal),

@@ -7,7 +7,7 @@ ghost use Rattle.token_list.specs.Layers.{Spans, Spread, Spreads, ReadsBack};
 use book::Book;
 
 // How many bytes the tokens have; or that one lies outside the pool, or that they are too many to be written.
-#[derive(Drop)]
+#[derive(Clone, Copy)]
 pub enum Extent {
     Bytes(usize),
     Beyond,

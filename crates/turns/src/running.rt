@@ -7,7 +7,7 @@ ghost use Rattle.turns.specs.Reach.{all_fail};
 ghost use Rattle.turns.specs.Layers.{Stirs, Next, Keeps, KeepRoom, RunRoom, Turned, Stores};
 
 // What a turn comes to.
-#[derive(Drop)]
+#[derive(Clone, Copy)]
 pub struct Turn {
     pub tokens: usize,
     pub next: usize,
@@ -94,7 +94,7 @@ fn is_idle(table: &[u64]) -> bool
 }
 
 // What is next at a place: whether its reach fits what is left; if so, the reach, which is paid, and what is chosen.
-#[derive(Drop)]
+#[derive(Clone, Copy)]
 struct NextToken {
     rule: usize,
     len: usize,

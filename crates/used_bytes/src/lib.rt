@@ -1,6 +1,8 @@
 // The used bytes of a rule that a table holds. A rule uses a byte that occurs in a string which it matches: a transition that covers the
 // byte leaves a state that the start reaches (`reaching`) and leads to one from which a final state is reached (`sweeping`; `releasing` has
 // the transitions of which that shows later).
+#![tactic(auto)]
+
 pub mod reaching;
 pub mod releasing;
 pub mod sweeping;

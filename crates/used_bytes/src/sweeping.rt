@@ -10,7 +10,7 @@ ghost use Rattle.used_bytes.specs.Layers.{CanGain, Sweeping, Gains, Led, Sweepab
 use automaton::words;
 
 // What the transitions of a state come to: whether one leads to a state that leads to a final one, and where the next one that waits goes.
-#[derive(Drop)]
+#[derive(Clone, Copy)]
 pub struct Swept {
     pub leads: bool,
     pub end: usize,

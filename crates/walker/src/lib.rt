@@ -1,5 +1,7 @@
 // Walking a rule over a text by the table: the longest prefix that it matches, and how far it goes. A step costs the transitions that leave
 // the state, whatever the size of the rule.
+#![tactic(auto)]
+
 ghost use Rattle.std.specs.Prelude.{◌≡◌, List, ℕ, ◌<◌, max};
 ghost use Rattle.automaton.specs.Rule.{Transition, Rule, longest};
 ghost use Rattle.automaton.specs.Layers.{Chain, Chained, Table, Tabled};
@@ -25,7 +27,7 @@ fn find(table: &[u64], head: usize, byte: u64) -> usize
 }
 
 // How a rule walks over a text.
-#[derive(Drop)]
+#[derive(Clone, Copy)]
 pub struct Walked {
     // the number of bytes of the longest prefix that it matches, 0 for none
     pub len: usize,

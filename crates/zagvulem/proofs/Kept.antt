@@ -18,7 +18,7 @@ use Rattle.book.specs.Limits.{max_bytes, max_text}
 use Rattle.reader.specs.Reading.{read_book, read_strict, answer}
 use Rattle.book_reader.specs.Rules.{rule_outcome}
 use Rattle.rewriting.specs.Outcome.{rewrite_outcome}
-use Rattle.regex.specs.Outcome.{compile_outcome}
+use Rattle.expression_rule.specs.Outcome.{compile_outcome}
 use Rattle.lexer.specs.Masked.{masked_outcome}
 use Rattle.turns.specs.Outcome.{turn_outcome}
 use Rattle.printer.specs.Outcome.{print_outcome}

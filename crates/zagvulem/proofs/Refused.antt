@@ -58,8 +58,8 @@ use Rattle.separated.specs.Outcome.{separated_rules, separated_reading, separate
 use Rattle.expression.specs.Reading.{right, wrong, read_expression}
 use Rattle.expression.specs.Reading.{Reading as Expressed}
 use Rattle.expression.proofs.Faults.{wrong_first}
-use Rattle.regex.specs.Outcome.{max_expression, is_too_large, many_sets, compiled, compile_reading, compile_outcome}
-use Rattle.regex.proofs.Compiled.{compiled_short}
+use Rattle.expression_rule.specs.Outcome.{max_expression, is_too_large, many_sets, compiled, compile_reading, compile_outcome}
+use Rattle.expression_rule.proofs.Compiled.{compiled_short}
 use Rattle.zagvulem.specs.Numbers.{compile_numbers}
 use Rattle.zagvulem.specs.Numbers.{book_numbers, strict_numbers, rewrite_numbers, rule_numbers, lex_numbers, turn_numbers}
 use Rattle.zagvulem.specs.Numbers.{print_numbers, separated_numbers, Refused}

@@ -6,7 +6,7 @@ use Rattle.book_reader.specs.Rules.{rule_outcome}
 use Rattle.record.specs.Records.{record_count}
 use Rattle.record.specs.declared.TokenRecord.{TokenRecord}
 use Rattle.rewriting.specs.Outcome.{rewrite_outcome}
-use Rattle.regex.specs.Outcome.{compile_outcome}
+use Rattle.expression_rule.specs.Outcome.{compile_outcome}
 use Rattle.lexer.specs.Masked.{masked_outcome}
 use Rattle.turns.specs.Outcome.{turn_outcome}
 use Rattle.printer.specs.Outcome.{print_outcome}

@@ -1,10 +1,12 @@
 // The library as C calls it: numbers and byte slices, each answer in 64 bits, which `answer_word` puts together.
 // include/zagvulem.h declares these functions.
+#![tactic(auto)]
+
 ghost use Rattle.std.specs.Prelude.{◌≡◌};
 ghost use Rattle.reader.specs.Reading.{read_book, read_strict, answer};
 ghost use Rattle.book_reader.specs.Rules.{rule_outcome};
 ghost use Rattle.rewriting.specs.Outcome.{rewrite_outcome};
-ghost use Rattle.regex.specs.Outcome.{compile_outcome};
+ghost use Rattle.expression_rule.specs.Outcome.{compile_outcome};
 ghost use Rattle.lexer.specs.Masked.{masked_outcome};
 ghost use Rattle.turns.specs.Outcome.{turn_outcome};
 ghost use Rattle.builtin.specs.Book.{builtin_bytes};
@@ -47,7 +49,7 @@ pub extern "C" fn zgv_compile(tag: u16, kind: u32, regex: &[u8], out: &mut [u8])
     ensures value { result ≡ print_word (compile_outcome tag kind regex.now out.old).answer }
     ensures out_after { out.new ≡ (compile_outcome tag kind regex.now out.old).out }
 {
-    answer_word::printed(regex::compile(tag, kind, regex, out))
+    answer_word::printed(expression_rule::compile(tag, kind, regex, out))
 }
 
 // The tag and the kind of a rule of a book by its number, from 0, or the refusal.

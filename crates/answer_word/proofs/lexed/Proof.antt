@@ -5,8 +5,8 @@ use Rattle.answer_word.specs.Words.{lex_word}
 use Rattle.answer_word.proofs.lexed.Statement.{statement}
 use Rattle.answer_word.proofs.lexed.Tie as tie
 
-pub lexed-spec : {M : Type 1} → statement M
-lexed-spec =
+pub lexed_spec : {M : Type 1} → statement M
+lexed_spec =
     tie.close (tie.spec (λ c. search rules) (λ c κs. search rules) (λ c. search rules) (λ c κs. search rules)
-    (λ c. c.accepted.ensures ∙ ap lex_word (sym c.before.before.answer.given.1))
-    (λ c. c.refused.ensures ∙ ap lex_word (sym c.before.before.answer2.given.1)))
+    (λ c. c.accepted.ensures ∙ ap lex_word (sym c.before.before.in-Lexed.is))
+    (λ c. c.refused.ensures ∙ ap lex_word (sym c.before.before.in-Refused.is)))

@@ -5,8 +5,8 @@ use Rattle.answer_word.specs.Words.{print_word}
 use Rattle.answer_word.proofs.printed.Statement.{statement}
 use Rattle.answer_word.proofs.printed.Tie as tie
 
-pub printed-spec : {M : Type 1} → statement M
-printed-spec =
+pub printed_spec : {M : Type 1} → statement M
+printed_spec =
     tie.close (tie.spec (λ c. search rules) (λ c κs. search rules) (λ c. search rules) (λ c κs. search rules)
-    (λ c. c.accepted.ensures ∙ ap print_word (sym c.before.before.answer.given.1))
-    (λ c. c.refused.ensures ∙ ap print_word (sym c.before.before.answer2.given.1)))
+    (λ c. c.accepted.ensures ∙ ap print_word (sym c.before.before.in-Printed.is))
+    (λ c. c.refused.ensures ∙ ap print_word (sym c.before.before.in-Refused.is)))

@@ -1,26 +1,26 @@
 -- `put_numbers`: by the answer. Assumes nothing.
 use mathlib.Core.Path.{sym, ap}
 use borrow.Author.Rules.{rules}
-use Rattle.answer.specs.declared.TurnAnswer.{TurnAnswer}
+use Rattle.answer-1.specs.declared.TurnAnswer.{TurnAnswer}
 use Rattle.answer_word.specs.Words.{next_after, examined_after}
 use Rattle.answer_word.proofs.put_numbers.Statement.{statement}
 use Rattle.answer_word.proofs.put_numbers.Tie as tie
 
-returns : tie.Need-returns
+returns : tie.Need-returns-in-Turned
 returns c =
-    let a = c.before.answer.given.1 in
+    let a = c.before.in-Turned.is in
     let lent = c.before.before.before.args in (
       sym (ap (λ (x : TurnAnswer). next_after x lent.next.now) a),
       sym (ap (λ (x : TurnAnswer). examined_after x lent.examined.now) a),
     )
 
-returns-2 : tie.Need-returns-2
+returns-2 : tie.Need-returns-in-Refused
 returns-2 c =
-    let a = c.enum_told.given.1 in
+    let a = c.in-Refused.is in
     let lent = c.before.before.args in (
       sym (ap (λ (x : TurnAnswer). next_after x lent.next.now) a),
       sym (ap (λ (x : TurnAnswer). examined_after x lent.examined.now) a),
     )
 
-pub put-numbers-spec : {M : Type 1} → statement M
-put-numbers-spec = tie.close (tie.spec (λ c. search rules) (λ c. search rules) returns returns-2)
+pub put_numbers_spec : {M : Type 1} → statement M
+put_numbers_spec = tie.close (tie.spec (λ c. search rules) (λ c. search rules) returns returns-2)

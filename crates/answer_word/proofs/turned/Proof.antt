@@ -5,9 +5,9 @@ use Rattle.answer_word.specs.Words.{accepted_word, turn_word}
 use Rattle.answer_word.proofs.turned.Statement.{statement}
 use Rattle.answer_word.proofs.turned.Tie as tie
 
-pub turned-spec : {M : Type 1} → statement M
-turned-spec =
+pub turned_spec : {M : Type 1} → statement M
+turned_spec =
     tie.close (tie.spec (λ c. search rules) (λ c κs. search rules) (λ c κs. search rules) (λ c. search rules) (λ c κs. search rules)
     (λ c. c.accepted.ensures ∙ ap (accepted_word _) c.before.flag.ensures
-    ∙ ap turn_word (sym c.before.before.before.answer.given.1))
-    (λ c. c.refused.ensures ∙ ap turn_word (sym c.before.before.answer2.given.1)))
+    ∙ ap turn_word (sym c.before.before.before.in-Turned.is))
+    (λ c. c.refused.ensures ∙ ap turn_word (sym c.before.before.in-Refused.is)))

@@ -26,9 +26,9 @@ opens-spot {tb} {k} {r} t {p} e =
     })
 
 returns : tie.Need-returns
-returns c = λ m t. opens-spot t c.before.start_of_lem.ensures
+returns c = λ m t. opens-spot t c.before.start_of.ensures
 
-pub start-spot-spec : {M : Type 1} → statement M
-start-spot-spec =
+pub start_spot_spec : {M : Type 1} → statement M
+start_spot_spec =
     tie.close (tie.spec (λ c κs. search rules) (λ c. search rules) (λ c. search rules) (λ c. search rules) (λ c. search rules)
     (λ c. search rules) (λ c. search rules) returns)

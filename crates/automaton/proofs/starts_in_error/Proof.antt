@@ -19,5 +19,5 @@ same {tb} {k} m t =
 returns : tie.Need-returns
 returns c = same
 
-pub starts-in-error-spec : {M : Type 1} → statement M
-starts-in-error-spec = tie.close (tie.spec (λ c. search rules) (λ c. search rules) (λ c. search rules) returns)
+pub starts_in_error_spec : {M : Type 1} → statement M
+starts_in_error_spec = tie.close (tie.spec (λ c. search rules) (λ c. search rules) (λ c. search rules) returns)

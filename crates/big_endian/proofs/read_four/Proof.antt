@@ -7,9 +7,9 @@ use Rattle.big_endian.proofs.read_four.Tie as tie
 returns : tie.Need-returns
 returns c =
     let a = c.before.before.before.args in
-    rw (c.before.read-two.ensures, c.read-two2.ensures) (four_read a.bytes.now a.at)
+    rw (c.before.read_two.ensures, c.read_two-2.ensures) (four_read a.bytes.now a.at)
 
-pub read-four-spec : {M : Type 1} → statement M
-read-four-spec =
+pub read_four_spec : {M : Type 1} → statement M
+read_four_spec =
     tie.close (tie.spec (λ c κs. search rules) (λ c. search rules) (λ c. search rules) (λ c. search rules) (λ c κs. search rules)
     (λ c. search rules) (λ c. search rules) returns)

@@ -5,5 +5,5 @@ use Rattle.book.proofs.is_no_state.Tie as tie
 returns : tie.Need-returns
 returns c = refl
 
-pub is-no-state-spec : {M : Type 1} → statement M
-is-no-state-spec = tie.close (tie.spec returns)
+pub is_no_state_spec : {M : Type 1} → statement M
+is_no_state_spec = tie.close (tie.spec returns)

@@ -5,7 +5,7 @@ use Rattle.book_lexer.proofs.rest.Statement.{statement}
 use Rattle.book_lexer.proofs.rest.Tie as tie
 
 returns : tie.Need-returns
-returns c = rest_part c.before.rest-place.ensures
+returns c = rest_part c.before.rest_place-at.ensures
 
-pub rest-spec : {M : Type 1} → statement M
-rest-spec = tie.close (tie.spec (λ c κs. search rules) (λ c. search rules) (λ c. search rules) (λ c. search rules) returns)
+pub rest_spec : {M : Type 1} → statement M
+rest_spec = tie.close (tie.spec (λ c κs. search rules) (λ c. search rules) (λ c. search rules) (λ c. search rules) returns)

@@ -5,7 +5,7 @@ use Rattle.book_reader.proofs.rule.Tie as tie
 
 returns : tie.Need-returns
 unfolding rule_outcome
-returns c = c.inspect.ensures.rule
+returns c = c.inspect-inspected.ensures.rule
 
-pub rule-spec : {M : Type 1} → statement M
-rule-spec = tie.close (tie.spec (λ c κs. search rules) returns)
+pub rule_spec : {M : Type 1} → statement M
+rule_spec = tie.close (tie.spec (λ c κs. search rules) returns)

@@ -9,33 +9,33 @@ use Rattle.book_reader.proofs.Rules.{rule-past, rule_told}
 use Rattle.book_reader.proofs.rule_in.Statement.{statement}
 use Rattle.book_reader.proofs.rule_in.Tie as tie
 
-abbrev entry : tie.Else1 → tie.Start
+abbrev entry : tie.Else-rules-index → tie.Start
 entry c = c.before.before.before
 
 -- the number is that of a rule
-here : (c : tie.Else1) (rs : List Rule) → Holds (entry c).args.table.now rs
+here : (c : tie.Else-rules-index) (rs : List Rule) → Holds (entry c).args.table.now rs
     → Table (entry c).args.table.now (entry c).args.index (rule_at rs (entry c).args.index)
-here c rs h = h.each _ (omega (arith, c.if1.false, c.before.count_of.ensures rs h))
+here c rs h = h.each _ (omega (arith, c.if-rules-index.false, c.before.count_of-rules.ensures rs h))
 
-tabled : (c : tie.Else1) → Tabled (entry c).args.table.now (entry c).args.index
+tabled : (c : tie.Else-rules-index) → Tabled (entry c).args.table.now (entry c).args.index
 tabled c = record { rule = _; table = here c _ (entry c).requires.holds }
 
-returns : tie.Need-returns
-returns c = λ rs h. c.refused.ensures ∙ rule-past rs (c.before.before.count_of.ensures rs h) c.before.if1.true
+returns : tie.Need-returns-then-rules-index
+returns c = λ rs h. c.refused.ensures ∙ rule-past rs (c.before.before.count_of-rules.ensures rs h) c.before.if-rules-index.true
 
-tag-of-requires : tie.Need-tag-of-requires
+tag-of-requires : tie.Need-tag_of-tag-requires
 tag-of-requires c κs = tabled c
 
-kind-of-requires : tie.Need-kind-of-requires
+kind-of-requires : tie.Need-kind_of-kind-requires
 kind-of-requires c κs = tabled c.before
 
-returns-2 : tie.Need-returns-2
+returns-2 : tie.Need-returns
 returns-2 c = λ rs h.
     let k = c.before.before in
     let t = here k rs h in
-    rule_told rs (k.before.count_of.ensures rs h) (omega (arith, k.if1.false)) (c.before.tag_of.ensures _ t)
-    (c.kind-of.ensures _ t)
+    rule_told rs (k.before.count_of-rules.ensures rs h) (omega (arith, k.if-rules-index.false)) (c.before.tag_of-tag.ensures _ t)
+    (c.kind_of-kind.ensures _ t)
 
-pub rule-in-spec : {M : Type 1} → statement M
-rule-in-spec =
+pub rule_in_spec : {M : Type 1} → statement M
+rule_in_spec =
     tie.close (tie.spec (λ c κs. search rules) (λ c κs. search rules) returns tag-of-requires kind-of-requires returns-2)

@@ -9,11 +9,11 @@ returns c =
     let lexed = c.before.before.before.before in
     let tables = lexed.before.before.before.before.before.before.before in
     let a = tables.before.before.before.before.before.before.before.args in
-    let e = builtin_outcome a.text.now a.records.now a.masks.now in
-    let r = lexed.lex-lent.ensures in
-    (rw e r.answer, (rw e r.records, rw e r.masks))
+    let e = builtin_outcome a.text.now a.records-1.now a.masks-mask_table.now in
+    let r = lexed.lex_lent.ensures in
+    (rw e r.answer, (rw e r.records-1, rw e r.masks-mask_table))
 
-pub lex-builtin-spec : {M : Type 1} → statement M
-lex-builtin-spec =
+pub lex_builtin_spec : {M : Type 1} → statement M
+lex_builtin_spec =
     tie.close (tie.spec (λ c κs. search rules) (λ c κs. search rules) (λ c κs. search rules) (λ c κs. search rules) (λ c κs. search rules)
     (λ c. search rules) (λ c. search rules) returns)

@@ -4,37 +4,37 @@ use Rattle.command.specs.Commands.{placed}
 use Rattle.command.proofs.is_placed.Statement.{statement}
 use Rattle.command.proofs.is_placed.Tie as tie
 
-returns : tie.Need-returns
+returns : tie.Need-returns-then-code-eq1
 unfolding placed
-returns c = rw c.if1.true
+returns c = rw c.if-code-eq1.true
 
-returns-2 : tie.Need-returns-2
+returns-2 : tie.Need-returns-then-code-eq8
 unfolding placed
-returns-2 c = rw c.if2.true
+returns-2 c = rw c.if-code-eq8.true
 
-returns-3 : tie.Need-returns-3
+returns-3 : tie.Need-returns-then-code-lt2
 unfolding placed
-returns-3 c = rw (ne_eqb _ _ c.before.before.if1.false, ne_eqb _ _ c.before.if2.false, lt-leb _ _ c.if3.true)
+returns-3 c = rw (ne_eqb _ _ c.before.before.if-code-eq1.false, ne_eqb _ _ c.before.if-code-eq8.false, lt-leb _ _ c.if-code-lt2.true)
 
-returns-4 : tie.Need-returns-4
+returns-4 : tie.Need-returns-then-code-gt12
 unfolding placed
 returns-4 c = rw (
-  ne_eqb _ _ c.before.before.before.if1.false,
-  ne_eqb _ _ c.before.before.if2.false,
+  ne_eqb _ _ c.before.before.before.if-code-eq1.false,
+  ne_eqb _ _ c.before.before.if-code-eq8.false,
   lt-leb _ _
-      c.if4.true,
+      c.if-code-gt12.true,
   and_false_right,
 )
 
-returns-5 : tie.Need-returns-5
+returns-5 : tie.Need-returns
 unfolding placed
 returns-5 c = rw (
-  ne_eqb _ _ c.before.before.before.if1.false,
-  ne_eqb _ _ c.before.before.if2.false,
+  ne_eqb _ _ c.before.before.before.if-code-eq1.false,
+  ne_eqb _ _ c.before.before.if-code-eq8.false,
   le-leb _ _
-      c.before.if3.false,
-  le-leb _ _ c.if4.false,
+      c.before.if-code-lt2.false,
+  le-leb _ _ c.if-code-gt12.false,
 )
 
-pub is-placed-spec : {M : Type 1} → statement M
-is-placed-spec = tie.close (tie.spec returns returns-2 returns-3 returns-4 returns-5)
+pub is_placed_spec : {M : Type 1} → statement M
+is_placed_spec = tie.close (tie.spec returns returns-2 returns-3 returns-4 returns-5)

@@ -3,6 +3,6 @@ use Rattle.command.specs.Commands.{retired}
 use Rattle.command.proofs.is_retired.Statement.{statement}
 use Rattle.command.proofs.is_retired.Tie as tie
 
-pub is-retired-spec : {M : Type 1} → statement M
+pub is_retired_spec : {M : Type 1} → statement M
 unfolding retired
-is-retired-spec = tie.close (tie.spec (λ c. rw c.if1.true) (λ c. rw c.if1.false))
+is_retired_spec = tie.close (tie.spec (λ c. rw c.if-strict.true) (λ c. rw c.if-strict.false))

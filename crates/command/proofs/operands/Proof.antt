@@ -4,24 +4,24 @@ use Rattle.command.specs.Commands.{operands_of}
 use Rattle.command.proofs.operands.Statement.{statement}
 use Rattle.command.proofs.operands.Tie as tie
 
-other : tie.Need-returns-11
+other : tie.Need-returns-in_default
 unfolding operands_of
 other c = rw (
-  ne_eqb _ _ c.match.rest.0.0.0.0.0.0.0.0.0.1,
-  ne_eqb _ _ c.match.rest.0.0.0.0.0.0.0.0.1,
-  ne_eqb _ _ c.match.rest.0.0.0.0.0.0.0.1,
-  ne_eqb _ _ c.match.rest.0.0.0.0.0.0.1,
-  ne_eqb _ _ c.match.rest.0.0.0.0.0.1,
-  ne_eqb _ _ c.match.rest.0.0.0.0.1,
-  ne_eqb _ _ c.match.rest.0.0.0.1,
-  ne_eqb _ _ c.match.rest.0.0.1,
-  ne_eqb _ _ c.match.rest.0.1,
-  ne_eqb _ _ c.match.rest.1,
+  ne_eqb _ _ c.in_default.rest.0.0.0.0.0.0.0.0.0.1,
+  ne_eqb _ _ c.in_default.rest.0.0.0.0.0.0.0.0.1,
+  ne_eqb _ _ c.in_default.rest.0.0.0.0.0.0.0.1,
+  ne_eqb _ _ c.in_default.rest.0.0.0.0.0.0.1,
+  ne_eqb _ _ c.in_default.rest.0.0.0.0.0.1,
+  ne_eqb _ _ c.in_default.rest.0.0.0.0.1,
+  ne_eqb _ _ c.in_default.rest.0.0.0.1,
+  ne_eqb _ _ c.in_default.rest.0.0.1,
+  ne_eqb _ _ c.in_default.rest.0.1,
+  ne_eqb _ _ c.in_default.rest.1,
 )
 
-pub operands-spec : {M : Type 1} → statement M
+pub operands_spec : {M : Type 1} → statement M
 unfolding operands_of
-operands-spec =
-    tie.close (tie.spec (λ c. rw c.match.keys1) (λ c. rw c.match.keys2) (λ c. rw c.match.keys3) (λ c. rw c.match.keys4)
-    (λ c. rw c.match.keys5) (λ c. rw c.match.keys6) (λ c. rw c.match.keys7) (λ c. rw c.match.keys8)
-    (λ c. rw c.match.keys9) (λ c. rw c.match.keys10) other)
+operands_spec =
+    tie.close (tie.spec (λ c. rw c.in-1.is) (λ c. rw c.in-2.is) (λ c. rw c.in-3.is) (λ c. rw c.in-4.is)
+    (λ c. rw c.in-5.is) (λ c. rw c.in-6.is) (λ c. rw c.in-9.is) (λ c. rw c.in-10.is)
+    (λ c. rw c.in-11.is) (λ c. rw c.in-12.is) other)

@@ -12,21 +12,21 @@ use Rattle.expression_reader.proofs.Levels.{sequence_wrong, sequence_alone, sequ
 use Rattle.expression_reader.proofs.Levels.{ready_behind, ready_next}
 use borrow.Fn.Kinds.{In, Out}
 use borrow.Fn.PlainCycle.{Measures, is, falls, and}
-use Rattle.expression_reader.proofs.read_alternatives.Reads as read-alternatives
-use Rattle.expression_reader.proofs.read_alternatives.Kinds as read-alternatives-kinds
+use Rattle.expression_reader.proofs.read_alternatives-right.Reads as read-alternatives
+use Rattle.expression_reader.proofs.read_alternatives-right.Kinds as read-alternatives-kinds
 use Rattle.expression_reader.proofs.+read_alternatives_read_piece_read_sequence.Lts-read_alternatives as read-alternatives-lts
 use Rattle.expression_reader.proofs.read_piece.Reads as read-piece
 use Rattle.expression_reader.proofs.read_piece.Kinds as read-piece-kinds
 use Rattle.expression_reader.proofs.+read_alternatives_read_piece_read_sequence.Lts-read_piece as read-piece-lts
-use Rattle.expression_reader.proofs.read_sequence.Reads as read-sequence
-use Rattle.expression_reader.proofs.read_sequence.Kinds as read-sequence-kinds
+use Rattle.expression_reader.proofs.read_sequence-right.Reads as read-sequence
+use Rattle.expression_reader.proofs.read_sequence-right.Kinds as read-sequence-kinds
 use Rattle.expression_reader.proofs.+read_alternatives_read_piece_read_sequence.Lts-read_sequence as read-sequence-lts
-use Rattle.position_reader.proofs.read_position.Kinds as read-position-kinds
-use Rattle.position_reader.proofs.read_position.Reads as read-position-reads
+use Rattle.position_reader.proofs.read_position-atom.Kinds as read-position-kinds
+use Rattle.position_reader.proofs.read_position-atom.Reads as read-position-reads
 use Rattle.expression_reader.proofs.joining.carry.Kinds as carry-kinds
 use Rattle.expression_reader.proofs.joining.carry.Reads as carry-reads
-use Rattle.expression_reader.proofs.joining.close.Kinds as close-kinds
-use Rattle.expression_reader.proofs.joining.close.Reads as close-reads
+use Rattle.expression_reader.proofs.joining.close-group.Kinds as close-kinds
+use Rattle.expression_reader.proofs.joining.close-group.Reads as close-reads
 use Rattle.expression_reader.proofs.joining.ends_sequence.Kinds as ends-sequence-kinds
 use Rattle.expression_reader.proofs.joining.ends_sequence.Reads as ends-sequence-reads
 use Rattle.expression_reader.proofs.joining.join.Kinds as join-kinds
@@ -129,17 +129,17 @@ Left-a t = read-alternatives-lts.After-left (alternatives-callees t) (read-alter
 
 left-a : (t : ℕ) (k : Left-a t) → let s = k.before.before.before.before.before.before in
     Got s.args.text.now s.args.at s.args.base (read_as sequence (drop s.args.at s.args.text.now))
-    k.left.given.0.0
+    k.left-1.given.0.0
 left-a t k =
-    got k.before.before.before.before.before.before.requires.1 k.before.before.read-sequence.ensures _ k.left.given.1
+    got k.before.before.before.before.before.before.requires.1 k.before.before.read_sequence-right.ensures _ k.left-1.given.1
 
 abbrev Left-s : ℕ → Type 0
 Left-s t = read-sequence-lts.After-left (sequence-callees t) (read-sequence-at t) read-sequence.Post
 
 left-s : (t : ℕ) (k : Left-s t) → let s = k.before.before.before.before.before.before in
     Got s.args.text.now s.args.at s.args.base (read_as piece (drop s.args.at s.args.text.now))
-    k.left.given.0.0
-left-s t k = got k.before.before.before.before.before.before.requires.1 k.before.before.read-piece.ensures _ k.left.given.1
+    k.left-1.given.0.0
+left-s t k = got k.before.before.before.before.before.before.requires.1 k.before.before.read_piece.ensures _ k.left-1.given.1
 
 read-alternatives-read-sequence-requires :
     (t : ℕ) → read-alternatives-lts.Need-read-sequence-requires (alternatives-callees t) (read-alternatives-at t) read-alternatives.Post
@@ -155,62 +155,62 @@ read-alternatives-add-read-alternatives :
 read-alternatives-add-read-alternatives t c =
     let k = c.before.before.before in
     let r = ready_behind k.before.before.before.before.before.before.requires.1 (left-a t k) in
-    omega (arith, (ready_next 124 r.0 (sym c.before.stands.ensures ∙ c.if1.true)).1)
+    omega (arith, (ready_next 124 r.0 (sym c.before.stands.ensures ∙ c.if-stands.true)).1)
 
 read-alternatives-read-alternatives-requires :
     (t : ℕ) → read-alternatives-lts.Need-read-alternatives-requires (alternatives-callees t) (read-alternatives-at t) read-alternatives.Post
 read-alternatives-read-alternatives-requires t c κs =
     let k = c.before.before.before.before.before in
     let r = ready_behind k.before.before.before.before.before.before.requires.1 (left-a t k) in
-    let n = ready_next 124 r.0 (sym c.before.before.before.stands.ensures ∙ c.before.before.if1.true) in
+    let n = ready_next 124 r.0 (sym c.before.before.before.stands.ensures ∙ c.before.before.if-stands.true) in
     (omega (arith, r.1, n.1, k.before.before.before.before.before.before.requires.0), n.0)
 
 read-alternatives-returns :
     (t : ℕ) → read-alternatives-lts.Need-returns (alternatives-callees t) (read-alternatives-at t) read-alternatives.Post
-read-alternatives-returns t c = alternatives_wrong c.before.before.before.read-sequence.ensures _ c.before.place.given.1
+read-alternatives-returns t c = alternatives_wrong c.before.before.before.read_sequence-right.ensures _ c.before.place-1.given.1
 
 read-alternatives-returns-2 :
     (t : ℕ) → read-alternatives-lts.Need-returns-2 (alternatives-callees t) (read-alternatives-at t) read-alternatives.Post
 read-alternatives-returns-2 t c =
     let k = c.before.before.before.before.before.before.before in
-    let s = sym c.before.before.before.before.before.stands.ensures ∙ c.before.before.before.before.if1.true in
+    let s = sym c.before.before.before.before.before.stands.ensures ∙ c.before.before.before.before.if-stands.true in
     rw c.unite.ensures
-    (alternatives_more k.before.before.read-sequence.ensures (left-a t k) k.left.given.1 s
-    c.before.read-alternatives.ensures)
+    (alternatives_more k.before.before.read_sequence-right.ensures (left-a t k) k.left-1.given.1 s
+    c.before.read_alternatives-right.ensures)
 
 read-alternatives-returns-3 :
     (t : ℕ) → read-alternatives-lts.Need-returns-3 (alternatives-callees t) (read-alternatives-at t) read-alternatives.Post
 read-alternatives-returns-3 t c =
     let k = c.before.before.before in
-    alternatives_alone k.before.before.read-sequence.ensures (left-a t k) k.left.given.1
-    (sym c.before.stands.ensures ∙ c.if1.false)
+    alternatives_alone k.before.before.read_sequence-right.ensures (left-a t k) k.left-1.given.1
+    (sym c.before.stands.ensures ∙ c.if-stands.false)
 
 read-piece-stands-requires : (t : ℕ) → read-piece-lts.Need-stands-requires (piece-callees t) (read-piece-at t) read-piece.Post
 read-piece-stands-requires t c κs = c.before.requires.1.inside
 
 read-piece-add-read-alternatives : (t : ℕ) → read-piece-lts.Need-overflow-add-read-alternatives (piece-callees t) (read-piece-at t) read-piece.Post
 read-piece-add-read-alternatives t c =
-    omega (arith, (ready_next 40 c.before.before.before.requires.1 (sym c.before.stands.ensures ∙ c.if1.true)).1)
+    omega (arith, (ready_next 40 c.before.before.before.requires.1 (sym c.before.stands.ensures ∙ c.if-stands.true)).1)
 
 read-piece-read-alternatives-requires :
     (t : ℕ) → read-piece-lts.Need-read-alternatives-requires (piece-callees t) (read-piece-at t) read-piece.Post
 read-piece-read-alternatives-requires t c κs =
     let k = c.before.before in
-    let n = ready_next 40 k.before.before.before.requires.1 (sym k.before.stands.ensures ∙ k.if1.true) in
+    let n = ready_next 40 k.before.before.before.requires.1 (sym k.before.stands.ensures ∙ k.if-stands.true) in
     (omega (arith, n.1, k.before.before.before.requires.0), n.0)
 
 read-piece-close-requires : (t : ℕ) → read-piece-lts.Need-close-requires (piece-callees t) (read-piece-at t) read-piece.Post
 read-piece-close-requires t c κs =
     let k = c.before.before.before in
-    placed (ready_next 40 k.before.before.before.requires.1 (sym k.before.stands.ensures ∙ k.if1.true)).0
-    c.read-alternatives.ensures
+    placed (ready_next 40 k.before.before.before.requires.1 (sym k.before.stands.ensures ∙ k.if-stands.true)).0
+    c.read_alternatives-right.ensures
 
 read-piece-carry-requires : (t : ℕ) → read-piece-lts.Need-carry-requires (piece-callees t) (read-piece-at t) read-piece.Post
 read-piece-carry-requires t c κs =
     let k = c.before.before.before.before.before in
     let r = k.before.before.before.requires.1 in
-    rw c.before.close.ensures
-    (placed r (group_reads r (sym k.before.stands.ensures ∙ k.if1.true) c.before.before.read-alternatives.ensures))
+    rw c.before.close-group.ensures
+    (placed r (group_reads r (sym k.before.stands.ensures ∙ k.if-stands.true) c.before.before.read_alternatives-right.ensures))
 
 read-piece-read-position-requires : (t : ℕ) → read-piece-lts.Need-read-position-requires (piece-callees t) (read-piece-at t) read-piece.Post
 read-piece-read-position-requires t c κs = c.before.before.before.before.before.requires.1
@@ -219,20 +219,20 @@ read-piece-carry-requires-2 : (t : ℕ) → read-piece-lts.Need-carry-requires-2
 read-piece-carry-requires-2 t c κs =
     let k = c.before.before.before.before in
     placed k.before.before.before.requires.1
-    (atom_reads (c.before.read-position.ensures (read_as alternatives) (sym k.before.stands.ensures ∙ k.if1.false)))
+    (atom_reads (c.before.read_position-atom.ensures (read_as alternatives) (sym k.before.stands.ensures ∙ k.if-stands.false)))
 
 read-piece-returns : (t : ℕ) → read-piece-lts.Need-returns (piece-callees t) (read-piece-at t) read-piece.Post
 read-piece-returns t c =
     let k = c.before.before.before.before.before.before in
     let r = k.before.before.before.requires.1 in
-    let g = group_reads r (sym k.before.stands.ensures ∙ k.if1.true) c.before.before.before.read-alternatives.ensures in
-    piece_reads r (rw c.before.before.close.ensures g) c.carry.ensures
+    let g = group_reads r (sym k.before.stands.ensures ∙ k.if-stands.true) c.before.before.before.read_alternatives-right.ensures in
+    piece_reads r (rw c.before.before.close-group.ensures g) c.carry.ensures
 
 read-piece-returns-2 : (t : ℕ) → read-piece-lts.Need-returns-2 (piece-callees t) (read-piece-at t) read-piece.Post
 read-piece-returns-2 t c =
     let k = c.before.before.before.before.before in
-    let a = c.before.before.read-position.ensures (read_as alternatives) (sym k.before.stands.ensures ∙ k.if1.false) in
-    piece_reads k.before.before.before.requires.1 (atom_reads a) c.carry2.ensures
+    let a = c.before.before.read_position-atom.ensures (read_as alternatives) (sym k.before.stands.ensures ∙ k.if-stands.false) in
+    piece_reads k.before.before.before.requires.1 (atom_reads a) c.carry-else-stands.ensures
 
 read-sequence-read-piece-requires :
     (t : ℕ) → read-sequence-lts.Need-read-piece-requires (sequence-callees t) (read-sequence-at t) read-sequence.Post
@@ -251,24 +251,24 @@ read-sequence-read-sequence-requires t c κs =
     (omega (arith, r.1, r.0.inside, k.before.before.before.before.before.before.requires.0), r.0)
 
 read-sequence-returns : (t : ℕ) → read-sequence-lts.Need-returns (sequence-callees t) (read-sequence-at t) read-sequence.Post
-read-sequence-returns t c = sequence_wrong c.before.before.before.read-piece.ensures _ c.before.place.given.1
+read-sequence-returns t c = sequence_wrong c.before.before.before.read_piece.ensures _ c.before.place-1.given.1
 
 read-sequence-returns-2 : (t : ℕ) → read-sequence-lts.Need-returns-2 (sequence-callees t) (read-sequence-at t) read-sequence.Post
 read-sequence-returns-2 t c =
     let k = c.before.before.before in
-    sequence_alone k.before.before.read-piece.ensures (left-s t k) k.left.given.1
-    (sym c.before.ends-sequence.ensures ∙ c.if1.true)
+    sequence_alone k.before.before.read_piece.ensures (left-s t k) k.left-1.given.1
+    (sym c.before.ends_sequence.ensures ∙ c.if-stands.true)
 
 read-sequence-returns-3 : (t : ℕ) → read-sequence-lts.Need-returns-3 (sequence-callees t) (read-sequence-at t) read-sequence.Post
 read-sequence-returns-3 t c =
     let k = c.before.before.before.before.before.before.before.before in
     let i = c.before.before.before.before.before in
-    let e = sym i.before.ends-sequence.ensures ∙ i.if1.false in
-    sequence_more k.before.before.read-piece.ensures (left-s t k) k.left.given.1 e c.before.before.read-sequence.ensures
+    let e = sym i.before.ends_sequence.ensures ∙ i.if-stands.false in
+    sequence_more k.before.before.read_piece.ensures (left-s t k) k.left-1.given.1 e c.before.before.read_sequence-right.ensures
     c.join.ensures
 
-pub +read-alternatives-read-piece-read-sequence-spec : {M : Type 1} → statement M
-+read-alternatives-read-piece-read-sequence-spec =
+pub +read_alternatives_read_piece_read_sequence_spec : {M : Type 1} → statement M
++read_alternatives_read_piece_read_sequence_spec =
     close μ-read-alternatives μ-read-piece μ-read-sequence
     (λ t. read-alternatives-lts.spec (alternatives-callees t) (read-alternatives-at t) read-alternatives.Post
     (read-alternatives-read-sequence-requires t) (λ c. search rules) (λ c. search rules) (read-alternatives-stands-requires t)

@@ -4,18 +4,18 @@ use borrow.Author.Rules.{rules}
 use Rattle.expression_reader.proofs.read_expression.Statement.{statement}
 use Rattle.expression_reader.proofs.read_expression.Tie as tie
 
-read-alternatives-requires : tie.Need-read-alternatives-requires
+read-alternatives-requires : tie.Need-read_alternatives-requires
 read-alternatives-requires c κs = ready_start _
 
-returns : tie.Need-returns
+returns : tie.Need-returns-in-Right
 returns c =
     rw c.finish.ensures
-    (whole-right c.before.before.before.before.read-alternatives.ensures _ c.before.before.part.given.1)
+    (whole-right c.before.before.before.before.read_alternatives.ensures _ c.before.before.in-Right.is)
 
-returns-2 : tie.Need-returns-2
-returns-2 c = whole_wrong c.before.before.before.read-alternatives.ensures _ c.before.place.given.1
+returns-2 : tie.Need-returns-in-Wrong
+returns-2 c = whole_wrong c.before.before.before.read_alternatives.ensures _ c.before.in-Wrong.is
 
-pub read-expression-spec : {M : Type 1} → statement M
-read-expression-spec =
+pub read_expression_spec : {M : Type 1} → statement M
+read_expression_spec =
     tie.close
     (tie.spec read-alternatives-requires (λ c. search rules) (λ c κs. search rules) (λ c. search rules) returns returns-2)

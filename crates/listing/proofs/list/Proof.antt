@@ -14,10 +14,10 @@ use Rattle.listing.proofs.list.Statement.{statement}
 use Rattle.listing.proofs.list.Tie as tie
 
 -- the call, from where the text is cut
-abbrev call : tie.After-lex → tie.Start
+abbrev call : tie.After-lex-answer → tie.Start
 call c = c.before.before.before.before.before
 
-module _ (c : tie.After-lex) where
+module _ (c : tie.After-lex-answer) where
   -- there is a mask for each record
   enough : record_count (call c).args.records.now ≤ mask_count (call c).args.masks.now
   enough =
@@ -29,17 +29,17 @@ module _ (c : tie.After-lex) where
       (masked_outcome (call c).args.book.now (call c).args.text.now (call c).args.records.now (call c).args.masks.now)
   same = masked_room _ _ _ _ enough
 
-put-lines-requires : tie.Need-put-lines-requires
+put-lines-requires : tie.Need-put_lines-requires
 put-lines-requires c κs =
     let l = c.before.before.before in
-    fit_answer _ _ _ (l.lex.ensures.0 ∙ (same l).answers) (l.lex.ensures.1.0 ∙ (same l).stores) _ (search rules) (search rules)
+    fit_answer _ _ _ (l.lex-answer.ensures.0 ∙ (same l).answers) (l.lex-answer.ensures.1.0 ∙ (same l).stores) _ (search rules) (search rules)
 
 returns : tie.Need-returns
 returns c =
     let l = c.before.before.before.before in
-    let stored = l.lex.ensures.1.0 ∙ (same l).stores in
-    let z = listed _ _ _ (l.lex.ensures.0 ∙ (same l).answers) stored c.put-lines.ensures in
-    (z.0, (stored, (l.lex.ensures.1.1, z.1)))
+    let stored = l.lex-answer.ensures.1.0 ∙ (same l).stores in
+    let z = listed _ _ _ (l.lex-answer.ensures.0 ∙ (same l).answers) stored c.put_lines.ensures in
+    (z.0, (stored, (l.lex-answer.ensures.1.1, z.1)))
 
-pub list-spec : {M : Type 1} → statement M
-list-spec = tie.close (tie.spec (λ c κs. search rules) put-lines-requires returns)
+pub list_spec : {M : Type 1} → statement M
+list_spec = tie.close (tie.spec (λ c κs. search rules) put-lines-requires returns)

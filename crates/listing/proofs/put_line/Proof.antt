@@ -11,7 +11,7 @@ copy-requires c κs =
     let r = room-first {xs = i.args.word.now} _ i.requires in
     (omega arith, r.room)
 
-put-last-two-requires : tie.Need-put-last-two-requires
+put-last-two-requires : tie.Need-put_last_two-requires
 put-last-two-requires c κs =
     let s = c.before.before.before in
     let i = s.before.before.before.before in
@@ -22,7 +22,7 @@ returns c =
     let s = c.before.before.before.before.before.before in
     let i = s.before.before.before.before in
     let p = puts_copied i.args.out.now i.args.at i.args.word.now s.copy.ensures in
-    puts_then p c.before.before.put-last-two.ensures (room-first _ i.requires)
+    puts_then p c.before.before.put_last_two.ensures (room-first _ i.requires)
 
-pub put-line-spec : {M : Type 1} → statement M
-put-line-spec = tie.close (tie.spec copy-requires (λ c. search rules) put-last-two-requires (λ c. search rules) returns)
+pub put_line_spec : {M : Type 1} → statement M
+put_line_spec = tie.close (tie.spec copy-requires (λ c. search rules) put-last-two-requires (λ c. search rules) returns)

@@ -6,48 +6,48 @@ use Rattle.listing.proofs.Listing.{fit_lexed, puts_lexed, room_refused, puts_ref
 use Rattle.listing.proofs.put_lines.Statement.{statement}
 use Rattle.listing.proofs.put_lines.Tie as tie
 
-put-records-requires : tie.Need-put-records-requires
+put-records-requires : tie.Need-put_records-at-requires
 put-records-requires c κs =
     let a = c.before.before in
-    let f = fit_lexed a.answer.given.1 _ _ a.before.before.before.before.requires in
+    let f = fit_lexed a.in-Lexed.is _ _ a.before.before.before.before.requires in
     (f.0, room-first _ f.2)
 
-sub-put-line : tie.Need-overflow-sub-put-line
+sub-put-line : tie.Need-put_line-requires
 sub-put-line c =
     let a = c.before.before.before.before.before.before.before in
-    (fit_lexed a.answer.given.1 _ _ a.before.before.before.before.requires).1
+    (fit_lexed a.in-Lexed.is _ _ a.before.before.before.before.requires).1
 
-put-line-requires : tie.Need-put-line-requires
+put-line-requires : tie.Need-enum_known-answer-in-Refused-1
 unfolding rest_line
 put-line-requires c κs =
     let p = c.before.before.before.before in
     let a = p.before.before.before in
-    let f = fit_lexed a.answer.given.1 _ _ a.before.before.before.before.requires in
-    room_second p.put-records.ensures p.put-records.auto.0 f.2
+    let f = fit_lexed a.answer-1.given.1 _ _ a.before.before.before.before.requires in
+    room_second p.put_records-at.ensures p.put_records-at.auto.0 f.2
 
-put-line-requires-2 : tie.Need-put-line-requires-2
+put-line-requires-2 : tie.Need-returns-in-Lexed
 unfolding refused_line
 put-line-requires-2 c κs =
     let a = c.before.before.before.before in
-    let g = c.struct_known.given in
-    room_refused a.answer2.given.1 _ _ a.before.before.before.before.requires g.0.fits g.1.0.fits
+    let g = c.struct_known-1.given in
+    room_refused a.answer-in-Refused-1.given.1 _ _ a.before.before.before.before.requires g.0.fits g.1.0.fits
 
-returns : tie.Need-returns
+returns : tie.Need-returns-in-Refused
 unfolding rest_line
 returns c =
     let l = c.before.before in
     let p = l.before.before.before.before.before in
     let a = p.before.before.before in
-    let f = fit_lexed a.answer.given.1 _ _ a.before.before.before.before.requires in
-    puts_lexed a.answer.given.1 _ _ (puts_then p.put-records.ensures l.put-line.ensures (room-first _ f.2))
+    let f = fit_lexed a.answer-1.given.1 _ _ a.before.before.before.before.requires in
+    puts_lexed a.answer-1.given.1 _ _ (puts_then p.put_records-at.ensures l.put_line.ensures (room-first _ f.2))
 
-returns-2 : tie.Need-returns-2
+returns-2 : tie.Need-returns-in-Refused
 unfolding refused_line
 returns-2 c =
     let l = c.before.before in
-    puts_refused l.before.before.before.before.before.answer2.given.1 _ _ l.put-line2.ensures
+    puts_refused l.before.before.before.before.before.answer-in-Refused-1.given.1 _ _ l.put_line-in-Refused.ensures
 
-pub put-lines-spec : {M : Type 1} → statement M
-put-lines-spec =
+pub put_lines_spec : {M : Type 1} → statement M
+put_lines_spec =
     tie.close (tie.spec (λ c. search rules) put-records-requires (λ c. search rules) sub-put-line put-line-requires (λ c. search rules)
     (λ c. search rules) (λ c. search rules) put-line-requires-2 (λ c. search rules) returns (λ c. search rules) returns-2)

@@ -5,35 +5,35 @@ use Rattle.listing.proofs.Listing.{Going, going_start, going-room, going_next, g
 use Rattle.listing.proofs.put_records.Statement.{statement}
 use Rattle.listing.proofs.put_records.Tie as tie
 
-abbrev invariant-loop : tie.invariant-loop
+abbrev invariant-loop : tie.invariant-loop-k
 invariant-loop out₀ records n at₀ k₀ out at k = Going out₀ records n out at k
 
-abbrev decreases-loop : tie.decreases-loop
+abbrev decreases-loop : tie.decreases-loop-k
 decreases-loop out₀ records n at₀ k₀ out at k = n - k
 
-loop-holds : tie.Need-loop-init invariant-loop decreases-loop
+loop-holds : tie.Need-loop-k-init invariant-loop decreases-loop
 loop-holds c = going_start _ _ _
 
-put-record-requires : tie.Need-put-record-requires invariant-loop decreases-loop
+put-record-requires : tie.Need-put_record-at-requires invariant-loop decreases-loop
 put-record-requires c κs =
     let l = c.before.before in
     let p = l.before.before.before.requires in
-    let t = c.before.loop-test.true in
-    (omega (arith, t, p.0), going-room l.loop.invariant p.1 t)
+    let t = c.before.loop-k-test.true in
+    (omega (arith, t, p.0), going-room l.loop-k.invariant p.1 t)
 
-loop-again : tie.Need-loop-preserved invariant-loop decreases-loop
+loop-again : tie.Need-loop-k-preserved invariant-loop decreases-loop
 loop-again c =
     let r = c.before.before in
     let t = r.before.before in
     let l = t.before in
-    going_next l.loop.invariant l.before.before.before.requires.1 t.loop-test.true r.put_record.auto.0 r.put_record.ensures
+    going_next l.loop-k.invariant l.before.before.before.requires.1 t.loop-k-test.true r.put_record-at.auto.0 r.put_record-at.ensures
 
-same_length : tie.Need-same-length invariant-loop decreases-loop
-same_length c = c.before.loop.invariant.same
+same_length : tie.Need-shape_of-out invariant-loop decreases-loop
+same_length c = c.before.loop-k.invariant.same
 
 returns : tie.Need-returns invariant-loop decreases-loop
-returns c = going_end c.before.loop.invariant c.before.before.before.before.requires.1 c.loop-test.false
+returns c = going_end c.before.loop-k.invariant c.before.before.before.before.requires.1 c.loop-k-test.false
 
-pub put-records-spec : {M : Type 1} → statement M
-put-records-spec =
+pub put_records_spec : {M : Type 1} → statement M
+put_records_spec =
     tie.close (tie.spec invariant-loop decreases-loop loop-holds put-record-requires (λ c. omega arith) (λ c. omega arith) loop-again same_length returns)

@@ -9,21 +9,21 @@ use Rattle.longest_match.proofs.Held.{held_few}
 use Rattle.longest_match.proofs.choose_among.Statement.{statement}
 use Rattle.longest_match.proofs.choose_among.Tie as tie
 
-few : (c : tie.After-count-of) → c.count_of.result ≤ length c.before.before.before.args.lengths.now
-few c = let start = c.before.before.before.requires in omega (arith, held_few start.0 c.count_of.ensures, start.1)
+few : (c : tie.After-count_of-rules) → c.count_of-rules.result ≤ length c.before.before.before.args.lengths.now
+few c = let start = c.before.before.before.requires in omega (arith, held_few start.0 c.count_of-rules.ensures, start.1)
 
-slice-aggregate-choose-from : tie.Need-slice-aggregate-choose-from
+slice-aggregate-choose-from : tie.Need-slice_bounds-choose_from-end
 slice-aggregate-choose-from c = sym (length-take-le _ _ (few c.before))
 
-choose-from-requires : tie.Need-choose-from-requires
+choose-from-requires : tie.Need-choose_from-requires
 choose-from-requires c κs =
     let k = c.before in
-    rw (length-take-le _ _ (few k)) (held_few k.before.before.before.requires.0 k.count_of.ensures)
+    rw (length-take-le _ _ (few k)) (held_few k.before.before.before.requires.0 k.count_of-rules.ensures)
 
 returns : tie.Need-returns
 returns c = λ rs h.
-    let e = c.before.before.count_of.ensures rs h in
-    rw e at c.choose-from.ensures
+    let e = c.before.before.count_of-rules.ensures rs h in
+    rw e at c.choose_from.ensures
 
-pub choose-among-spec : {M : Type 1} → statement M
-choose-among-spec = tie.close (tie.spec (λ c κs. search rules) slice-aggregate-choose-from choose-from-requires returns)
+pub choose_among_spec : {M : Type 1} → statement M
+choose_among_spec = tie.close (tie.spec (λ c κs. search rules) slice-aggregate-choose-from choose-from-requires returns)

@@ -15,5 +15,5 @@ returns : tie.Need-returns
 unfolding part
 returns c = λ rs t h e. along e (c.walk_of.ensures rs h)
 
-pub walk-with-spec : {M : Type 1} → statement M
-walk-with-spec = tie.close (tie.spec (λ c. search rules) (λ c. search rules) (λ c. search rules) (λ c κs. search rules) returns)
+pub walk_with_spec : {M : Type 1} → statement M
+walk_with_spec = tie.close (tie.spec (λ c. search rules) (λ c. search rules) (λ c. search rules) (λ c κs. search rules) returns)

@@ -7,31 +7,31 @@ use Rattle.output.proofs.Placing.{both_full, both_put}
 use Rattle.output.proofs.put_both.Statement.{statement}
 use Rattle.output.proofs.put_both.Tie as tie
 
-put-token-requires : tie.Need-put-token-requires
+put-token-requires : tie.Need-put_token-requires
 put-token-requires c κs = (c.before.before.before.requires.1.0, c.before.before.before.requires.1.1)
 
-put-token-requires-2 : tie.Need-put-token-requires-2
+put-token-requires-2 : tie.Need-put_token-requires-in-At
 put-token-requires-2 c κs = (
   c.before.before.before.before.before.before.before.before.before.before.requires.0,
-  (c.before.before.before.before.before.before.put-token.ensures.at _ c.before.before.start.given.1).within,
+  (c.before.before.before.before.before.before.put_token.ensures.at _ c.before.before.in-At.is).within,
 )
 
-returns : tie.Need-returns
+returns : tie.Need-returns-in-At
 returns c =
     let start' = c.before.before.before.before.before.before.before.before.before.before.before.before.before in
     both_put (bytes_in start'.args.pool.now start'.args.token)
     (bytes_in start'.args.pool.now start'.args.separator ++ drop start'.args.at start'.args.scratch.now)
-    (c.before.before.before.before.before.before.before.before.before.put-token.ensures.at _
-    c.before.before.before.before.before.start.given.1) c.before.before.put-token2.ensures
+    (c.before.before.before.before.before.before.before.before.before.put_token.ensures.at _
+    c.before.before.before.before.before.in-At.is) c.before.before.put_token-in-At.ensures
 
-returns-2 : tie.Need-returns-2
+returns-2 : tie.Need-returns-in-Full
 returns-2 c =
     let start = c.before.before.before.before.before.before.before.before in
     both_full (bytes_in start.args.pool.now start.args.token) (bytes_in start.args.pool.now start.args.separator)
-    (drop start.args.at start.args.scratch.now) c.enum_told.given.1
-    c.before.before.before.before.put-token.ensures
+    (drop start.args.at start.args.scratch.now) c.in-Full.is
+    c.before.before.before.before.put_token.ensures
 
-pub put-both-spec : {M : Type 1} → statement M
-put-both-spec =
+pub put_both_spec : {M : Type 1} → statement M
+put_both_spec =
     tie.close (tie.spec put-token-requires (λ c. search rules) put-token-requires-2 (λ c. search rules) (λ c. search rules) returns
     (λ c. search rules) returns-2)

@@ -5,12 +5,12 @@ use borrow.Author.Rules.{rules}
 use Rattle.output.proofs.write.Statement.{statement}
 use Rattle.output.proofs.write.Tie as tie
 
-returns : tie.Need-returns
-returns c = record { lacks = λ _. (c.refused.ensures, refl); prints = λ l. absurd (omega (arith, l, c.before.if1.true)) }
+returns : tie.Need-returns-then-out-total
+returns c = record { lacks = λ _. (c.refused.ensures, refl); prints = λ l. absurd (omega (arith, l, c.before.if-out-total.true)) }
 
-returns-2 : tie.Need-returns-2
+returns-2 : tie.Need-returns
 returns-2 c = record {
-  lacks = λ l. absurd (omega (arith, l, c.before.before.before.before.if1.false));
+  lacks = λ l. absurd (omega (arith, l, c.before.before.before.before.if-out-total.false));
   prints = λ _.
       (refl, c.before.before.copy.ensures);
 }

@@ -9,5 +9,5 @@ returns : tie.Need-returns
 unfolding is_listed
 returns c = simp (or_assoc, or_none)
 
-pub is-listed-spec : {M : Type 1} → statement M
-is-listed-spec = tie.close (tie.spec returns)
+pub is_listed_spec : {M : Type 1} → statement M
+is_listed_spec = tie.close (tie.spec returns)

@@ -9,5 +9,5 @@ returns : tie.Need-returns
 unfolding is_special
 returns c = simp (or_assoc, or_none)
 
-pub is-special-spec : {M : Type 1} → statement M
-is-special-spec = tie.close (tie.spec returns)
+pub is_special_spec : {M : Type 1} → statement M
+is_special_spec = tie.close (tie.spec returns)

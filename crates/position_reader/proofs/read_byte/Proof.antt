@@ -9,11 +9,11 @@ returns : tie.Need-returns
 returns c =
     let k = c.before.before.before.before.before.before in
     let a = k.before.before.before.before.before.args in
-    let p = c.before.before.position-part in
-    position_read (byte a.b) a.at a.base p.result _ a.follow.now _ a.takers.now _ _
+    let p = c.before.before.position_part in
+    position_read (byte a.b) a.at a.base p.result _ a.follow-1.now _ a.takers-1.now _ _
     k.before.bit.ensures p.ensures k.mark.ensures (λ x l. byte-takes a.b x)
 
-pub read-byte-spec : {M : Type 1} → statement M
-read-byte-spec =
+pub read_byte_spec : {M : Type 1} → statement M
+read_byte_spec =
     tie.close
     (tie.spec (λ c κs. search rules) (λ c κs. search rules) (λ c κs. search rules) (λ c. search rules) (λ c. search rules) returns)

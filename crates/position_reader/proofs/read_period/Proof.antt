@@ -11,12 +11,12 @@ returns c =
     let k = c.before.before.before.before.before.before in
     let m = k.before.before.before.before in
     let a = m.before.before.before.before.before.args in
-    let p = c.before.before.position-part in
-    position_read period a.at a.base p.result _ a.follow.now _ a.takers.now _ _
-    m.before.before.bit.ensures p.ensures (marked_or m.mark.ensures k.mark2.ensures) period_takes
+    let p = c.before.before.position_part in
+    position_read period a.at a.base p.result _ a.follow-1.now _ a.takers-1.now _ _
+    m.before.before.bit-set.ensures p.ensures (marked_or m.mark.ensures k.mark-2.ensures) period_takes
 
-pub read-period-spec : {M : Type 1} → statement M
-read-period-spec =
+pub read_period_spec : {M : Type 1} → statement M
+read_period_spec =
     tie.close
     (tie.spec (λ c κs. search rules) (λ c κs. search rules) (λ c κs. search rules) (λ c κs. search rules) (λ c. search rules)
     (λ c. search rules) returns)

@@ -8,24 +8,24 @@ use Rattle.reader.proofs.Loading.{going_wide}
 use Rattle.reader.proofs.load_wide.Statement.{statement}
 use Rattle.reader.proofs.load_wide.Tie as tie
 
-read-on-requires : tie.Need-read-on-requires
+read-on-requires : tie.Need-read_on-requires
 read-on-requires c κs =
     let k = c.before.before.before in
-    going_wide state_count k.before.before.before.before.before.requires.0 k.copy-cells.ensures
+    going_wide state_count k.before.before.before.before.before.requires.0 k.copy_cells.ensures
 
-returns : tie.Need-returns
+returns : tie.Need-returns-in-Answered
 returns c =
     let k = c.before in
-    rw k.answer.given.1 at k.before.before.before.before.before.read_on.ensures
+    rw k.in-Answered.is at k.before.before.before.before.before.read_on.ensures
 
-returns-2 : tie.Need-returns-2
+returns-2 : tie.Need-returns-in-Narrow
 returns-2 c =
     let k = c.before.before.before.before.before in
-    let h = rw c.enum_told.given.1 at k.read_on.ensures in
-    let wide = k.before.before.before.before.copy-cells.ensures.size ∙ length-replicate {A = ℕ} state_count 0 in
+    let h = rw c.in-Narrow.is at k.read_on.ensures in
+    let wide = k.before.before.before.before.copy_cells.ensures.size ∙ length-replicate {A = ℕ} state_count 0 in
     absurd (omega (arith, h.1, k.read_on.auto.1.1.1.0 ∙ wide))
 
-pub load-wide-spec : {M : Type 1} → statement M
-load-wide-spec =
+pub load_wide_spec : {M : Type 1} → statement M
+load_wide_spec =
     tie.close (tie.spec (λ c. search rules) (λ c κs. search rules) (λ c. search rules) read-on-requires (λ c. search rules)
     (λ c. search rules) (λ c. search rules) returns (λ c. search rules) returns-2)

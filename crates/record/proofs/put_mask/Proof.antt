@@ -11,5 +11,5 @@ returns c =
     let start = put.before.before.before in
     rw put.put_four.ensures (mask_stored start.args.masks.now (4 * start.args.k) start.args.mask start.requires)
 
-pub put-mask-spec : {M : Type 1} → statement M
-put-mask-spec = tie.close (tie.spec (λ c. search rules) (λ c κs. search rules) (λ c. search rules) returns)
+pub put_mask_spec : {M : Type 1} → statement M
+put_mask_spec = tie.close (tie.spec (λ c. search rules) (λ c κs. search rules) (λ c. search rules) returns)

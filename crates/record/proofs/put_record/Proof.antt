@@ -11,12 +11,12 @@ returns c =
     let a = first.before.before.before.args in
     rw (
       c.before.before.put_two.ensures,
-      c.before.before.before.before.before.before.put-four2.ensures,
+      c.before.before.before.before.before.before.put_four-2.ensures,
       first.put_four.ensures,
     )
-    (record_stored a.records.now (10 * a.k) a.tag a.place a.len first.before.before.before.requires)
+    (record_stored a.records-1.now (10 * a.k) a.tag a.place a.len first.before.before.before.requires)
 
-pub put-record-spec : {M : Type 1} → statement M
-put-record-spec =
+pub put_record_spec : {M : Type 1} → statement M
+put_record_spec =
     tie.close (tie.spec (λ c. search rules) (λ c. search rules) (λ c κs. search rules) (λ c. search rules) (λ c κs. search rules)
     (λ c κs. search rules) (λ c. search rules) returns)

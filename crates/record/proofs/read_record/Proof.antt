@@ -6,9 +6,9 @@ use Rattle.record.proofs.read_record.Tie as tie
 
 returns : tie.Need-returns
 unfolding record_at
-returns c = rw (c.before.before.read-two.ensures, c.before.read-four.ensures, c.read-four2.ensures)
+returns c = rw (c.before.before.read_two.ensures, c.before.read_four.ensures, c.read_four-2.ensures)
 
-pub read-record-spec : {M : Type 1} → statement M
-read-record-spec =
+pub read_record_spec : {M : Type 1} → statement M
+read_record_spec =
     tie.close (tie.spec (λ c. search rules) (λ c κs. search rules) (λ c. search rules) (λ c κs. search rules) (λ c. search rules)
     (λ c κs. search rules) returns)

@@ -11,61 +11,61 @@ use Rattle.rewriting.proofs.Writing.{Turn, turn, Measuring, measuring_start, mea
 use Rattle.rewriting.proofs.measure.Statement.{statement}
 use Rattle.rewriting.proofs.measure.Tie as tie
 
-abbrev invariant-loop : tie.invariant-loop
+abbrev invariant-loop : tie.invariant-loop-at
 invariant-loop book len total₀ at₀ total at = Measuring book total at
 
-abbrev decreases-loop : tie.decreases-loop
+abbrev decreases-loop : tie.decreases-loop-at
 decreases-loop book len total₀ at₀ total at = length book - at
 
 abbrev Loop : Type 0
-Loop = tie.At-loop invariant-loop decreases-loop
+Loop = tie.At-loop-at invariant-loop decreases-loop
 
 abbrev book : Loop → List ℕ
 book c = c.before.before.args.book.now
 
 -- the command at the loop's place
-module _ (c : Loop) (more : c.loop.at < length (book c)) where
-  here : Turn (book c) c.loop.at c.loop.invariant.steps
-  here = turn c.loop.invariant.onward more
+module _ (c : Loop) (more : c.loop-at.at < length (book c)) where
+  here : Turn (book c) c.loop-at.at c.loop-at.invariant.steps
+  here = turn c.loop-at.invariant.onward more
 
-  short : c.loop.at + width (book c) c.loop.at ≤ max_bytes
+  short : c.loop-at.at + width (book c) c.loop-at.at ≤ max_bytes
   short = omega (arith, here.standing.within, c.before.before.requires.short)
 
-loop-holds : tie.Need-loop-init invariant-loop decreases-loop
+loop-holds : tie.Need-loop-at-init invariant-loop decreases-loop
 loop-holds c = measuring_start c.before.requires
 
-read_code : tie.Need-shared-slice-read-code invariant-loop decreases-loop
-read_code c = c.before.loop-test.true
+read_code : tie.Need-bounds-book-at invariant-loop decreases-loop
+read_code c = c.before.loop-at-test.true
 
-add_total : tie.Need-overflow-add-total invariant-loop decreases-loop
+add_total : tie.Need-overflow_add-total invariant-loop decreases-loop
 add_total c =
     let k = c.before.before.before in
-    let more = c.before.before.loop-test.true in
-    omega (arith, (measuring_next k.loop.invariant more c.growth.ensures).few, short k more, k.before.before.requires.short)
+    let more = c.before.before.loop-at-test.true in
+    omega (arith, (measuring_next k.loop-at.invariant more c.growth-total.ensures).few, short k more, k.before.before.requires.short)
 
-add_at : tie.Need-overflow-add-at invariant-loop decreases-loop
+add_at : tie.Need-overflow_add-at invariant-loop decreases-loop
 add_at c =
     let k = c.before.before.before.before in
-    omega (arith, short k c.before.before.before.loop-test.true, c.operands.ensures)
+    omega (arith, short k c.before.before.before.loop-at-test.true, c.operands.ensures)
 
-add-at-2 : tie.Need-overflow-add-at-2 invariant-loop decreases-loop
+add-at-2 : tie.Need-overflow_add-at-in-loop-at invariant-loop decreases-loop
 add-at-2 c =
     let k = c.before.before.before.before in
-    omega (arith, short k c.before.before.before.loop-test.true, c.operands.ensures)
+    omega (arith, short k c.before.before.before.loop-at-test.true, c.operands.ensures)
 
-loop-less : tie.Need-loop-smaller invariant-loop decreases-loop
-loop-less c = omega (arith, c.before.before.before.loop-test.true)
+loop-less : tie.Need-loop-at-smaller invariant-loop decreases-loop
+loop-less c = omega (arith, c.before.before.before.loop-at-test.true)
 
-loop-again : tie.Need-loop-preserved invariant-loop decreases-loop
+loop-again : tie.Need-loop-at-preserved invariant-loop decreases-loop
 loop-again c =
     let k = c.before.before.before.before in
-    let e : k.loop.at + (1 + c.operands.result) ≡ k.loop.at + width (book k) k.loop.at = omega (arith, c.operands.ensures) in
-    rw e (measuring_next k.loop.invariant c.before.before.before.loop-test.true c.before.growth.ensures)
+    let e : k.loop-at.at + (1 + c.operands.result) ≡ k.loop-at.at + width (book k) k.loop-at.at = omega (arith, c.operands.ensures) in
+    rw e (measuring_next k.loop-at.invariant c.before.before.before.loop-at-test.true c.before.growth-total.ensures)
 
 returns : tie.Need-returns invariant-loop decreases-loop
-returns c = measuring_end c.before.loop.invariant c.loop-test.false
+returns c = measuring_end c.before.loop-at.invariant c.loop-at-test.false
 
-pub measure-spec : {M : Type 1} → statement M
-measure-spec =
+pub measure_spec : {M : Type 1} → statement M
+measure_spec =
     tie.close (tie.spec invariant-loop decreases-loop loop-holds read_code (λ c κs. search rules) add_total (λ c κs. search rules) add_at add-at-2
     loop-less loop-again returns)

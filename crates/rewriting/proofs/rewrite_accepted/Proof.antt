@@ -7,36 +7,36 @@ use Rattle.rewriting.specs.Rewritten.{rewritten}
 use Rattle.rewriting.proofs.rewrite_accepted.Statement.{statement}
 use Rattle.rewriting.proofs.rewrite_accepted.Tie as tie
 
-returns : tie.Need-returns
+returns : tie.Need-returns-then-total-gt-BYTES
 returns c =
     let a = c.before.before.before.before.before.args in
-    up_to_long max_bytes 1 (rewritten a.book.now) a.out.now
-    (omega (arith, c.before.if1.true, c.before.before.measure.ensures)) c.refused.ensures
+    up_to_long max_bytes 1 (rewritten a.book.now) a.out-1.now
+    (omega (arith, c.before.if-total-gt-BYTES.true, c.before.before.measure-total.ensures)) c.refused.ensures
 
-returns-2 : tie.Need-returns-2
+returns-2 : tie.Need-returns-then-out-total
 returns-2 c =
     let a = c.before.before.before.before.before.before.args in
-    let e = c.before.before.before.measure.ensures in
-    up_to_fitting max_bytes 1 (rewritten a.book.now) a.out.now (omega (arith, c.before.before.if1.false, e))
-    (written_short (rewritten a.book.now) a.out.now e c.before.if2.true c.refused2.ensures)
+    let e = c.before.before.before.measure-total.ensures in
+    up_to_fitting max_bytes 1 (rewritten a.book.now) a.out-1.now (omega (arith, c.before.before.if-total-gt-BYTES.false, e))
+    (written_short (rewritten a.book.now) a.out-1.now e c.before.if-out-total.true c.refused-then-out-total.ensures)
 
-write-commands-requires : tie.Need-write-commands-requires
+write-commands-requires : tie.Need-write_commands-requires
 write-commands-requires c κs =
     record {
       readable = c.before.before.before.before.before.before.requires;
-      room = omega (arith, c.before.if2.false, c.before.before.before.measure.ensures);
+      room = omega (arith, c.before.if-out-total.false, c.before.before.before.measure-total.ensures);
     }
 
-returns-3 : tie.Need-returns-3
+returns-3 : tie.Need-returns
 returns-3 c =
     let a = c.before.before.before.before.before.before.before.before.before.args in
-    let e = c.before.before.before.before.before.before.measure.ensures in
-    up_to_fitting max_bytes 1 (rewritten a.book.now) a.out.now
-    (omega (arith, c.before.before.before.before.before.if1.false, e))
-    (written-whole (rewritten a.book.now) a.out.now e c.before.before.before.before.if2.false
-    (rw (← e) at c.before.before.write-commands.ensures))
+    let e = c.before.before.before.before.before.before.measure-total.ensures in
+    up_to_fitting max_bytes 1 (rewritten a.book.now) a.out-1.now
+    (omega (arith, c.before.before.before.before.before.if-total-gt-BYTES.false, e))
+    (written-whole (rewritten a.book.now) a.out-1.now e c.before.before.before.before.if-out-total.false
+    (rw (← e) at c.before.before.write_commands.ensures))
 
-pub rewrite-accepted-spec : {M : Type 1} → statement M
-rewrite-accepted-spec =
+pub rewrite_accepted_spec : {M : Type 1} → statement M
+rewrite_accepted_spec =
     tie.close (tie.spec (λ c κs. search rules) (λ c κs. search rules) returns (λ c κs. search rules) returns-2
     write-commands-requires (λ c. search rules) returns-3)

@@ -11,8 +11,8 @@ returns c =
     let a = c.before.before.before.args in
     span-stored a.book.now a.at a.out.now a.to c.before.before.before.requires.1
 
-pub write-span-spec : {M : Type 1} → statement M
-write-span-spec =
+pub write_span_spec : {M : Type 1} → statement M
+write_span_spec =
     tie.close (tie.spec (λ c. search rules) (λ c. search rules) (λ c. search rules) (λ c. search rules) (λ c. search rules)
     (λ c. search rules) (λ c. search rules) (λ c. search rules)
     (λ c. simp length-set (omega (arith, c.before.before.before.requires))) (λ c. search rules)

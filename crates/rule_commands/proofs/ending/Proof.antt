@@ -7,25 +7,25 @@ use Rattle.rule_commands.proofs.Measuring.{row_at_lem, closes_run, closes_error,
 use Rattle.rule_commands.proofs.ending.Statement.{statement}
 use Rattle.rule_commands.proofs.ending.Tie as tie
 
-returns : tie.Need-returns
+returns : tie.Need-returns-then-not-run_ends
 returns c =
     let k = c.before.before.before in
     rw (closes_run (row_at k.args.targets.now k.args.from) k.args.b
-    (sym c.before.run_ends.ensures ∙ not-true _ c.if1.true))
+    (sym c.before.run_ends.ensures ∙ not-true _ c.if-not-run_ends.true))
 
-returns-2 : tie.Need-returns-2
+returns-2 : tie.Need-returns-then-targets-from-eq0
 returns-2 c =
     let k = c.before.before.before.before.before in
     rw (closes_error (row_at k.args.targets.now k.args.from) k.args.b
-    (row_at_lem k.args.targets.now k.args.from k.args.b k.requires.1 ∙ c.if2.true))
+    (row_at_lem k.args.targets.now k.args.from k.args.b k.requires.1 ∙ c.if-targets-from-eq0.true))
 
-returns-3 : tie.Need-returns-3
+returns-3 : tie.Need-returns
 returns-3 c =
     let k = c.before.before.before.before.before in
     rw (closes_span (row_at k.args.targets.now k.args.from) k.args.b
-    (sym c.before.before.before.run_ends.ensures ∙ not-false _ c.before.before.if1.false)
-    (λ e. c.if2.false (sym (row_at_lem k.args.targets.now k.args.from k.args.b k.requires.1) ∙ e)))
+    (sym c.before.before.before.run_ends.ensures ∙ not-false _ c.before.before.if-not-run_ends.false)
+    (λ e. c.if-targets-from-eq0.false (sym (row_at_lem k.args.targets.now k.args.from k.args.b k.requires.1) ∙ e)))
 
-pub ending-spec : {M : Type 1} → statement M
-ending-spec =
+pub ending_spec : {M : Type 1} → statement M
+ending_spec =
     tie.close (tie.spec (λ c κs. search rules) returns (λ c. search rules) (λ c. search rules) (λ c. search rules) returns-2 returns-3)

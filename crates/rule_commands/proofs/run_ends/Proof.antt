@@ -6,17 +6,17 @@ use Rattle.rule_commands.proofs.Measuring.{apart-last, apart_inside}
 use Rattle.rule_commands.proofs.run_ends.Statement.{statement}
 use Rattle.rule_commands.proofs.run_ends.Tie as tie
 
-returns : tie.Need-returns
+returns : tie.Need-returns-then-b-eq255
 returns c =
     let k = c.before in
-    sym (apart-last k.args.targets.now k.args.from k.requires.0 c.if1.true)
+    sym (apart-last k.args.targets.now k.args.from k.requires.0 c.if-b-eq255.true)
 
-returns-2 : tie.Need-returns-2
+returns-2 : tie.Need-returns
 returns-2 c =
     let k = c.before.before.before in
-    sym (apart_inside k.args.targets.now k.args.from k.requires.0 (omega (arith, k.requires.1, c.before.before.if1.false)))
+    sym (apart_inside k.args.targets.now k.args.from k.requires.0 (omega (arith, k.requires.1, c.before.before.if-b-eq255.false)))
 
-pub run-ends-spec : {M : Type 1} → statement M
-run-ends-spec =
+pub run_ends_spec : {M : Type 1} → statement M
+run_ends_spec =
     tie.close (tie.spec returns (λ c. search rules) (λ c. search rules) (λ c. search rules) (λ c. search rules)
     (λ c. search rules) returns-2)

@@ -4,7 +4,7 @@ use Rattle.rule_commands.proofs.Writing.{close_stored}
 use Rattle.rule_commands.proofs.write_close.Statement.{statement}
 use Rattle.rule_commands.proofs.write_close.Tie as tie
 
-pub write-close-spec : {M : Type 1} → statement M
-write-close-spec =
+pub write_close_spec : {M : Type 1} → statement M
+write_close_spec =
     tie.close (tie.spec (λ c. search rules) (λ c. search rules) (λ c. search rules)
     (λ c. close_stored c.args.out.now c.args.to c.requires))

@@ -19,16 +19,16 @@ use Rattle.rule_commands.proofs.write_commands.Statement.{statement}
 use Rattle.rule_commands.proofs.write_commands.Tie as tie
 
 -- the entry, seen from behind the first call, and the calls before the later ones
-abbrev start : tie.After-write-head → tie.Start
+abbrev start : tie.After-write_head-finals_at → tie.Start
 start c = c.before.before.before.before.before
 
-abbrev first : tie.After-write-finals-arg → tie.After-write-head
+abbrev first : tie.After-write_finals-arg-1 → tie.After-write_head-finals_at
 first c = c.before.before.before
 
-abbrev second : tie.After-write-spans-arg → tie.After-write-finals
+abbrev second : tie.After-write_spans-arg-1 → tie.After-write_finals-spans_at
 second c = c.before.before.before
 
-abbrev third : tie.After-write-close-arg → tie.After-write-spans
+abbrev third : tie.After-write_close-arg-1 → tie.After-write_spans-close_at
 third c = c.before.before.before
 
 -- the final states and the rows
@@ -42,37 +42,37 @@ module _ (c : tie.Start) where
   many : length states ≡ c.args.marked
   many = length-take-le c.args.marked c.args.finals.now c.requires.0.marks
 
-write-head-requires : tie.Need-write-head-requires
+write-head-requires : tie.Need-write_head-finals_at-requires
 write-head-requires c κs =
     let k = c.before.before.before.before in
     omega (arith, table-length k.args.tag k.args.kind (states k) (rows k), k.requires.1)
 
-write-finals-requires : tie.Need-write-finals-requires
+write-finals-requires : tie.Need-write_finals-spans_at-requires
 write-finals-requires c κs =
     let k = start (first c) in (
-      k.pre.0.marks,
+      k.requires.0.marks,
       omega (
         arith,
-        finals_room k.args.tag k.args.kind (states k) (rows k) k.pre.1 (first c).write-head.ensures,
+        finals_room k.args.tag k.args.kind (states k) (rows k) k.requires.1 (first c).write-head.ensures,
         finals_length (states k),
         many k,
       ),
     )
 
-write-spans-requires : tie.Need-write-spans-requires
+write-spans-requires : tie.Need-write_spans-close_at-requires
 write-spans-requires c κs =
     let h = first (second c).before in
     let k = start h in (
-      (k.pre.0.few_rows, k.pre.0.room),
-      spans_room k.args.tag k.args.kind (states k) (rows k) k.pre.1 h.write-head.ensures (second c).write-finals.ensures,
+      (k.requires.0.few_rows, k.requires.0.room),
+      spans_room k.args.tag k.args.kind (states k) (rows k) k.requires.1 h.write_head-finals_at.ensures (second c).write-finals.ensures,
     )
 
-write-close-requires : tie.Need-write-close-requires
+write-close-requires : tie.Need-write_close-requires
 write-close-requires c κs =
     let f = second (third c).before in
     let h = first f.before in
     let k = start h in
-    close_room k.args.tag k.args.kind (states k) (rows k) k.pre.1 h.write-head.ensures f.write-finals.ensures
+    close_room k.args.tag k.args.kind (states k) (rows k) k.requires.1 h.write_head-finals_at.ensures f.write_finals-spans_at.ensures
     (third c).write-spans.ensures
 
 returns : tie.Need-returns
@@ -81,9 +81,9 @@ returns c =
     let f = second s.before in
     let h = first f.before in
     let k = start h in
-    table-written k.args.tag k.args.kind (states k) (rows k) k.pre.1 h.write-head.ensures f.write-finals.ensures
-    s.write-spans.ensures c.before.before.write-close.ensures
+    table-written k.args.tag k.args.kind (states k) (rows k) k.requires.1 h.write_head-finals_at.ensures f.write_finals-spans_at.ensures
+    s.write_spans-close_at.ensures c.before.before.write_close.ensures
 
-pub write-commands-spec : {M : Type 1} → statement M
-write-commands-spec =
+pub write_commands_spec : {M : Type 1} → statement M
+write_commands_spec =
     tie.close (tie.spec write-head-requires write-finals-requires write-spans-requires write-close-requires (λ c. search rules) returns)

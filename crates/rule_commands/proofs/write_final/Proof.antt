@@ -6,7 +6,7 @@ use Rattle.rule_commands.proofs.Writing.{final-stored}
 use Rattle.rule_commands.proofs.write_final.Statement.{statement}
 use Rattle.rule_commands.proofs.write_final.Tie as tie
 
-pub write-final-spec : {M : Type 1} → statement M
-write-final-spec =
+pub write_final_spec : {M : Type 1} → statement M
+write_final_spec =
     tie.close (tie.spec (λ c. search rules) (λ c. search rules) (λ c. simp length-set (omega (arith, c.requires))) (λ c. search rules)
     (λ c. search rules) (λ c. final-stored c.args.out.now c.args.state c.args.to c.requires))

@@ -16,13 +16,13 @@ use Rattle.rule_commands.proofs.Writing.{
 use Rattle.rule_commands.proofs.write_finals.Statement.{statement}
 use Rattle.rule_commands.proofs.write_finals.Tie as tie
 
-abbrev invariant-loop : tie.invariant-loop
+abbrev invariant-loop : tie.invariant-loop-i
 invariant-loop finals count out₀ to at₀ i₀ out at i = WritingFinals (take count finals) out₀ out to at i
 
-abbrev decreases-loop : tie.decreases-loop
+abbrev decreases-loop : tie.decreases-loop-i
 decreases-loop finals count out₀ to at₀ i₀ out at i = count - i
 
-abbrev start : tie.At-loop invariant-loop decreases-loop → tie.Start invariant-loop decreases-loop
+abbrev start : tie.At-loop-i invariant-loop decreases-loop → tie.Start invariant-loop decreases-loop
 start c = c.before.before.before
 
 -- the final states
@@ -36,44 +36,44 @@ module _ (c : tie.Start invariant-loop decreases-loop) where
   room : c.args.to + length (finals_bytes states) ≤ length c.args.out.now
   room = omega (arith, finals_length states, many, c.requires.1)
 
-more : (c : tie.In-loop invariant-loop decreases-loop) → c.before.loop.i < length (states (start c.before))
-more c = omega (arith, c.loop-test.true, many (start c.before))
+more : (c : tie.In-loop-i invariant-loop decreases-loop) → c.before.loop-i.i < length (states (start c.before))
+more c = omega (arith, c.loop-i-test.true, many (start c.before))
 
-loop-holds : tie.Need-loop-init invariant-loop decreases-loop
+loop-holds : tie.Need-loop-i-init invariant-loop decreases-loop
 loop-holds c =
     let k = c.before.before in writing_finals_start (states k) k.args.out.now k.args.to (room k)
 
-read_final : tie.Need-shared-slice-read-write-final invariant-loop decreases-loop
-read_final c = omega (arith, c.before.loop-test.true, (start c.before.before).pre.0)
+read_final : tie.Need-bounds-finals-i invariant-loop decreases-loop
+read_final c = omega (arith, c.before.loop-i-test.true, (start c.before.before).requires.0)
 
-write-final-requires : tie.Need-write-final-requires invariant-loop decreases-loop
-write-final-requires c κs = writing_finals_room c.before.before.before.loop.invariant (more c.before.before)
+write-final-requires : tie.Need-write_final-at-requires invariant-loop decreases-loop
+write-final-requires c κs = writing_finals_room c.before.before.before.loop-i.invariant (more c.before.before)
 
 -- a turn's test
-abbrev test : tie.After-slice-known2 invariant-loop decreases-loop → tie.In-loop invariant-loop decreases-loop
+abbrev test : tie.After-slice_known-in-loop-i-1 invariant-loop decreases-loop → tie.In-loop-i invariant-loop decreases-loop
 test c = c.before.before.before.before.before
 
-add-i : tie.Need-overflow-add-i invariant-loop decreases-loop
+add-i : tie.Need-overflow_add-i invariant-loop decreases-loop
 add-i c = omega (arith, (test c).loop-test.true, (start (test c).before).fits.count)
 
-loop-less : tie.Need-loop-smaller invariant-loop decreases-loop
+loop-less : tie.Need-loop-i-smaller invariant-loop decreases-loop
 loop-less c = omega (arith, (test c).loop-test.true)
 
-loop-again : tie.Need-loop-preserved invariant-loop decreases-loop
+loop-again : tie.Need-loop-i-preserved invariant-loop decreases-loop
 loop-again c =
     let h = (test c).before in
-    writing_finals_next h.loop.inv (more (test c))
-    (get_or-take (start h).args.count (start h).args.finals.now h.loop.i 0 (test c).loop-test.true)
-    c.before.before.write-final.ensures
+    writing_finals_next h.loop-i.inv (more (test c))
+    (get_or-take (start h).args.count (start h).args.finals.now h.loop-i.i 0 (test c).loop-test.true)
+    c.before.before.write_final-at.ensures
 
-same_length : tie.Need-same-length invariant-loop decreases-loop
-same_length c = c.before.loop.invariant.filling.same
+same_length : tie.Need-shape_of-out invariant-loop decreases-loop
+same_length c = c.before.loop-i.invariant.filling.same
 
 returns : tie.Need-returns invariant-loop decreases-loop
 returns c =
     let k = start c.before in
-    writing_finals_end c.before.loop.invariant (room k) (omega (arith, many k, c.loop-test.false))
+    writing_finals_end c.before.loop-i.invariant (room k) (omega (arith, many k, c.loop-i-test.false))
 
-pub write-finals-spec : {M : Type 1} → statement M
-write-finals-spec =
+pub write_finals_spec : {M : Type 1} → statement M
+write_finals_spec =
     tie.close (tie.spec invariant-loop decreases-loop loop-holds read_final write-final-requires add-i loop-less loop-again same_length returns)

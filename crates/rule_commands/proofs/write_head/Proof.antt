@@ -6,8 +6,8 @@ use Rattle.rule_commands.proofs.Writing.{head_stored}
 use Rattle.rule_commands.proofs.write_head.Statement.{statement}
 use Rattle.rule_commands.proofs.write_head.Tie as tie
 
-pub write-head-spec : {M : Type 1} → statement M
-write-head-spec =
+pub write_head_spec : {M : Type 1} → statement M
+write_head_spec =
     tie.close (tie.spec (λ c. search rules) (λ c. search rules) (λ c. simp length-set (omega (arith, c.requires))) (λ c. search rules)
     (λ c. simp length-set (omega (arith, c.requires))) (λ c. simp length-set (omega (arith, c.requires)))
     (λ c. simp length-set (omega (arith, c.requires))) (λ c. simp length-set (omega (arith, c.requires)))

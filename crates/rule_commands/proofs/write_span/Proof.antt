@@ -11,8 +11,8 @@ returns c =
     let a = c.args in
     span-stored a.out.now (record { from = a.from; low = a.low; high = a.high; to = a.target }) a.to c.requires
 
-pub write-span-spec : {M : Type 1} → statement M
-write-span-spec =
+pub write_span_spec : {M : Type 1} → statement M
+write_span_spec =
     tie.close (tie.spec (λ c. search rules) (λ c. search rules) (λ c. simp length-set (omega (arith, c.requires)))
     (λ c. search rules) (λ c. simp length-set (omega (arith, c.requires))) (λ c. search rules)
     (λ c. simp length-set (omega (arith, c.requires))) (λ c. search rules) (λ c. simp length-set (omega (arith, c.requires)))

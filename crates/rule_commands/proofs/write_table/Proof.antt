@@ -13,7 +13,7 @@ use Rattle.rule_commands.proofs.Writing.{table-length, put_written}
 use Rattle.rule_commands.proofs.write_table.Statement.{statement}
 use Rattle.rule_commands.proofs.write_table.Tie as tie
 
-abbrev start : tie.After-count-spans → tie.Start
+abbrev start : tie.After-count_spans → tie.Start
 start c = c.before.before.before.before
 
 abbrev states : tie.Start → List ℕ
@@ -23,36 +23,36 @@ abbrev bytes : tie.Start → List ℕ
 bytes c =
     table_bytes c.args.tag c.args.kind (states c) (rows_of c.args.targets.now c.args.rows)
 
-measured : (c : tie.After-count-spans) → 9 + 2 * (start c).args.marked + 5 * c.count-spans.result ≡ length (bytes (start c))
+measured : (c : tie.After-count_spans) → 9 + 2 * (start c).args.marked + 5 * c.count_spans.result ≡ length (bytes (start c))
 measured c =
     let k = start c in
     omega (
       arith,
       table-length k.args.tag k.args.kind (states k) (rows_of k.args.targets.now k.args.rows),
-      length-take-le k.args.marked k.args.finals.now k.pre.marks,
-      c.count-spans.ensures.0,
+      length-take-le k.args.marked k.args.finals.now k.requires.marks,
+      c.count_spans.ensures.0,
     )
 
-returns : tie.Need-returns
+returns : tie.Need-returns-then-out-total
 returns c =
     let m = c.before.before in
-    written_short (bytes (start m)) (start m).args.out.now (measured m) c.before.if1.true c.refused.ensures
+    written_short (bytes (start m)) (start m).args.out.now (measured m) c.before.if-out-total.true c.refused.ensures
 
-write-commands-requires : tie.Need-write-commands-requires
+write-commands-requires : tie.Need-write_commands-printed-requires
 write-commands-requires c κs =
-    let m = c.before.before in ((start m).requires, omega (arith, measured m, c.before.if1.false))
+    let m = c.before.before in ((start m).requires, omega (arith, measured m, c.before.if-out-total.false))
 
-returns-2 : tie.Need-returns-2
+returns-2 : tie.Need-returns
 returns-2 c =
     let e = c.before.before.before.before in
     let m = e.before in
-    put_written (bytes (start m)) (start m).args.out.now (omega (arith, measured m, e.if1.false))
-    c.before.before.write-commands.ensures
+    put_written (bytes (start m)) (start m).args.out.now (omega (arith, measured m, e.if-out-total.false))
+    c.before.before.write_commands-printed.ensures
 
-count-spans-requires : tie.Need-count-spans-requires
+count-spans-requires : tie.Need-count_spans-requires
 count-spans-requires c κs = let k = c.before.before.before in (k.requires.few_rows, k.requires.room)
 
-pub write-table-spec : {M : Type 1} → statement M
-write-table-spec =
+pub write_table_spec : {M : Type 1} → statement M
+write_table_spec =
     tie.close (tie.spec (λ c. search rules) (λ c. search rules) count-spans-requires (λ c. search rules) (λ c. search rules)
     (λ c κs. search rules) returns write-commands-requires (λ c. search rules) returns-2)

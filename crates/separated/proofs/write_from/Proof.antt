@@ -13,5 +13,5 @@ returns c =
     answered_written start.args.scratch.now start.args.at _ (sym (length-drop start.args.at start.args.scratch.now))
     (omega (arith, start.requires.1)) c.before.before.write.ensures
 
-pub write-from-spec : {M : Type 1} → statement M
-write-from-spec = tie.close (tie.spec (λ c. search rules) (λ c κs. search rules) (λ c. search rules) returns)
+pub write_from_spec : {M : Type 1} → statement M
+write_from_spec = tie.close (tie.spec (λ c. search rules) (λ c κs. search rules) (λ c. search rules) returns)

@@ -4,25 +4,25 @@ use borrow.Author.Rules.{rules}
 use Rattle.shared_bytes.proofs.shared_by_ways.Statement.{statement}
 use Rattle.shared_bytes.proofs.shared_by_ways.Tie as tie
 
-look-requires : tie.Need-look-requires
+look-requires : tie.Need-look-looked-requires
 look-requires c κs =
     let a = c.before.before.requires in
     (a, omega (arith, c.count_of.ensures a.rules a.holds, a.holds.count))
 
-shared-in-small-requires : tie.Need-shared-in-small-requires
+shared-in-small-requires : tie.Need-shared_in_small-requires
 shared-in-small-requires c κs =
     let k = c.before in
     let a = k.before.before.before.requires in
-    let w = k.look.ensures a.rules a.holds in
+    let w = k.look-looked.ensures a.rules a.holds in
     record {
       rules = a.rules;
       holds = a.holds;
-      each = λ j l. w.all c.if1.true j (omega (arith, k.before.count_of.ensures a.rules a.holds));
+      each = λ j l. w.all c.if-looked.true j (omega (arith, k.before.count_of.ensures a.rules a.holds));
     }
 
-returns-2 : tie.Need-returns-2
-returns-2 c = λ rs h. (c.before.look.ensures rs h).found c.if1.false
+returns-2 : tie.Need-returns
+returns-2 c = λ rs h. (c.before.look-looked.ensures rs h).found c.if-looked.false
 
-pub shared-by-ways-spec : {M : Type 1} → statement M
-shared-by-ways-spec =
+pub shared_by_ways_spec : {M : Type 1} → statement M
+shared_by_ways_spec =
     tie.close (tie.spec (λ c κs. search rules) look-requires shared-in-small-requires (λ c. search rules) returns-2)

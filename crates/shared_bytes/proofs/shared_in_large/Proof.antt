@@ -6,7 +6,7 @@ use Rattle.shared_bytes.proofs.Fitting.{fitting_wide}
 use Rattle.shared_bytes.proofs.shared_in_large.Statement.{statement}
 use Rattle.shared_bytes.proofs.shared_in_large.Tie as tie
 
-shared-in-requires : tie.Need-shared-in-requires
+shared-in-requires : tie.Need-shared_in-requires
 shared-in-requires c κs = (
   _,
   _,
@@ -14,7 +14,7 @@ shared-in-requires c κs = (
   room_fresh 4096 4096 4161 (omega arith) (omega arith) (omega arith),
 )
 
-pub shared-in-large-spec : {M : Type 1} → statement M
-shared-in-large-spec =
+pub shared_in_large_spec : {M : Type 1} → statement M
+shared_in_large_spec =
     tie.close (tie.spec (λ c. search rules) (λ c. search rules) (λ c. search rules) (λ c. search rules) (λ c. search rules)
     (λ c. search rules) shared-in-requires (λ c. search rules))

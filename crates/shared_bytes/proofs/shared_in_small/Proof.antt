@@ -5,11 +5,11 @@ use Rattle.used_bytes.proofs.Useful.{room_fresh}
 use Rattle.shared_bytes.proofs.shared_in_small.Statement.{statement}
 use Rattle.shared_bytes.proofs.shared_in_small.Tie as tie
 
-shared-in-requires : tie.Need-shared-in-requires
+shared-in-requires : tie.Need-shared_in-requires
 shared-in-requires c κs =
     (_, _, c.before.before.before.before.before.before.before.requires, room_fresh 256 512 577 (omega arith) (omega arith) (omega arith))
 
-pub shared-in-small-spec : {M : Type 1} → statement M
-shared-in-small-spec =
+pub shared_in_small_spec : {M : Type 1} → statement M
+shared_in_small_spec =
     tie.close (tie.spec (λ c. search rules) (λ c. search rules) (λ c. search rules) (λ c. search rules) (λ c. search rules)
     (λ c. search rules) shared-in-requires (λ c. search rules))

@@ -74,8 +74,8 @@ use Rattle.slices.proofs.Tests.{is_true, is_false, behind, tests}
 use Rattle.slices.proofs.Table.{word, lent, shared, PassedOn, passed_on_twice}
 use Rattle.slices.proofs.Locals.{frees_tail}
 use Rattle.slices.proofs.Arrays.{Words, words, ref_at, fills, lends_lying, takes_back, shares_lying, gives_up}
-use Rattle.slices.proofs.lexing.begin.Symbol.{name as #lexing·begin}
-use Rattle.slices.proofs.lexing.next.Symbol.{name as #lexing·next}
+use Rattle.slices.proofs.lexing.begin-pending.Symbol.{name as #lexing·begin}
+use Rattle.slices.proofs.lexing.next-pending.Symbol.{name as #lexing·next}
 use Rattle.slices.proofs.lexing.answer.Symbol.{name as #lexing·answer}
 use Rattle.slices.specs.contracts.lex_tokens.Key.{name as #slices·lex-tokens}
 use denote.Struct.Laws as LL
@@ -86,12 +86,12 @@ use Rattle.slices.specs.contracts.lexing.Pending as S
 use Rattle.slices.proofs.lexing.Pending.TheLaws as S'
 use Rattle.record.specs.contracts.TokenRecord as T
 use Rattle.record.proofs.TokenRecord.TheLaws as T'
-use Rattle.slices.specs.contracts.lexing.begin as begin
-use Rattle.slices.proofs.lexing.begin.Symbol as begin-def
-use Rattle.slices.proofs.lexing.begin.Met as begin-thm
-use Rattle.slices.specs.contracts.lexing.next as next
-use Rattle.slices.proofs.lexing.next.Symbol as next-def
-use Rattle.slices.proofs.lexing.next.Met as next-thm
+use Rattle.slices.specs.contracts.lexing.begin-pending as begin
+use Rattle.slices.proofs.lexing.begin-pending.Symbol as begin-def
+use Rattle.slices.proofs.lexing.begin-pending.Met as begin-thm
+use Rattle.slices.specs.contracts.lexing.next-pending as next
+use Rattle.slices.proofs.lexing.next-pending.Symbol as next-def
+use Rattle.slices.proofs.lexing.next-pending.Met as next-thm
 use Rattle.slices.specs.contracts.lexing.answer as answer
 use Rattle.slices.proofs.lexing.answer.Symbol as answer-def
 use Rattle.slices.proofs.lexing.answer.Met as answer-thm
@@ -236,7 +236,7 @@ module _ {M : Type 1} {𝓤 : Ura M} (𝓛 : Logic 𝓤) (mem : Memory → SProp
   abbrev to-answer : Pending → (Answer 𝓛 mem run).Ghost
   to-answer t = ((tt, tt, tt, (t, tt), (S'.lowered t ∷ [], tt)), tt)
 
-  goes-answer : (t : Pending) → IsPending t → ent 𝓤 (sem 𝓛 ftrue) ((Answer 𝓛 mem run).pre (to-answer t))
+  goes-answer : (t : Pending) → IsPending t → ent 𝓤 (sem 𝓛 ftrue) ((Answer 𝓛 mem run).requires (to-answer t))
   goes-answer t is =
       qed 𝓛 (‵ ftrue ∷ []) ∵ nothing ! $ nothing ! $ owned ! S.the_row (Is S.the_row) ((LL.makes S.the_type S'.the_plain) 𝓛) t _ is $
       fjoin ! $ move ! (1 ∷ 0 ∷ []) $ join ! $ frame ! $ done !
@@ -281,7 +281,7 @@ module _ {M : Type 1} {𝓤 : Ura M} (𝓛 : Logic 𝓤) (mem : Memory → SProp
       LentOwns = fsep OwnBook (fsep ((MutRef (named 1) (ν ∷ []) (Words w64 large_table)).own_val fresh (vptr l₅ 0 ∷ []))
           (fsep OwnText (fsep (usize.own_val cap (vint w64 cap ∷ [])) (fsep (usize.own_val mcap (vint w64 mcap ∷ [])) ftrue))))
 
-      goes-begin : ent 𝓤 (⋆ 𝓛 (LentToks ∷ ‵ LentOwns ∷ [])) ((Begin 𝓛 mem run).pre to-begin)
+      goes-begin : ent 𝓤 (⋆ 𝓛 (LentToks ∷ ‵ LentOwns ∷ [])) ((Begin 𝓛 mem run).requires to-begin)
       goes-begin = qed 𝓛 (LentToks ∷ ‵ LentOwns ∷ []) ∵ says ! (lent_large (length bk)) $ done !
 
     -- ---- the loop, with the table at tb, lent for ν
@@ -306,7 +306,7 @@ module _ {M : Type 1} {𝓤 : Ura M} (𝓛 : Logic 𝓤) (mem : Memory → SProp
       abbrev to-next : Pending → (Next 𝓛 mem run).Ghost
       to-next t = ((passed-for, (full_share, (q₁, tt)), tt, passed t, (vptr l₅ 0 ∷ [], (v ∷ [], (S'.lowered t ∷ [], tt)))), tt)
 
-      goes-next : (t : Pending) → IsPending t → Ready tb tx t → ent 𝓤 (⋆ 𝓛 (Toks ∷ Tabs ∷ [])) ((Next 𝓛 mem run).pre (to-next t))
+      goes-next : (t : Pending) → IsPending t → Ready tb tx t → ent 𝓤 (⋆ 𝓛 (Toks ∷ Tabs ∷ [])) ((Next 𝓛 mem run).requires (to-next t))
       goes-next t is ready =
           qed 𝓛 (Toks ∷ Tabs ∷ []) ∵ says ! ready $ frame ! $ split ! $
           -- [the table; text]
@@ -314,7 +314,7 @@ module _ {M : Type 1} {𝓤 : Ura M} (𝓛 : Logic 𝓤) (mem : Memory → SProp
           fjoin ! $ move ! (1 ∷ 0 ∷ []) $ fjoin ! $ done !
 
       abbrev Said : Pending → Pending → Type 0
-      Said t r = (rs : List Rule) → Holds tb rs → PendingAt rs tx (t.index + 1) t.next r
+      Said t r = (rs : List Rule) → Holds tb rs → PendingAt rs tx (t.index + 1) t.next-pending r
 
       next-said : (t r : Pending) → ent 𝓤 (ensured 𝓛 next.ended (next.clauses 𝓛 mem run) passed-for (passed t) tt r)
           (fact 𝓤 (Said t r))
@@ -409,7 +409,7 @@ module _ {M : Type 1} {𝓤 : Ura M} (𝓛 : Logic 𝓤) (mem : Memory → SProp
 
         leaves : (i : Var) → Yes (not i.t.more) → Sq 𝓛 (Tested i) (runs C Λ En body.t-8 (at_ret En Post))
         leaves i off =
-            nothing ! $ use1 𝓛 (raw ((Answer 𝓛 mem run).pre (to-answer i.t))) (goes-answer i.t i.is) $
+            nothing ! $ use1 𝓛 (raw ((Answer 𝓛 mem run).requires (to-answer i.t))) (goes-answer i.t i.is) $
             calls_at ! (fm_of 𝓤 H 𝓛.laws 𝓣) (Answer 𝓛 mem run) known-answer (to-answer i.t)
             (and_then ! (load ! (from ! (stop !)) (look ! 27 refl)) (no_more !)) (λ u.
             use1 𝓛 (later (some (λ (r : LexAnswer). (‵ ftrue ⊛ ‵ ((L.the_row).own_val r (u ∷ [])))
@@ -482,7 +482,7 @@ module _ {M : Type 1} {𝓤 : Ura M} (𝓛 : Logic 𝓤) (mem : Memory → SProp
               -- `next`, with a copy of the table and the text
               move ! (1 ∷ []) $ use1 𝓛 (Tabs ⊛ Tabs) (passed_on_twice 𝓛 l₅ tb ν δ (named 1) κ₁ text v) $
               split ! $ move ! (3 ∷ 0 ∷ []) $
-              use2 𝓛 (raw ((Next 𝓛 mem run).pre (to-next i.t)))
+              use2 𝓛 (raw ((Next 𝓛 mem run).requires (to-next i.t)))
               (goes-next i.t i.is (going_ready i.going (is_true i.t.more on))) $
               calls_at_last ! (fm_of 𝓤 H 𝓛.laws 𝓣) (Next 𝓛 mem run) known_next (to-next i.t)
               (and_then ! (load ! (from ! (stop !)) (look ! 24 refl))
@@ -621,7 +621,7 @@ module _ {M : Type 1} {𝓤 : Ura M} (𝓛 : Logic 𝓤) (mem : Memory → SProp
           nothing ! $ owned ! usize (Is usize) (uint_Makes 𝓛 w64) mcap _ (refl, m-room.0) $ fjoin ! $
           owned ! usize (Is usize) (uint_Makes 𝓛 w64) cap _ (refl, room.0) $ fjoin ! $ move ! (1 ∷ 0 ∷ []) $ fjoin ! $
           move ! (10 ∷ 0 ∷ []) $ fjoin ! $ move ! (2 ∷ 0 ∷ []) $ fjoin ! $
-          move ! (3 ∷ 0 ∷ []) $ use2 𝓛 (raw ((Begin 𝓛 mem run).pre (to-begin l₅ ν δ))) (goes-begin l₅ ν δ) $
+          move ! (3 ∷ 0 ∷ []) $ use2 𝓛 (raw ((Begin 𝓛 mem run).requires (to-begin l₅ ν δ))) (goes-begin l₅ ν δ) $
           -- [what is asked; text; book; the row; the open borrow; obs; auth; the masks; lent; _15; …]
           calls_at ! (fm_of 𝓤 H 𝓛.laws 𝓣) (Begin 𝓛 mem run) known-begin (to-begin l₅ ν δ)
           (and_then ! (load ! (from ! (stop !)) (look ! 36 refl))
@@ -703,9 +703,9 @@ module _ {M : Type 1} {𝓤 : Ura M} (𝓛 : Logic 𝓤) (mem : Memory → SProp
       (lex-tokens.clauses 𝓛 mem run)
       (WpFn 𝓤 H 𝓣.C 𝓣.Λ code.function) (WpFn-mono 𝓤 H 𝓛.laws 𝓣 code.function) lex-tokens-walks
 
-pub lex-tokens-spec : {M : Type 1} → stated.statement M
+pub lex_tokens_spec : {M : Type 1} → stated.statement M
 unfolding code.routine tables_of
-lex-tokens-spec 𝓤 𝓛 𝓜 𝓡 =
+lex_tokens_spec 𝓤 𝓛 𝓜 𝓡 =
     entered 𝓤 𝓛.H (triple_of 𝓛 lex-tokens.signature (lex-tokens.spec 𝓛 𝓜.mem 𝓡.run))
     (tables 𝓤 𝓛.H 𝓜 𝓡 code.env).C (tables 𝓤 𝓛.H 𝓜 𝓡 code.env).Λ #slices·lex-tokens code.function (code.unfolded 𝓤 𝓛.H 𝓜 𝓡)
     (lex-tokens-meets 𝓛 𝓜.mem 𝓡.run (tables_of 𝓤 𝓛.H 𝓜 (tables 𝓤 𝓛.H 𝓜 𝓡 code.env))

@@ -70,8 +70,8 @@ use Rattle.slices.proofs.Tests.{is_true, is_false, behind, tests}
 use Rattle.slices.proofs.Table.{word, lent, shared, PassedOn, passed_on_twice}
 use Rattle.slices.proofs.Locals.{frees_tail}
 use Rattle.slices.proofs.Arrays.{Words, words, ref_at, fills, lends_lying, takes_back, shares_lying, gives_up}
-use Rattle.slices.proofs.printing.begin.Symbol.{name as #printing·begin}
-use Rattle.slices.proofs.printing.step.Symbol.{name as #printing·step}
+use Rattle.slices.proofs.printing.begin-stage.Symbol.{name as #printing·begin}
+use Rattle.slices.proofs.printing.step-stage.Symbol.{name as #printing·step}
 use Rattle.slices.proofs.printing.finish.Symbol.{name as #printing·finish}
 use Rattle.slices.specs.contracts.print_tokens.Key.{name as #slices·print-tokens}
 use denote.Struct.Laws as LL
@@ -82,12 +82,12 @@ use Rattle.slices.specs.contracts.printing.Stage as S
 use Rattle.slices.proofs.printing.Stage.TheLaws as S'
 use Rattle.record.specs.contracts.TokenRecord as T
 use Rattle.record.proofs.TokenRecord.TheLaws as T'
-use Rattle.slices.specs.contracts.printing.begin as begin
-use Rattle.slices.proofs.printing.begin.Symbol as begin-def
-use Rattle.slices.proofs.printing.begin.Met as begin-thm
-use Rattle.slices.specs.contracts.printing.step as step
-use Rattle.slices.proofs.printing.step.Symbol as step-def
-use Rattle.slices.proofs.printing.step.Met as step_thm
+use Rattle.slices.specs.contracts.printing.begin-stage as begin
+use Rattle.slices.proofs.printing.begin-stage.Symbol as begin-def
+use Rattle.slices.proofs.printing.begin-stage.Met as begin-thm
+use Rattle.slices.specs.contracts.printing.step-stage as step
+use Rattle.slices.proofs.printing.step-stage.Symbol as step-def
+use Rattle.slices.proofs.printing.step-stage.Met as step_thm
 use Rattle.slices.specs.contracts.printing.finish as finish
 use Rattle.slices.proofs.printing.finish.Symbol as finish-def
 use Rattle.slices.proofs.printing.finish.Met as finish-thm
@@ -205,7 +205,7 @@ module _ {M : Type 1} {𝓤 : Ura M} (𝓛 : Logic 𝓤) (mem : Memory → SProp
       qed 𝓛 (Ended r u zs) ∵
       suffices ! _ (ends_at 𝓛 print-tokens.ended stayed (print-tokens.clauses 𝓛 mem run)
       ((κs, (q₀, (q₁, (q₂, (q₃, tt)))), tt, x, at), tt) u r (tt, (tt, (tt, (zs, tt)))) (tt, (tt, (tt, (e, tt))))) $
-      says ! (p.answer, p.out) $
+      says ! (p.answer, p.out-1) $
       nothing ! $ move ! (3 ∷ 0 ∷ []) $ join ! $ move ! (8 ∷ 0 ∷ []) $ join ! $ move ! (6 ∷ 0 ∷ []) $ join ! $ move ! (4 ∷ 0 ∷ []) $
       join ! $ frame ! $ nothing ! $ move ! (2 ∷ 0 ∷ []) $ fjoin ! $ move ! (4 ∷ 0 ∷ []) $ fjoin ! $ move ! (3 ∷ 0 ∷ []) $ fjoin ! $
       move ! (2 ∷ 0 ∷ []) $ fjoin ! $ done !
@@ -246,7 +246,7 @@ module _ {M : Type 1} {𝓤 : Ura M} (𝓛 : Logic 𝓤) (mem : Memory → SProp
       LentOwns = fsep OwnBook (fsep ((MutRef (named 1) (ν ∷ []) (Words w64 large_table)).own_val fresh (vptr l₅ 0 ∷ []))
           (fsep (usize.own_val n (vint w64 n ∷ [])) ftrue))
 
-      goes-begin : ent 𝓤 (⋆ 𝓛 (LentToks ∷ ‵ LentOwns ∷ [])) ((Begin 𝓛 mem run).pre to-begin)
+      goes-begin : ent 𝓤 (⋆ 𝓛 (LentToks ∷ ‵ LentOwns ∷ [])) ((Begin 𝓛 mem run).requires to-begin)
       goes-begin = qed 𝓛 (LentToks ∷ ‵ LentOwns ∷ []) ∵ says ! (lent_large (length bk)) $ done !
 
     -- ---- the loop, with the table at tb, lent for ν
@@ -288,7 +288,7 @@ module _ {M : Type 1} {𝓤 : Ura M} (𝓛 : Logic 𝓤) (mem : Memory → SProp
           )
 
           goes_step : (k : TokenRecord) → IsStage t → IsToken k → Steps tb scr pl t k
-              → ent 𝓤 (⋆ 𝓛 (StepToks ∷ ‵ Scratch ∷ Tabs ∷ [])) ((Step 𝓛 mem run).pre (to_step k))
+              → ent 𝓤 (⋆ 𝓛 (StepToks ∷ ‵ Scratch ∷ Tabs ∷ [])) ((Step 𝓛 mem run).requires (to_step k))
           goes_step k is ik asked =
               qed 𝓛 (StepToks ∷ ‵ Scratch ∷ Tabs ∷ []) ∵ says ! asked $ frame ! $ move ! (1 ∷ []) $ split ! $
               -- [the table; pool; the scratch]
@@ -318,7 +318,7 @@ module _ {M : Type 1} {𝓤 : Ura M} (𝓛 : Logic 𝓤) (mem : Memory → SProp
 
           goes-finish : IsStage t → t.total ≤ length scr
               → ent 𝓤 (⋆ 𝓛 ((‵ (flft (ν' ∷ []) full_share) ⊛ (‵ (flft κ₃ q₃) ⊛ ‵ ftrue)) ∷ ‵ Read ∷ ‵ OwnOut ∷ []))
-              ((Finish 𝓛 mem run).pre to-finish)
+              ((Finish 𝓛 mem run).requires to-finish)
           goes-finish is asked =
               qed 𝓛 ((‵ (flft (ν' ∷ []) full_share) ⊛ (‵ (flft κ₃ q₃) ⊛ ‵ ftrue)) ∷ ‵ Read ∷ ‵ OwnOut ∷ []) ∵ says ! asked $ frame ! $
               nothing ! $ move ! (2 ∷ 0 ∷ []) $ fjoin ! $
@@ -426,7 +426,7 @@ module _ {M : Type 1} {𝓤 : Ura M} (𝓛 : Logic 𝓤) (mem : Memory → SProp
             -- `finish`, with the scratch lent for a lifetime of the call
             move ! (5 ∷ []) $ shares_lying ! tt (named 0) w8 65536 l₆ i.1.0 (λ ν' δ'.
             nothing ! $ move ! (5 ∷ 0 ∷ []) $ join ! $ move ! (3 ∷ 0 ∷ []) $ join ! $ move ! (0 ∷ 1 ∷ 3 ∷ []) $
-            use3 𝓛 (raw ((Finish 𝓛 mem run).pre (to-finish ν' δ' i.0 i.1.0)))
+            use3 𝓛 (raw ((Finish 𝓛 mem run).requires (to-finish ν' δ' i.0 i.1.0)))
             (goes-finish ν' δ' i.0 i.1.0 (staged i) (total-in i off)) $
             calls_at ! (fm_of 𝓤 H 𝓛.laws 𝓣) (Finish 𝓛 mem run) known-finish (to-finish ν' δ' i.0 i.1.0)
             (and_then ! (load ! (from ! (stop !)) (look ! 14 refl))
@@ -480,7 +480,7 @@ module _ {M : Type 1} {𝓤 : Ura M} (𝓛 : Logic 𝓤) (mem : Memory → SProp
             move ! (2 ∷ []) $ lends_lying ! tt (named 1) w8 65536 l₆ i.1.0 (λ ν' δ'.
             nothing ! $ move ! (8 ∷ 0 ∷ []) $ join ! $ move ! (3 ∷ 0 ∷ []) $ join ! $ move ! (6 ∷ 0 ∷ []) $ join ! $ move ! (5 ∷ []) $
             use1 𝓛 (Tabs ⊛ Tabs) (passed_on_twice 𝓛 l₅ tb ν δ (named 2) κ₂ pool v) $ split ! $ move ! (2 ∷ 3 ∷ 0 ∷ []) $
-            use3 𝓛 (raw ((Step 𝓛 mem run).pre (to_step ν' δ' i.0 i.1.0 (elem i))))
+            use3 𝓛 (raw ((Step 𝓛 mem run).requires (to_step ν' δ' i.0 i.1.0 (elem i))))
             (goes_step ν' δ' i.0 i.1.0 (elem i) (staged i) g (steps i on g)) $
             calls_at_last ! (fm_of 𝓤 H 𝓛.laws 𝓣) (Step 𝓛 mem run) Known-step (to_step ν' δ' i.0 i.1.0 (elem i))
             (and_then ! (load ! (from ! (stop !)) (look ! 26 refl))
@@ -595,7 +595,7 @@ module _ {M : Type 1} {𝓤 : Ura M} (𝓛 : Logic 𝓤) (mem : Memory → SProp
           move ! (7 ∷ []) $ use1 𝓛 (‵ OwnBook ⊛ ‵ OwnBook) ((shr_slice_copy 𝓛 (named 0) κ₀ u8).twice book (vb ∷ [])) $ split ! $
           nothing ! $ owned ! usize (Is usize) (uint_Makes 𝓛 w64) n _ (refl, room.0) $ fjoin ! $ move ! (10 ∷ 0 ∷ []) $ fjoin ! $
           move ! (1 ∷ 0 ∷ []) $ fjoin ! $ move ! (2 ∷ 0 ∷ []) $
-          use2 𝓛 (raw ((Begin 𝓛 mem run).pre (to-begin l₅ l₆ ν δ))) (goes-begin l₅ l₆ ν δ) $
+          use2 𝓛 (raw ((Begin 𝓛 mem run).requires (to-begin l₅ l₆ ν δ))) (goes-begin l₅ l₆ ν δ) $
           calls_at ! (fm_of 𝓤 H 𝓛.laws 𝓣) (Begin 𝓛 mem run) known-begin (to-begin l₅ l₆ ν δ)
           (and_then ! (load ! (from ! (stop !)) (look ! 44 refl))
           (and_then ! (load ! (from ! (stop !)) (look ! 26 refl))
@@ -670,9 +670,9 @@ module _ {M : Type 1} {𝓤 : Ura M} (𝓛 : Logic 𝓤) (mem : Memory → SProp
       (print-tokens.clauses 𝓛 mem run) (WpFn 𝓤 H 𝓣.C 𝓣.Λ code.function) (WpFn-mono 𝓤 H 𝓛.laws 𝓣 code.function)
       print-tokens-walks
 
-pub print-tokens-spec : {M : Type 1} → stated.statement M
+pub print_tokens_spec : {M : Type 1} → stated.statement M
 unfolding code.routine tables_of
-print-tokens-spec 𝓤 𝓛 𝓜 𝓡 =
+print_tokens_spec 𝓤 𝓛 𝓜 𝓡 =
     entered 𝓤 𝓛.H (triple_of 𝓛 print-tokens.signature (print-tokens.spec 𝓛 𝓜.mem 𝓡.run))
     (tables 𝓤 𝓛.H 𝓜 𝓡 code.env).C (tables 𝓤 𝓛.H 𝓜 𝓡 code.env).Λ #slices·print-tokens code.function (code.unfolded 𝓤 𝓛.H 𝓜 𝓡)
     (print-tokens-meets 𝓛 𝓜.mem 𝓡.run (tables_of 𝓤 𝓛.H 𝓜 (tables 𝓤 𝓛.H 𝓜 𝓡 code.env))

@@ -5,23 +5,23 @@ use Rattle.subsets.proofs.Rows.{learns_known, learns_new}
 use Rattle.subsets.proofs.learn.Statement.{statement}
 use Rattle.subsets.proofs.learn.Tie as tie
 
-returns : tie.Need-returns
+returns : tie.Need-returns-then-set-last
 returns c =
     let k = c.before.before.before in
-    learns_known _ _ _ k.requires.1 k.requires.2 _ refl (sym c.if1.true) k.requires.0
+    learns_known _ _ _ k.requires.1 k.requires.2 _ refl (sym c.if-set-last.true) k.requires.0
 
-returns-2 : tie.Need-returns-2
+returns-2 : tie.Need-returns-then-number-count
 returns-2 c =
     let k = c.before.before.before.before.before.before in
-    learns_known _ _ _ k.requires.1 k.requires.2 _ refl refl (record { within = c.if2.true; number = c.before.number_of_lem.ensures })
+    learns_known _ _ _ k.requires.1 k.requires.2 _ refl refl (record { within = c.if-number-count.true; number = c.before.number_of-number.ensures })
 
-returns-3 : tie.Need-returns-3
+returns-3 : tie.Need-returns
 returns-3 c =
     let k = c.before.before.before.before.before.before in
-    learns_new _ _ _ k.requires.1 k.requires.2 _ c.before.number_of_lem.ensures c.if2.false
+    learns_new _ _ _ k.requires.1 k.requires.2 _ c.before.number_of-number.ensures c.if-number-count.false
 
-pub learn-spec : {M : Type 1} → statement M
-learn-spec =
+pub learn_spec : {M : Type 1} → statement M
+learn_spec =
     tie.close
     (tie.spec returns (λ c κs. search rules) (λ c. search rules) returns-2 (λ c. search rules) (λ c. search rules) (λ c. search rules)
     returns-3)

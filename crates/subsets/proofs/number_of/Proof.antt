@@ -7,18 +7,18 @@ use Rattle.subsets.proofs.Rows.{place_below, number_next}
 use Rattle.subsets.proofs.number_of.Statement.{statement}
 use Rattle.subsets.proofs.number_of.Tie as tie
 
-returns : tie.Need-returns
-returns c = rw c.if1.true (sym (number_none _))
+returns : tie.Need-returns-then-set-eq0
+returns c = rw c.if-set-eq0.true (sym (number_none _))
 
-add-result : tie.Need-overflow-add-result
+add-result : tie.Need-overflow_add-result
 add-result c =
     let k = c.before.before.before in
-    omega (arith, c.find.ensures, place_below k.args.sets.now k.args.count k.args.set, k.requires, k.well-formed.0.1)
+    omega (arith, c.find.ensures, place_below k.args.sets.now k.args.count k.args.set, k.requires, k.well_formed.0.1)
 
-returns-2 : tie.Need-returns-2
+returns-2 : tie.Need-returns
 returns-2 c =
     let k = c.before.before.before in
-    number_next k.args.sets.now k.args.count k.args.set c.before.if1.false c.find.ensures
+    number_next k.args.sets.now k.args.count k.args.set c.before.if-set-eq0.false c.find.ensures
 
-pub number-of-spec : {M : Type 1} → statement M
-number-of-spec = tie.close (tie.spec returns (λ c κs. search rules) add-result returns-2)
+pub number_of_spec : {M : Type 1} → statement M
+number_of_spec = tie.close (tie.spec returns (λ c κs. search rules) add-result returns-2)

@@ -5,14 +5,14 @@ use Rattle.table_builder.proofs.Built.{cell_none}
 use Rattle.table_builder.proofs.cell.Statement.{statement}
 use Rattle.table_builder.proofs.cell.Tie as tie
 
-returns : tie.Need-returns
-returns c = sym (cell_none c.before.args.rows.now c.before.args.stamp c.before.args.s c.if1.true)
+returns : tie.Need-returns-then-rows-s
+returns c = sym (cell_none c.before.args.rows.now c.before.args.stamp c.before.args.s c.if-rows-s.true)
 
-returns-2 : tie.Need-returns-2
-returns-2 c = rw (eq-eqb _ _ c.if2.true)
+returns-2 : tie.Need-returns-then-row-stamp
+returns-2 c = rw (eq-eqb _ _ c.if-row-stamp.true)
 
-returns-3 : tie.Need-returns-3
-returns-3 c = rw (ne_eqb _ _ c.if2.false)
+returns-3 : tie.Need-returns-else-row-stamp
+returns-3 c = rw (ne_eqb _ _ c.if-row-stamp.false)
 
-pub cell-spec : {M : Type 1} → statement M
-cell-spec = tie.close (tie.spec returns (λ c. search rules) (λ c. search rules) returns-2 returns-3)
+pub cell_spec : {M : Type 1} → statement M
+cell_spec = tie.close (tie.spec returns (λ c. search rules) (λ c. search rules) returns-2 returns-3)

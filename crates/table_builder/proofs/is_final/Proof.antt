@@ -5,5 +5,5 @@ use Rattle.table_builder.proofs.is_final.Tie as tie
 returns : tie.Need-returns
 returns c = rw c.cell.ensures
 
-pub is-final-spec : {M : Type 1} → statement M
-is-final-spec = tie.close (tie.spec (λ c κs. search rules) returns)
+pub is_final_spec : {M : Type 1} → statement M
+is_final_spec = tie.close (tie.spec (λ c κs. search rules) returns)

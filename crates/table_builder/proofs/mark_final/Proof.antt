@@ -4,20 +4,20 @@ use Rattle.table_builder.proofs.Built.{cell_small}
 use Rattle.table_builder.proofs.mark_final.Statement.{statement}
 use Rattle.table_builder.proofs.mark_final.Tie as tie
 
-add-rows : tie.Need-overflow-add-rows
+add-rows : tie.Need-overflow_add-rows
 add-rows c =
     let k = c.before.before.before in
-    omega (arith, c.cell.ensures, cell_small k.args.rows.now k.args.stamp k.args.s, k.requires)
+    omega (arith, c.cell-old.ensures, cell_small k.args.rows.now k.args.stamp k.args.s, k.requires)
 
-add-rows-2 : tie.Need-overflow-add-rows-2
+add-rows-2 : tie.Need-overflow_add-rows-2
 add-rows-2 c =
     let k = c.before.before.before in
-    omega (arith, c.cell.ensures, cell_small k.args.rows.now k.args.stamp k.args.s, k.requires)
+    omega (arith, c.cell-old.ensures, cell_small k.args.rows.now k.args.stamp k.args.s, k.requires)
 
 returns : tie.Need-returns
-returns c = rw c.cell.ensures
+returns c = rw c.cell-old.ensures
 
-pub mark-final-spec : {M : Type 1} → statement M
-mark-final-spec =
+pub mark_final_spec : {M : Type 1} → statement M
+mark_final_spec =
     tie.close (tie.spec (λ c κs. search rules) (λ c. search rules) (λ c. search rules) add-rows add-rows-2 (λ c. search rules)
     (λ c. search rules) (λ c. search rules) returns)

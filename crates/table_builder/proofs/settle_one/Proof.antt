@@ -9,9 +9,9 @@ edge-requires : tie.Need-edge-requires
 edge-requires c κs =
     let k' = c.before.before.before.before in
     let k₁ = k'.before.before.before.before.before in
-    let k = cell_small k₁.args.rows.now k₁.args.stamp k'.state.result in
-    let l : k'.state.result < 4096 = omega (arith, k'.state.ensures, k'.before.spot.ensures, k₁.requires.1) in
-    (omega (arith, c.before.next.ensures), omega (arith, c.spot_of_lem.ensures))
+    let k = cell_small k₁.args.rows.now k₁.args.stamp k'.state-to.result in
+    let l : k'.state-to.result < 4096 = omega (arith, k'.state-to.ensures, k'.before.spot.ensures, k₁.requires.1) in
+    (omega (arith, c.before.next.ensures), omega (arith, c.spot_of.ensures))
 
 returns : tie.Need-returns
 returns c =
@@ -19,16 +19,16 @@ returns c =
     let k₁ = k.before.before in
     rw (
       c.edge.ensures,
-      k.before.low.ensures,
-      k.high.ensures,
+      k.before.low-low.ensures,
+      k.high-high.ensures,
       c.before.before.next.ensures,
-      c.before.spot_of_lem.ensures,
-      k₁.state.ensures,
+      c.before.spot_of.ensures,
+      k₁.state-to.ensures,
       k₁.before.spot.ensures,
     )
 
-pub settle-one-spec : {M : Type 1} → statement M
-settle-one-spec =
+pub settle_one_spec : {M : Type 1} → statement M
+settle_one_spec =
     tie.close (tie.spec (λ c. search rules) (λ c. search rules) (λ c κs. search rules) (λ c κs. search rules) (λ c κs. search rules)
     (λ c. search rules) (λ c κs. search rules) (λ c. search rules) (λ c κs. search rules) (λ c κs. search rules) edge-requires
     (λ c. search rules) (λ c. search rules) (λ c. search rules) returns)

@@ -12,48 +12,48 @@ use Rattle.token_list.proofs.Passes.{Passing, passing_start, passing_refused, pa
 use Rattle.token_list.proofs.check_tokens.Statement.{statement}
 use Rattle.token_list.proofs.check_tokens.Tie as tie
 
-abbrev invariant-loop : tie.invariant-loop
+abbrev invariant-loop : tie.invariant-loop-k
 invariant-loop table records pool count k₀ k = (rs : List Rule) → Holds table rs → Passing (fault_of rs pool) records k
 
-abbrev decreases-loop : tie.decreases-loop
+abbrev decreases-loop : tie.decreases-loop-k
 decreases-loop table records pool count k₀ k = record_count records - k
 
-loop-holds : tie.Need-loop-init invariant-loop decreases-loop
+loop-holds : tie.Need-loop-k-init invariant-loop decreases-loop
 loop-holds c = λ rs h. passing_start _ _
 
-read-record-requires : tie.Need-read-record-requires invariant-loop decreases-loop
-read-record-requires c κs = omega (arith, c.loop-test.true)
+read-record-requires : tie.Need-read_record-token-requires invariant-loop decreases-loop
+read-record-requires c κs = omega (arith, c.loop-k-test.true)
 
-token-fault-requires : tie.Need-token-fault-requires invariant-loop decreases-loop
+token-fault-requires : tie.Need-token_fault-requires invariant-loop decreases-loop
 token-fault-requires c κs = c.before.before.before.before.before.before.requires
 
-returns : tie.Need-returns invariant-loop decreases-loop
+returns : tie.Need-returns-in-By invariant-loop decreases-loop
 returns c = λ rs h.
-    passing_refused (c.before.before.before.before.before.before.before.loop.invariant rs h)
-    c.before.before.before.before.before.before.loop-test.true
-    c.before.before.before.before.before.read-record.ensures
-    (sym c.before.before.number.given.1 ∙ c.before.before.before.before.token-fault.ensures rs h) c.refused.ensures
+    passing_refused (c.before.before.before.before.before.before.before.loop-k.invariant rs h)
+    c.before.before.before.before.before.before.loop-k-test.true
+    c.before.before.before.before.before.read_record-token.ensures
+    (sym c.before.before.in-By.is ∙ c.before.before.before.before.token_fault.ensures rs h) c.refused.ensures
 
-add-k : tie.Need-overflow-add-k invariant-loop decreases-loop
+add-k : tie.Need-overflow_add-k invariant-loop decreases-loop
 add-k c = omega (
   arith,
-  c.before.before.before.before.loop-test.true,
-  c.before.before.before.before.before.before.before.before.before.well-formed,
+  c.before.before.before.before.loop-k-test.true,
+  c.before.before.before.before.before.before.before.before.before.well_formed,
 )
 
-loop-less : tie.Need-loop-smaller invariant-loop decreases-loop
-loop-less c = omega (arith, c.before.before.before.before.loop-test.true)
+loop-less : tie.Need-loop-k-smaller invariant-loop decreases-loop
+loop-less c = omega (arith, c.before.before.before.before.loop-k-test.true)
 
-loop-again : tie.Need-loop-preserved invariant-loop decreases-loop
+loop-again : tie.Need-loop-k-preserved invariant-loop decreases-loop
 loop-again c = λ rs h.
-    passing_next (c.before.before.before.before.before.loop.invariant rs h) c.before.before.before.before.loop-test.true
-    c.before.before.before.read-record.ensures
-    (sym c.enum_told.given.1 ∙ c.before.before.token-fault.ensures rs h)
+    passing_next (c.before.before.before.before.before.loop-k.invariant rs h) c.before.before.before.before.loop-k-test.true
+    c.before.before.before.read_record-token.ensures
+    (sym c.in-Nothing.is ∙ c.before.before.token_fault.ensures rs h)
 
-returns-2 : tie.Need-returns-2 invariant-loop decreases-loop
-returns-2 c = λ rs h. passing_end (c.before.loop.invariant rs h) c.loop-test.false
+returns-2 : tie.Need-returns invariant-loop decreases-loop
+returns-2 c = λ rs h. passing_end (c.before.loop-k.invariant rs h) c.loop-k-test.false
 
-pub check-tokens-spec : {M : Type 1} → statement M
-check-tokens-spec =
+pub check_tokens_spec : {M : Type 1} → statement M
+check_tokens_spec =
     tie.close (tie.spec invariant-loop decreases-loop loop-holds read-record-requires token-fault-requires (λ c. search rules) (λ c κs. search rules)
     returns (λ c. search rules) add-k loop-less loop-again returns-2)

@@ -7,61 +7,61 @@ use Rattle.token_list.proofs.Passes.{Joining, joining_start, joining_pool, joini
 use Rattle.token_list.proofs.join_tokens.Statement.{statement}
 use Rattle.token_list.proofs.join_tokens.Tie as tie
 
-abbrev invariant-loop : tie.invariant-loop
+abbrev invariant-loop : tie.invariant-loop-k
 invariant-loop records pool out₀ count at₀ k₀ out at k = Joining records pool out₀ out at k
 
-abbrev decreases-loop : tie.decreases-loop
+abbrev decreases-loop : tie.decreases-loop-k
 decreases-loop records pool out₀ count at₀ k₀ out at k = record_count records - k
 
-loop-holds : tie.Need-loop-init invariant-loop decreases-loop
+loop-holds : tie.Need-loop-k-init invariant-loop decreases-loop
 loop-holds c = joining_start _ _ _ c.before.before.before.requires
 
-read-record-requires : tie.Need-read-record-requires invariant-loop decreases-loop
-read-record-requires c κs = omega (arith, c.loop-test.true)
+read-record-requires : tie.Need-read_record-token-requires invariant-loop decreases-loop
+read-record-requires c κs = omega (arith, c.loop-k-test.true)
 
 copy-requires : tie.Need-copy-requires invariant-loop decreases-loop
 copy-requires c κs =
     let at-read-record = c.before.before.before in
     let test = at-read-record.before in
     let head = test.before in (
-      joining_pool head.loop.invariant test.loop-test.true at-read-record.read-record.ensures,
-      joining_room head.loop.invariant
-          test.loop-test.true at-read-record.read-record.ensures,
+      joining_pool head.loop-k.invariant test.loop-k-test.true at-read-record.read_record-token.ensures,
+      joining_room head.loop-k.invariant
+          test.loop-k-test.true at-read-record.read_record-token.ensures,
     )
 
-add_at : tie.Need-overflow-add-at invariant-loop decreases-loop
+add_at : tie.Need-overflow_add-at invariant-loop decreases-loop
 add_at c =
     let head = c.before.before.before.before.before.before.before.before in
     omega (
       arith,
-      joining_room head.loop.invariant c.before.before.before.before.before.before.before.loop-test.true
-          c.before.before.before.before.before.before.read-record.ensures,
-      head.loop.invariant.filling.same,
-      c.before.before.before.before.before.before.before.before.before.before.before.before.well-formed,
+      joining_room head.loop-k.invariant c.before.before.before.before.before.before.before.loop-k-test.true
+          c.before.before.before.before.before.before.read_record-token.ensures,
+      head.loop-k.invariant.filling.same,
+      c.before.before.before.before.before.before.before.before.before.before.before.before.well_formed,
     )
 
-add-k : tie.Need-overflow-add-k invariant-loop decreases-loop
+add-k : tie.Need-overflow_add-k invariant-loop decreases-loop
 add-k c = omega (
   arith,
-  c.before.before.before.before.before.before.before.loop-test.true,
-  c.before.before.before.before.before.before.before.before.before.before.before.before.well-formed,
+  c.before.before.before.before.before.before.before.loop-k-test.true,
+  c.before.before.before.before.before.before.before.before.before.before.before.before.well_formed,
 )
 
-loop-less : tie.Need-loop-smaller invariant-loop decreases-loop
-loop-less c = omega (arith, c.before.before.before.before.before.before.before.loop-test.true)
+loop-less : tie.Need-loop-k-smaller invariant-loop decreases-loop
+loop-less c = omega (arith, c.before.before.before.before.before.before.before.loop-k-test.true)
 
-loop-again : tie.Need-loop-preserved invariant-loop decreases-loop
-loop-again c = joining_next c.before.before.before.before.before.before.before.before.loop.invariant
-    c.before.before.before.before.before.before.before.loop-test.true
-    c.before.before.before.before.before.before.read-record.ensures c.before.before.copy.ensures
+loop-again : tie.Need-loop-k-preserved invariant-loop decreases-loop
+loop-again c = joining_next c.before.before.before.before.before.before.before.before.loop-k.invariant
+    c.before.before.before.before.before.before.before.loop-k-test.true
+    c.before.before.before.before.before.before.read_record-token.ensures c.before.before.copy.ensures
 
-same_length : tie.Need-same-length invariant-loop decreases-loop
-same_length c = c.before.loop.invariant.filling.same
+same_length : tie.Need-shape_of-out invariant-loop decreases-loop
+same_length c = c.before.loop-k.invariant.filling.same
 
 returns : tie.Need-returns invariant-loop decreases-loop
-returns c = joining_end c.before.loop.invariant c.loop-test.false
+returns c = joining_end c.before.loop-k.invariant c.loop-k-test.false
 
-pub join-tokens-spec : {M : Type 1} → statement M
-join-tokens-spec =
+pub join_tokens_spec : {M : Type 1} → statement M
+join_tokens_spec =
     tie.close (tie.spec invariant-loop decreases-loop loop-holds read-record-requires (λ c. search rules) (λ c. search rules) copy-requires add_at add-k
     loop-less loop-again same_length returns)

@@ -14,24 +14,24 @@ sweep-requires c κs =
       number = _;
       fitted = a.2;
       seen = _;
-      reaches = c.before.before.before.before.before.before.before.before.before.before.before.reach.ensures a.0
+      reaches = c.before.before.before.before.before.before.before.before.before.before.before.reach-states.ensures a.0
           a.3.unseen a.2.rule a.2.table;
       storage = a.3.storage;
       stamp_below = omega (arith, a.2.table.number);
       size = search rules;
-      clear = c.before.before.before.before.before.before.empty.ensures;
+      clear = c.before.before.before.before.before.before.empty-set.ensures;
     }
 
 returns : tie.Need-returns
 returns c =
     let a = c.before.before.before.before.before.before.before.before.before.before.before.before.before.before.before.before.before.before.before.before.before.before.before.before.before.before.before.before.before.before.requires in
     let d = c.before.before.before.before.before.before.before.before.sweep in
-    let k = c.before.before.before.before.before.before.before.before.before.before.before.before.before.before.before.before.before.before.before.before.reach in (
+    let k = c.before.before.before.before.before.before.before.before.before.before.before.before.before.before.before.before.before.before.before.before.reach-states in (
       λ bound edges o. reaches-room _ (k.ensures bound o.unseen a.2.rule a.2.table) (d.ensures.0 bound edges o.storage),
       λ m t. d.ensures.1 a.0 _ m t _ (k.ensures a.0 a.3.unseen m t),
     )
 
-pub used-by-spec : {M : Type 1} → statement M
-used-by-spec =
+pub used_by_spec : {M : Type 1} → statement M
+used_by_spec =
     tie.close (tie.spec (λ c. search rules) (λ c. search rules) (λ c κs. search rules) (λ c κs. search rules) sweep-requires
     (λ c. search rules) (λ c. search rules) (λ c. search rules) (λ c. search rules) (λ c. search rules) (λ c. search rules) returns)

@@ -4,7 +4,7 @@ use Rattle.walker.proofs.longest_prefix.Statement.{statement}
 use Rattle.walker.proofs.longest_prefix.Tie as tie
 
 returns : tie.Need-returns
-returns c = c.walk.ensures.0
+returns c = c.walk-w.ensures.0
 
-pub longest-prefix-spec : {M : Type 1} → statement M
-longest-prefix-spec = tie.close (tie.spec (λ c κs. search rules) returns)
+pub longest_prefix_spec : {M : Type 1} → statement M
+longest_prefix_spec = tie.close (tie.spec (λ c κs. search rules) returns)

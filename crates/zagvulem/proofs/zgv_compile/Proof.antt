@@ -5,8 +5,8 @@ use Rattle.answer_word.specs.Words.{print_word}
 use Rattle.zagvulem.proofs.zgv_compile.Statement.{statement}
 use Rattle.zagvulem.proofs.zgv_compile.Tie as tie
 
-pub zgv-compile-spec : {M : Type 1} → statement M
-zgv-compile-spec = tie.close (tie.spec (λ c κs. search rules) (λ c κs. search rules) (λ c. search rules)
+pub zgv_compile_spec : {M : Type 1} → statement M
+zgv_compile_spec = tie.close (tie.spec (λ c κs. search rules) (λ c κs. search rules) (λ c. search rules)
     (λ c. (
       c.printed.ensures ∙ ap print_word c.before.before.before.compile.ensures.answer,
       c.before.before.before.compile.ensures.out,

@@ -9,9 +9,9 @@ use Rattle.zagvulem.proofs.zgv_lex_within.Tie as tie
 returns : tie.Need-returns
 returns c =
     let cut = c.before.before.before.before.before.before.before.before in
-    let a = cut.lex-within.ensures in
+    let a = cut.lex_within-answer.ensures in
     let lent = cut.before.before.before.before.before.before.before.args in
-    let put = c.before.put-numbers.ensures in (
+    let put = c.before.put_numbers.ensures in (
       c.turned.ensures ∙ ap turn_word a.0,
       (
         a.1.0,
@@ -25,7 +25,7 @@ returns c =
       ),
     )
 
-pub zgv-lex-within-spec : {M : Type 1} → statement M
-zgv-lex-within-spec =
+pub zgv_lex_within_spec : {M : Type 1} → statement M
+zgv_lex_within_spec =
     tie.close (tie.spec (λ c κs. search rules) (λ c κs. search rules) (λ c κs. search rules) (λ c. search rules) (λ c. search rules)
     returns)

@@ -5,8 +5,8 @@ use Rattle.answer_word.specs.Words.{rule_word}
 use Rattle.zagvulem.proofs.zgv_rule.Statement.{statement}
 use Rattle.zagvulem.proofs.zgv_rule.Tie as tie
 
-pub zgv-rule-spec : {M : Type 1} → statement M
-zgv-rule-spec =
+pub zgv_rule_spec : {M : Type 1} → statement M
+zgv_rule_spec =
     tie.close (tie.spec (λ c κs. search rules) (λ c. search rules) (λ c κs. search rules) (λ c. search rules) (λ c κs. search rules)
-    (λ c. let a = c.before.before in c.accepted.ensures ∙ ap rule_word (sym a.tag.given.1 ∙ a.before.before.rule.ensures))
-    (λ c. let a = c.before.before in c.refused.ensures ∙ ap rule_word (sym a.refusal.given.1 ∙ a.before.before.rule.ensures)))
+    (λ c. let a = c.before.before in c.accepted.ensures ∙ ap rule_word (sym a.in-Rule.is ∙ a.before.before.rule.ensures))
+    (λ c. let a = c.before.before in c.refused.ensures ∙ ap rule_word (sym a.in-Refused.is ∙ a.before.before.rule.ensures)))

@@ -7,57 +7,57 @@ use Rattle.book.proofs.Steps.{move_too_many, move_outside, move_below, move_adde
 use Rattle.book.proofs.moving.add_transition.Statement.{statement}
 use Rattle.book.proofs.moving.add_transition.Tie as tie
 
-returns : tie.Need-returns
-returns c = λ d h i. rw c.refused.ensures (move_too_many h i _ _ _ _ _ _ c.before.if1.true)
+returns : tie.Need-returns-then-end-book-ge-TRANSITIONS
+returns c = λ d h i. rw c.refused.ensures (move_too_many h i _ _ _ _ _ _ c.before.if-end-book-ge-TRANSITIONS.true)
 
-returns-2 : tie.Need-returns-2
+returns-2 : tie.Need-returns-then-is_out_of_range
 returns-2 c = λ d h i.
     let k = c.before.before in
-    rw c.refused2.ensures (move_outside h i _ _ _ _ _ _ k.before.if1.false k.is-out-of-range.ensures c.before.if2.true)
+    rw c.refused-then-is_out_of_range.ensures (move_outside h i _ _ _ _ _ _ k.before.if-end-book-ge-TRANSITIONS.false k.is_out_of_range.ensures c.before.if-is_out_of_range.true)
 
-abbrev start : tie.Else2 → tie.Start
+abbrev start : tie.Else-is_out_of_range → tie.Start
 start c = c.before.before.before.before.before.before
 
-from_below : (c : tie.Else2) → (start c).args.step.from < state_count
+from_below : (c : tie.Else-is_out_of_range) → (start c).args.step.from < state_count
 from_below c =
-    let t = (start c).args.step in (move_below t.from t.low t.high t.to c.before.is-out-of-range.ensures c.if2.false).0
+    let t = (start c).args.step in (move_below t.from t.low t.high t.to c.before.is_out_of_range.ensures c.if-is_out_of_range.false).0
 
-returns-3 : tie.Need-returns-3
-returns-3 c = λ d h i. (refl, refl, omega (arith, from_below c.before.before, c.if3.true))
+returns-3 : tie.Need-returns-then-rows-from
+returns-3 c = λ d h i. (refl, refl, omega (arith, from_below c.before.before, c.if-rows-from.true))
 
-abbrev there : tie.After-head → tie.Else2
+abbrev there : tie.After-head-head → tie.Else-is_out_of_range
 there c = c.before.before.before.before.before
 
-overlaps-too-requires : tie.Need-overlaps-too-requires
+overlaps-too-requires : tie.Need-overlaps_too-requires
 overlaps-too-requires c κs =
     let k = c.before in
     let k₁ = start (there k) in
-    rw (k.head.ensures, k.before.before.stamp.ensures) (k₁.pre.0.chains k₁.args.step.from (from_below (there k)))
+    rw (k.head-head.ensures, k.before.before.stamp-stamp.ensures) (k₁.requires.0.chains k₁.args.step.from (from_below (there k)))
 
-put-edge-requires : tie.Need-put-edge-requires
+put-edge-requires : tie.Need-put_edge-requires
 put-edge-requires c κs =
     let k = c.before.before.before in
     let k₁ = start (there k) in (
-      k₁.pre.1.0,
-      rw (k.head.ensures, k.before.before.stamp.ensures)
-          (omega (arith, k₁.pre.0.tops k₁.args.step.from (from_below (there k)), k₁.pre.0.short)),
+      k₁.requires.1.0,
+      rw (k.head-head.ensures, k.before.before.stamp-stamp.ensures)
+          (omega (arith, k₁.requires.0.tops k₁.args.step.from (from_below (there k)), k₁.requires.0.short)),
     )
 
-returns-4 : tie.Need-returns-4
+returns-4 : tie.Need-returns
 returns-4 c = λ d h i.
     let k = c.before.before.before.before.before.before in
     let k₁ = k.before.before in
     let k₂ = k₁.before.before in
     let k₃ = there k₂ in
     let k₄ = start k₃ in
-    let e = k₂.before.before.stamp.ensures in
-    move_added h i _ _ _ _ _ _ k₃.before.before.if1.left k₃.before.is-out-of-range.ensures k₃.if2.left
-    (omega (arith, k₂.before.before.before.before.struct-known2.given)) (omega (arith, k₂.before.before.before.if3.false))
-    k₄.pre.1.0 k₄.pre.1.1 (omega arith) (rw (k₂.head.ensures, e) at k₁.overlaps-too.ensures)
-    (rw (k₂.head.ensures, e) at k.put-edge.ensures) (rw e at c.before.before.link-state.ensures)
+    let e = k₂.before.before.stamp-stamp.ensures in
+    move_added h i _ _ _ _ _ _ k₃.before.before.if-end-book-ge-TRANSITIONS.left k₃.before.is_out_of_range.ensures k₃.if-is_out_of_range.left
+    (omega (arith, k₂.before.before.before.before.struct_known-2-1.given)) (omega (arith, k₂.before.before.before.if-rows-from.false))
+    k₄.requires.1.0 k₄.requires.1.1 (omega arith) (rw (k₂.head-head.ensures, e) at k₁.overlaps_too.ensures)
+    (rw (k₂.head-head.ensures, e) at k.put_edge.ensures) (rw e at c.before.before.link_state.ensures)
 
-pub add-transition-spec : {M : Type 1} → statement M
-add-transition-spec =
+pub add_transition_spec : {M : Type 1} → statement M
+add_transition_spec =
     tie.close (tie.spec (λ c. search rules) (λ c κs. search rules) returns (λ c κs. search rules) (λ c κs. search rules) returns-2
     (λ c. search rules) returns-3 (λ c κs. search rules) (λ c κs. search rules) overlaps-too-requires put-edge-requires
     (λ c κs. search rules) (λ c. search rules) (λ c. search rules) (λ c. search rules) returns-4)

@@ -3,16 +3,16 @@ use borrow.Author.Tests.{lt-ltb, le-ltb}
 use Rattle.book.proofs.moving.is_out_of_range.Statement.{statement}
 use Rattle.book.proofs.moving.is_out_of_range.Tie as tie
 
-returns : tie.Need-returns
-returns c = rw (lt-ltb _ _ c.if1.true)
+returns : tie.Need-returns-then-step
+returns c = rw (lt-ltb _ _ c.if-step.true)
 
-returns-2 : tie.Need-returns-2
-returns-2 c = let k = c.before in rw (le-ltb _ _ k.before.if1.false, ← k.is-no-state.ensures, c.if2.true)
+returns-2 : tie.Need-returns-then-is_no_state
+returns-2 c = let k = c.before in rw (le-ltb _ _ k.before.if-step.false, ← k.is_no_state.ensures, c.if-is_no_state.true)
 
-returns-3 : tie.Need-returns-3
+returns-3 : tie.Need-returns
 returns-3 c =
     let k = c.before.before in
-    rw (le-ltb _ _ k.before.if1.false, ← k.is-no-state.ensures, c.before.if2.false, ← c.is-no-state2.ensures)
+    rw (le-ltb _ _ k.before.if-step.false, ← k.is_no_state.ensures, c.before.if-is_no_state.false, ← c.is_no_state-2.ensures)
 
-pub is-out-of-range-spec : {M : Type 1} → statement M
-is-out-of-range-spec = tie.close (tie.spec returns (λ c κs. search rules) returns-2 (λ c κs. search rules) returns-3)
+pub is_out_of_range_spec : {M : Type 1} → statement M
+is_out_of_range_spec = tie.close (tie.spec returns (λ c κs. search rules) returns-2 (λ c κs. search rules) returns-3)

@@ -5,21 +5,21 @@ use Rattle.lexer.proofs.Outcomes.{answered_book, answered_refused}
 use Rattle.book_lexer.proofs.sizes.lex_with.Statement.{statement}
 use Rattle.book_lexer.proofs.sizes.lex_with.Tie as tie
 
-lex-rules-requires : tie.Need-lex-rules-requires
+lex-rules-requires : tie.Need-lex_rules-requires
 lex-rules-requires c κs =
     let told = c.before.before.before in
-    loaded_held told.before.before.before.before.load.ensures told.enum_told.given.1
+    loaded_held told.before.before.before.before.load.ensures told.enum_told-1.given.1
 
-returns : tie.Need-returns
+returns : tie.Need-returns-in-Accepted
 returns c =
     let lexed = c.before.before.before.before in
     let told = lexed.before.before.before.before in
-    answered_book told.before.before.before.before.load.ensures told.enum_told.given.1 _ _ _ _ _ _ lexed.lex-rules.ensures
+    answered_book told.before.before.before.before.load.ensures told.enum_told-1.given.1 _ _ _ _ _ _ lexed.lex_rules.ensures
 
-returns-2 : tie.Need-returns-2
-returns-2 c = answered_refused c.before.before.before.before.before.load.ensures c.before.refusal.given.1 _ _ _
+returns-2 : tie.Need-returns-in-Refused
+returns-2 c = answered_refused c.before.before.before.before.before.load.ensures c.before.in-Refused.is _ _ _
 
-pub lex-with-spec : {M : Type 1} → statement M
-lex-with-spec =
+pub lex_with_spec : {M : Type 1} → statement M
+lex_with_spec =
     tie.close (tie.spec (λ c κs. search rules) (λ c. search rules) lex-rules-requires (λ c. search rules) (λ c. search rules)
     (λ c. search rules) (λ c. search rules) returns (λ c. search rules) returns-2)

@@ -6,5 +6,5 @@ use Rattle.book_lexer.proofs.sizes.refuse_long.Tie as tie
 returns : tie.Need-returns
 returns c = rw c.refused.ensures (answered_too_long _ _ _ _ c.before.before.before.before.before.requires)
 
-pub refuse-long-spec : {M : Type 1} → statement M
-refuse-long-spec = tie.close (tie.spec (λ c κs. search rules) returns)
+pub refuse_long_spec : {M : Type 1} → statement M
+refuse_long_spec = tie.close (tie.spec (λ c κs. search rules) returns)

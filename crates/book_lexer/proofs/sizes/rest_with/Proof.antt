@@ -5,15 +5,15 @@ use Rattle.lexer.proofs.Outcomes.{rest_book, rest_refused}
 use Rattle.book_lexer.proofs.sizes.rest_with.Statement.{statement}
 use Rattle.book_lexer.proofs.sizes.rest_with.Tie as tie
 
-rest-rules-requires : tie.Need-rest-rules-requires
-rest-rules-requires c κs = loaded_held c.before.before.before.before.before.load.ensures c.before.enum_told.given.1
+rest-rules-requires : tie.Need-rest_rules-requires
+rest-rules-requires c κs = loaded_held c.before.before.before.before.before.load.ensures c.before.enum_told-1.given.1
 
-returns : tie.Need-returns
+returns : tie.Need-returns-in-Accepted
 returns c =
     let k = c.before.before.before.before.before.before in
-    rest_book k.load.ensures c.before.before.enum_told.given.1 _ _ c.rest-rules.ensures
+    rest_book k.load.ensures c.before.before.enum_told-1.given.1 _ _ c.rest_rules.ensures
 
-pub rest-with-spec : {M : Type 1} → statement M
-rest-with-spec =
+pub rest_with_spec : {M : Type 1} → statement M
+rest_with_spec =
     tie.close (tie.spec (λ c κs. search rules) (λ c. search rules) rest-rules-requires (λ c. search rules) (λ c. search rules) returns
-    (λ c. search rules) (λ c. rest_refused c.before.before.before.before.load.ensures c.enum-told2.given.1 _))
+    (λ c. search rules) (λ c. rest_refused c.before.before.before.before.load.ensures c.in-Refused.is _))

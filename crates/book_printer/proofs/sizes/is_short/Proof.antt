@@ -5,20 +5,20 @@ use Rattle.automaton.proofs.Tests.{clash}
 use Rattle.book_printer.proofs.sizes.is_short.Statement.{statement}
 use Rattle.book_printer.proofs.sizes.is_short.Tie as tie
 
-returns : tie.Need-returns
+returns : tie.Need-returns-then-records-gt-SMALL
 returns c = λ e. clash e refl
 
-returns-2 : tie.Need-returns-2
+returns-2 : tie.Need-returns-in-Bytes
 returns-2 c = λ e.
     record {
-      bytes = c.before.total.given.0.0;
+      bytes = c.before.in-Bytes.total;
       spanned = c.before.before.before.measure.ensures.fits _
-          c.before.total.given.1;
+          c.before.in-Bytes.is;
       few = leb-true _ _ e;
     }
 
-returns-3 : tie.Need-returns-3
+returns-3 : tie.Need-returns-in-Beyond
 returns-3 c = λ e. clash e refl
 
-pub is-short-spec : {M : Type 1} → statement M
-is-short-spec = tie.close (tie.spec returns (λ c κs. search rules) (λ c. search rules) (λ c. search rules) returns-2 returns-3)
+pub is_short_spec : {M : Type 1} → statement M
+is_short_spec = tie.close (tie.spec returns (λ c κs. search rules) (λ c. search rules) (λ c. search rules) returns-2 returns-3)

@@ -4,11 +4,11 @@ use Rattle.reader.proofs.Loading.{zeros_lent}
 use Rattle.book_separated.proofs.sizes.print_32k.Statement.{statement}
 use Rattle.book_separated.proofs.sizes.print_32k.Tie as tie
 
-print-with-requires : tie.Need-print-with-requires
+print-with-requires : tie.Need-print_with-requires
 print-with-requires c κs =
     let k = c.before.before.before.before.before.before.before.before in
     (zeros_lent _ 8258 (omega arith) (λ h. omega (arith, k.requires.0)), k.requires.1)
 
-pub print-32k-spec : {M : Type 1} → statement M
-print-32k-spec =
+pub print_32k_spec : {M : Type 1} → statement M
+print_32k_spec =
     tie.close (tie.spec (λ c. search rules) print-with-requires (λ c. search rules) (λ c. search rules) (λ c. search rules))

@@ -5,17 +5,17 @@ use Rattle.separated.proofs.Answering.{answered_book, answered_refused}
 use Rattle.book_separated.proofs.sizes.print_with.Statement.{statement}
 use Rattle.book_separated.proofs.sizes.print_with.Tie as tie
 
-returns : tie.Need-returns
+returns : tie.Need-returns-in-Accepted
 returns c =
     let k = c.before.before.before.before.before.before.before.before in
-    answered_book k.before.before.before.before.load.ensures k.enum_told.given.1 _ _ _ _ _ _ _
-    c.before.before.before.before.print-rules.ensures
+    answered_book k.before.before.before.before.load.ensures k.enum_told-1.given.1 _ _ _ _ _ _ _
+    c.before.before.before.before.print_rules.ensures
 
-returns-2 : tie.Need-returns-2
-returns-2 c = answered_refused c.before.before.before.before.before.load.ensures c.before.refusal.given.1 _ _ _ _ _
+returns-2 : tie.Need-returns-in-Refused
+returns-2 c = answered_refused c.before.before.before.before.before.load.ensures c.before.in-Refused.is _ _ _ _ _
 
-pub print-with-spec : {M : Type 1} → statement M
-print-with-spec = tie.close (tie.spec (λ c κs. search rules) (λ c. search rules)
+pub print_with_spec : {M : Type 1} → statement M
+print_with_spec = tie.close (tie.spec (λ c κs. search rules) (λ c. search rules)
     (λ c κs. let k = c.before.before.before in
-    (loaded_held k.before.before.before.before.load.ensures k.enum_told.given.1, search rules))
+    (loaded_held k.before.before.before.before.load.ensures k.enum_told-1.given.1, search rules))
     (λ c. search rules) (λ c. search rules) (λ c. search rules) (λ c. search rules) returns (λ c. search rules) returns-2)

@@ -5,22 +5,22 @@ use Rattle.turns.proofs.Outcomes.{answered_book, answered_refused}
 use Rattle.book_turns.proofs.sizes.turn_with.Statement.{statement}
 use Rattle.book_turns.proofs.sizes.turn_with.Tie as tie
 
-turn-rules-requires : tie.Need-turn-rules-requires
+turn-rules-requires : tie.Need-turn_rules-requires
 turn-rules-requires c κs =
     let told = c.before.before.before in
-    loaded_held told.before.before.before.before.load.ensures told.enum_told.given.1
+    loaded_held told.before.before.before.before.load.ensures told.enum_told-1.given.1
 
-returns : tie.Need-returns
+returns : tie.Need-returns-in-Accepted
 returns c =
     let taken = c.before.before.before.before in
     let told = taken.before.before.before.before in
-    answered_book told.before.before.before.before.load.ensures told.enum_told.given.1 _ _ _ _ _ _ _ _
-    taken.turn-rules.ensures
+    answered_book told.before.before.before.before.load.ensures told.enum_told-1.given.1 _ _ _ _ _ _ _ _
+    taken.turn_rules.ensures
 
-returns-2 : tie.Need-returns-2
-returns-2 c = answered_refused c.before.before.before.before.before.load.ensures c.before.refusal.given.1 _ _ _ _ _
+returns-2 : tie.Need-returns-in-Refused
+returns-2 c = answered_refused c.before.before.before.before.before.load.ensures c.before.in-Refused.is _ _ _ _ _
 
-pub turn-with-spec : {M : Type 1} → statement M
-turn-with-spec =
+pub turn_with_spec : {M : Type 1} → statement M
+turn_with_spec =
     tie.close (tie.spec (λ c κs. search rules) (λ c. search rules) turn-rules-requires (λ c. search rules) (λ c. search rules)
     (λ c. search rules) (λ c. search rules) returns (λ c. search rules) returns-2)

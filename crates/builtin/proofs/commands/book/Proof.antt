@@ -8,5 +8,5 @@ returns : tie.Need-returns
 unfolding builtin_bytes
 returns c = refl
 
-pub book-spec : {M : Type 1} → statement M
-book-spec = tie.close (tie.spec returns)
+pub book_spec : {M : Type 1} → statement M
+book_spec = tie.close (tie.spec returns)

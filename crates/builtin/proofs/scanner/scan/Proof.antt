@@ -6,48 +6,48 @@ use Rattle.builtin.proofs.Scanned.{Walked, walked_start, walked_accept, walked_r
 use Rattle.builtin.proofs.scanner.scan.Statement.{statement}
 use Rattle.builtin.proofs.scanner.scan.Tie as tie
 
-abbrev invariant-loop : tie.invariant-loop
+abbrev invariant-loop : tie.invariant-loop-i
 invariant-loop classes next text s₀ last₀ len₀ i₀ s last len i = Walked text s last len i
 
-abbrev decreases-loop : tie.decreases-loop
+abbrev decreases-loop : tie.decreases-loop-i
 decreases-loop classes next text s₀ last₀ len₀ i₀ s last len i = length text - i
 
-byte : (c : tie.After-shared-slice-known2 invariant-loop decreases-loop) (k : ℕ) → get_or c.before.before.before.before.args.text.now k 0 < 256
-byte c k = omega (arith, c.shared-slice-known2.given k)
+byte : (c : tie.After-shared_slice_known-in-loop-i-1 invariant-loop decreases-loop) (k : ℕ) → get_or c.before.before.before.before.args.text.now k 0 < 256
+byte c k = omega (arith, c.shared_slice_known-in-loop-i-1.given k)
 
-accepted : (c : tie.Then2 invariant-loop decreases-loop)
-    → Walked c.before.before.before.before.before.before.before.args.text.now c.before.before.step.result
-    c.before.before.step.result (c.before.before.before.before.before.loop.i + 1)
-    (c.before.before.before.before.before.loop.i + 1)
-accepted c = walked_accept c.before.before.before.before.before.loop.invariant c.before.before.before.before.loop-test.true
-    (byte c.before.before.before c.before.before.before.before.before.loop.i) c.before.before.step.ensures
-    c.if2.true
+accepted : (c : tie.Then-s-ge-ACCEPTING invariant-loop decreases-loop)
+    → Walked c.before.before.before.before.before.before.before.args.text.now c.before.before.step-s.result
+    c.before.before.step-s.result (c.before.before.before.before.before.loop-i.i + 1)
+    (c.before.before.before.before.before.loop-i.i + 1)
+accepted c = walked_accept c.before.before.before.before.before.loop-i.invariant c.before.before.before.before.loop-i-test.true
+    (byte c.before.before.before c.before.before.before.before.before.loop-i.i) c.before.before.step-s.ensures
+    c.if-s-ge-ACCEPTING.true
 
 falls : (n i j : ℕ) → i < n → i + 1 ≤ j → n - j < n - i
 falls n i j l h = omega arith
 
-loop-holds : tie.Need-loop-init invariant-loop decreases-loop
+loop-holds : tie.Need-loop-i-init invariant-loop decreases-loop
 loop-holds c = walked_start _
 
-shared-slice-read-step : tie.Need-shared-slice-read-step invariant-loop decreases-loop
-shared-slice-read-step c = c.before.loop-test.true
+shared-slice-read-step : tie.Need-bounds-text-i invariant-loop decreases-loop
+shared-slice-read-step c = c.before.loop-i-test.true
 
-step-requires : tie.Need-step-requires invariant-loop decreases-loop
+step-requires : tie.Need-step-s-requires invariant-loop decreases-loop
 step-requires c κs = (
   c.before.before.before.before.requires.classes_are,
   c.before.before.before.before.requires.next_are,
-  c.before.before.loop.invariant.inside,
+  c.before.before.loop-i.invariant.inside,
 )
 
-returns : tie.Need-returns invariant-loop decreases-loop
+returns : tie.Need-returns-then-s-eq-DEAD invariant-loop decreases-loop
 returns c =
-    scanned_dead c.before.before.before.before.loop.invariant c.before.before.before.loop-test.true
-    (byte c.before.before c.before.before.before.before.loop.i) c.before.step.ensures c.if1.true
+    scanned_dead c.before.before.before.before.loop-i.invariant c.before.before.before.loop-i-test.true
+    (byte c.before.before c.before.before.before.before.loop-i.i) c.before.step-s.ensures c.if-s-eq-DEAD.true
 
-add-i : tie.Need-overflow-add-i invariant-loop decreases-loop
-add-i c = omega (arith, c.before.before.before.loop-test.true)
+add-i : tie.Need-overflow_add-i invariant-loop decreases-loop
+add-i c = omega (arith, c.before.before.before.loop-i-test.true)
 
-run-requires : tie.Need-run-requires invariant-loop decreases-loop
+run-requires : tie.Need-run-i-requires invariant-loop decreases-loop
 run-requires c κs = let w = accepted c in (
   c.before.before.before.before.before.before.before.requires.classes_are,
   c.before.before.before.before.before.before.before.requires.next_are,
@@ -55,24 +55,24 @@ run-requires c κs = let w = accepted c in (
   w.within,
 )
 
-loop-less : tie.Need-loop-smaller invariant-loop decreases-loop
-loop-less c = let r = c.run.ensures in falls _ _ _ c.before.before.before.before.before.loop-test.true r.further
+loop-less : tie.Need-loop-i-smaller-then-s-ge-ACCEPTING invariant-loop decreases-loop
+loop-less c = let r = c.run-i.ensures in falls _ _ _ c.before.before.before.before.before.loop-i-test.true r.further
 
-loop-again : tie.Need-loop-preserved invariant-loop decreases-loop
-loop-again c = walked_run (accepted c.before) c.before.if2.true (byte c.before.before.before.before) c.run.ensures
+loop-again : tie.Need-loop-i-preserved-then-s-ge-ACCEPTING invariant-loop decreases-loop
+loop-again c = walked_run (accepted c.before) c.before.if-s-ge-ACCEPTING.true (byte c.before.before.before.before) c.run-i.ensures
 
-loop-less-2 : tie.Need-loop-smaller-2 invariant-loop decreases-loop
-loop-less-2 c = omega (arith, c.before.before.before.before.loop-test.true)
+loop-less-2 : tie.Need-loop-i-smaller invariant-loop decreases-loop
+loop-less-2 c = omega (arith, c.before.before.before.before.loop-i-test.true)
 
-loop-again-2 : tie.Need-loop-preserved-2 invariant-loop decreases-loop
-loop-again-2 c = walked_pass c.before.before.before.before.before.loop.invariant c.before.before.before.before.loop-test.true
-    (byte c.before.before.before c.before.before.before.before.before.loop.i) c.before.before.step.ensures
-    c.if2.false
+loop-again-2 : tie.Need-loop-i-preserved invariant-loop decreases-loop
+loop-again-2 c = walked_pass c.before.before.before.before.before.loop-i.invariant c.before.before.before.before.loop-i-test.true
+    (byte c.before.before.before c.before.before.before.before.before.loop-i.i) c.before.before.step-s.ensures
+    c.if-s-ge-ACCEPTING.false
 
-returns-2 : tie.Need-returns-2 invariant-loop decreases-loop
-returns-2 c = scanned_end c.before.loop.invariant c.loop-test.false
+returns-2 : tie.Need-returns invariant-loop decreases-loop
+returns-2 c = scanned_end c.before.loop-i.invariant c.loop-i-test.false
 
-pub scan-spec : {M : Type 1} → statement M
-scan-spec =
+pub scan_spec : {M : Type 1} → statement M
+scan_spec =
     tie.close (tie.spec invariant-loop decreases-loop loop-holds shared-slice-read-step step-requires returns add-i run-requires loop-less loop-again
     loop-less-2 loop-again-2 returns-2)

@@ -16,5 +16,5 @@ returns c = let a = c.before.before.before.args in
     let l : length t ≤ length a.text.now - a.at = simp length-drop (le_refl _) in
     subst (λ (x : List ℕ). Scanned x c.scan.result.state c.scan.result.len) (take_all _ t l) c.scan.ensures
 
-pub scan-at-spec : {M : Type 1} → statement M
-scan-at-spec = tie.close (tie.spec (λ c. search rules) (λ c. search rules) (λ c. search rules) (λ c κs. search rules) returns)
+pub scan_at_spec : {M : Type 1} → statement M
+scan_at_spec = tie.close (tie.spec (λ c. search rules) (λ c. search rules) (λ c. search rules) (λ c κs. search rules) returns)

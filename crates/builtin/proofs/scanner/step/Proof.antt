@@ -18,16 +18,16 @@ next_is : (c : tie.Start) → get_or c.args.next.now (c.args.s + get_or c.args.c
     ≡ next_state c.args.s c.args.byte
 next_is c = rw (c.requires.0, c.requires.1)
 
-cast-result : tie.Need-overflow-cast-result
+cast-result : tie.Need-overflow_cast-result
 cast-result c = let h = class-small c.before in omega arith
 
-add-result : tie.Need-overflow-add-result
+add-result : tie.Need-overflow_add-result
 add-result c = let h = class-small c.before in omega arith
 
-element-copy-out-result : tie.Need-element-copy-out-result
+element-copy-out-result : tie.Need-bounds-next-s
 element-copy-out-result c = let h = class-small c.before in omega arith
 
-cast-result-2 : tie.Need-overflow-cast-result-2
+cast-result-2 : tie.Need-overflow_cast-result-2
 cast-result-2 c = let h = joined.next_state_lem c.before.before.args.s c.before.before.args.byte c.before.before.requires.2
     (omega arith) in
     rw (next_is c.before.before) (omega arith)

@@ -8,5 +8,5 @@ returns : tie.Need-returns
 unfolding class_table tabulate class_of
 returns c = refl
 
-pub classes-spec : {M : Type 1} → statement M
-classes-spec = tie.close (tie.spec returns)
+pub classes_spec : {M : Type 1} → statement M
+classes_spec = tie.close (tie.spec returns)

@@ -8,5 +8,5 @@ returns : tie.Need-returns
 unfolding mask_table
 returns c = refl
 
-pub masks-spec : {M : Type 1} → statement M
-masks-spec = tie.close (tie.spec returns)
+pub masks_spec : {M : Type 1} → statement M
+masks_spec = tie.close (tie.spec returns)

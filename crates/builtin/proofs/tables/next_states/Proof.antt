@@ -8,5 +8,5 @@ returns : tie.Need-returns
 unfolding next_table
 returns c = refl
 
-pub next-states-spec : {M : Type 1} → statement M
-next-states-spec = tie.close (tie.spec returns)
+pub next_states_spec : {M : Type 1} → statement M
+next_states_spec = tie.close (tie.spec returns)

@@ -8,5 +8,5 @@ returns : tie.Need-returns
 unfolding tag_table
 returns c = refl
 
-pub tags-spec : {M : Type 1} → statement M
-tags-spec = tie.close (tie.spec returns)
+pub tags_spec : {M : Type 1} → statement M
+tags_spec = tie.close (tie.spec returns)

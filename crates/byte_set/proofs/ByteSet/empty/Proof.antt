@@ -6,5 +6,5 @@ use Rattle.byte_set.proofs.ByteSet.empty.Tie as tie
 returns : tie.Need-returns
 returns c = unmarked 256
 
-pub empty-spec : {M : Type 1} → statement M
-empty-spec = tie.close (tie.spec returns)
+pub empty_spec : {M : Type 1} → statement M
+empty_spec = tie.close (tie.spec returns)

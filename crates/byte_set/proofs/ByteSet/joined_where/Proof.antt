@@ -9,11 +9,11 @@ use Rattle.byte_set.proofs.ByteSet.joined_where.Tie as tie
 stays : (also x y : Bool) → also ≡ false → x ≡ x || also && y
 stays also x y e = rw (e, or_none)
 
-returns : tie.Need-returns
-returns c = λ b l. rw c.before.if1.true (c.joined.ensures b l)
+returns : tie.Need-returns-then-also
+returns c = λ b l. rw c.before.if-also.true (c.joined.ensures b l)
 
-returns-2 : tie.Need-returns-2
-returns-2 c = λ b l. stays _ _ _ c.if1.false
+returns-2 : tie.Need-returns
+returns-2 c = λ b l. stays _ _ _ c.if-also.false
 
-pub joined-where-spec : {M : Type 1} → statement M
-joined-where-spec = tie.close (tie.spec (λ c κs. search rules) returns returns-2)
+pub joined_where_spec : {M : Type 1} → statement M
+joined_where_spec = tie.close (tie.spec (λ c κs. search rules) returns returns-2)

@@ -6,11 +6,11 @@ use Rattle.byte_set.proofs.Marking.{lowest_none}
 use Rattle.byte_set.proofs.ByteSet.lowest_common.Statement.{statement}
 use Rattle.byte_set.proofs.ByteSet.lowest_common.Tie as tie
 
-returns : tie.Need-returns
+returns : tie.Need-returns-then-overlaps
 returns c = c.search.ensures
 
-returns-2 : tie.Need-returns-2
-returns-2 c = ap lowest_of (sym (lowest_none _ 256 (sym c.before.overlaps.ensures ∙ c.if1.false)))
+returns-2 : tie.Need-returns
+returns-2 c = ap lowest_of (sym (lowest_none _ 256 (sym c.before.overlaps.ensures ∙ c.if-overlaps.false)))
 
-pub lowest-common-spec : {M : Type 1} → statement M
-lowest-common-spec = tie.close (tie.spec (λ c κs. search rules) (λ c κs. search rules) returns returns-2)
+pub lowest_common_spec : {M : Type 1} → statement M
+lowest_common_spec = tie.close (tie.spec (λ c κs. search rules) (λ c κs. search rules) returns returns-2)

@@ -8,45 +8,45 @@ use Rattle.byte_set.proofs.Marking.{Seeking, seeking_end, seeking_found, seeking
 use Rattle.byte_set.proofs.ByteSet.search.Statement.{statement}
 use Rattle.byte_set.proofs.ByteSet.search.Tie as tie
 
-abbrev invariant-loop : tie.invariant-loop
+abbrev invariant-loop : tie.invariant-loop-b
 invariant-loop self other b₀ b = Seeking (λ (x : ℕ). mark self x && mark other x) 256 b
 
-abbrev decreases-loop : tie.decreases-loop
+abbrev decreases-loop : tie.decreases-loop-b
 decreases-loop self other b₀ b = 256 - b
 
-loop-holds : tie.Need-loop-init invariant-loop decreases-loop
+loop-holds : tie.Need-loop-b-init invariant-loop decreases-loop
 loop-holds c = seeking_start _ 256
 
-add-b : tie.Need-overflow-add-b invariant-loop decreases-loop
+add-b : tie.Need-overflow_add-b invariant-loop decreases-loop
 add-b c = omega arith
 
-element-copy-out-if1 : tie.Need-element-copy-out-if1 invariant-loop decreases-loop
+element-copy-out-if1 : tie.Need-bounds-self-k invariant-loop decreases-loop
 element-copy-out-if1 c = omega arith
 
-element-copy-out-if2 : tie.Need-element-copy-out-if2 invariant-loop decreases-loop
+element-copy-out-if2 : tie.Need-bounds-other-k invariant-loop decreases-loop
 element-copy-out-if2 c = omega arith
 
-returns : tie.Need-returns invariant-loop decreases-loop
-returns c = ap lowest_of (sym (seeking_found c.before.before.before.before.before.loop.invariant (omega arith)
-    (rw (c.before.before.if1.true, c.if2.true))))
+returns : tie.Need-returns-then-other-k invariant-loop decreases-loop
+returns c = ap lowest_of (sym (seeking_found c.before.before.before.before.before.loop-b.invariant (omega arith)
+    (rw (c.before.before.if-self-k.true, c.if-other-k.true))))
 
-loop-less : tie.Need-loop-smaller invariant-loop decreases-loop
+loop-less : tie.Need-loop-b-smaller-else-other-k invariant-loop decreases-loop
 loop-less c = omega arith
 
-loop-again : tie.Need-loop-preserved invariant-loop decreases-loop
-loop-again c = seeking_next c.before.before.before.before.before.loop.invariant (omega arith)
-    (rw (c.before.before.if1.true, c.if2.false))
+loop-again : tie.Need-loop-b-preserved-else-other-k invariant-loop decreases-loop
+loop-again c = seeking_next c.before.before.before.before.before.loop-b.invariant (omega arith)
+    (rw (c.before.before.if-self-k.true, c.if-other-k.false))
 
-loop-less-2 : tie.Need-loop-smaller-2 invariant-loop decreases-loop
+loop-less-2 : tie.Need-loop-b-smaller invariant-loop decreases-loop
 loop-less-2 c = omega arith
 
-loop-again-2 : tie.Need-loop-preserved-2 invariant-loop decreases-loop
-loop-again-2 c = seeking_next c.before.before.before.loop.invariant (omega arith) (rw c.if1.false)
+loop-again-2 : tie.Need-loop-b-preserved invariant-loop decreases-loop
+loop-again-2 c = seeking_next c.before.before.before.loop-b.invariant (omega arith) (rw c.if-self-k.false)
 
-returns-2 : tie.Need-returns-2 invariant-loop decreases-loop
-returns-2 c = ap lowest_of (sym (seeking_end c.before.loop.invariant (omega arith)))
+returns-2 : tie.Need-returns invariant-loop decreases-loop
+returns-2 c = ap lowest_of (sym (seeking_end c.before.loop-b.invariant (omega arith)))
 
-pub search-spec : {M : Type 1} → statement M
-search-spec =
+pub search_spec : {M : Type 1} → statement M
+search_spec =
     tie.close (tie.spec invariant-loop decreases-loop loop-holds add-b element-copy-out-if1 element-copy-out-if2 returns loop-less loop-again loop-less-2
     loop-again-2 returns-2)

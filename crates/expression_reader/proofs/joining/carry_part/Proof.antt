@@ -6,26 +6,26 @@ use borrow.Author.Rules.{rules}
 use Rattle.expression_reader.proofs.joining.carry_part.Statement.{statement}
 use Rattle.expression_reader.proofs.joining.carry_part.Tie as tie
 
-returns : tie.Need-returns
+returns : tie.Need-returns-then-stands
 returns c =
-    let h = sym c.before.before.stands.ensures ∙ c.before.if1.true in
+    let h = sym c.before.before.stands.ensures ∙ c.before.if-stands.true in
     let k = carried_question _ _ h in
     carries_plain (ap read.Right c.make.ensures ∙ sym k.0) k.1
 
-returns-2 : tie.Need-returns-2
+returns-2 : tie.Need-returns-then-loops_back
 returns-2 c =
     let k = c.before.before.before.before.before in
-    let h = sym k.before.before.before.loops-back.ensures ∙ k.before.before.if2.true in
-    carries_loop (ap read.Right c.make2.ensures ∙ sym (carried_loop _ _ _ h c.before.before.stands2.ensures)) h k.link.ensures
+    let h = sym k.before.before.before.loops_back.ensures ∙ k.before.before.if-loops_back.true in
+    carries_loop (ap read.Right c.make-then-loops_back.ensures ∙ sym (carried_loop _ _ _ h c.before.before.stands-star.ensures)) h k.link.ensures
 
-returns-3 : tie.Need-returns-3
+returns-3 : tie.Need-returns
 returns-3 c =
-    let h = sym c.before.loops-back.ensures ∙ c.if2.false in
-    let i = sym c.before.before.before.stands.ensures ∙ c.before.before.if1.false in
+    let h = sym c.before.loops_back.ensures ∙ c.if-loops_back.false in
+    let i = sym c.before.before.before.stands.ensures ∙ c.before.before.if-stands.false in
     carries_plain (sym (carried_none _ _ i h)) h
 
-pub carry-part-spec : {M : Type 1} → statement M
-carry-part-spec =
+pub carry_part_spec : {M : Type 1} → statement M
+carry_part_spec =
     tie.close
     (tie.spec (λ c κs. search rules) (λ c κs. search rules) returns (λ c κs. search rules) (λ c κs. search rules)
     (λ c κs. search rules) (λ c κs. search rules) (λ c. search rules) returns-2 returns-3)

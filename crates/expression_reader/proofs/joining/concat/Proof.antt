@@ -6,5 +6,5 @@ use Rattle.expression_reader.proofs.joining.concat.Tie as tie
 returns : tie.Need-returns
 returns c = cc
 
-pub concat-spec : {M : Type 1} → statement M
-concat-spec = tie.close (tie.spec (λ c κs. search rules) (λ c κs. search rules) (λ c κs. search rules) returns)
+pub concat_spec : {M : Type 1} → statement M
+concat_spec = tie.close (tie.spec (λ c κs. search rules) (λ c κs. search rules) (λ c κs. search rules) returns)

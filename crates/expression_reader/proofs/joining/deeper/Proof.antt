@@ -3,11 +3,11 @@ use borrow.Author.Tests.{lt-ltb, le-ltb}
 use Rattle.expression_reader.proofs.joining.deeper.Statement.{statement}
 use Rattle.expression_reader.proofs.joining.deeper.Tie as tie
 
-returns : tie.Need-returns
-returns c = rw (lt-ltb _ _ c.if1.true)
+returns : tie.Need-returns-then-a-b
+returns c = rw (lt-ltb _ _ c.if-a-b.true)
 
-returns-2 : tie.Need-returns-2
-returns-2 c = rw (le-ltb _ _ c.if1.false)
+returns-2 : tie.Need-returns-else-a-b
+returns-2 c = rw (le-ltb _ _ c.if-a-b.false)
 
-pub deeper-spec : {M : Type 1} → statement M
-deeper-spec = tie.close (tie.spec returns returns-2)
+pub deeper_spec : {M : Type 1} → statement M
+deeper_spec = tie.close (tie.spec returns returns-2)

@@ -6,14 +6,14 @@ use borrow.Author.Rules.{rules}
 use Rattle.expression_reader.proofs.joining.join.Statement.{statement}
 use Rattle.expression_reader.proofs.joining.join.Tie as tie
 
-returns : tie.Need-returns
+returns : tie.Need-returns-in-Right
 returns c =
-    rw c.before.before.before.before.right.given.1
+    rw c.before.before.before.before.in-Right.is
     (joins_right (ap read.Right c.concat.ensures) c.before.link.ensures)
 
-returns-2 : tie.Need-returns-2
-returns-2 c = rw c.before.right2.given.1 joins_wrong
+returns-2 : tie.Need-returns-in-Wrong
+returns-2 c = rw c.before.in-Wrong.is joins_wrong
 
-pub join-spec : {M : Type 1} → statement M
-join-spec =
+pub join_spec : {M : Type 1} → statement M
+join_spec =
     tie.close (tie.spec (λ c. search rules) (λ c κs. search rules) (λ c κs. search rules) (λ c. search rules) returns returns-2)

@@ -5,11 +5,11 @@ use borrow.Author.Rules.{rules}
 use Rattle.expression_reader.proofs.joining.stands.Statement.{statement}
 use Rattle.expression_reader.proofs.joining.stands.Tie as tie
 
-returns : tie.Need-returns
-returns c = sym (starts_there _ _ c.before.if1.true _)
+returns : tie.Need-returns-then-at-text
+returns c = sym (starts_there _ _ c.before.if-at-text.true _)
 
-returns-2 : tie.Need-returns-2
-returns-2 c = sym (starts_end _ _ c.if1.false _)
+returns-2 : tie.Need-returns-else-at-text
+returns-2 c = sym (starts_end _ _ c.if-at-text.false _)
 
-pub stands-spec : {M : Type 1} → statement M
-stands-spec = tie.close (tie.spec (λ c. search rules) returns returns-2)
+pub stands_spec : {M : Type 1} → statement M
+stands_spec = tie.close (tie.spec (λ c. search rules) returns returns-2)

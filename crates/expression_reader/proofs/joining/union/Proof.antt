@@ -6,5 +6,5 @@ use Rattle.expression_reader.proofs.joining.union.Tie as tie
 returns : tie.Need-returns
 returns c = cc
 
-pub union-spec : {M : Type 1} → statement M
-union-spec = tie.close (tie.spec (λ c κs. search rules) returns)
+pub union_spec : {M : Type 1} → statement M
+union_spec = tie.close (tie.spec (λ c κs. search rules) returns)

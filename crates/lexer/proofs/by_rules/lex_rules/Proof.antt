@@ -14,39 +14,39 @@ use Rattle.lexer.proofs.by_rules.lex_rules.Statement.{statement}
 use Rattle.lexer.proofs.by_rules.lex_rules.Tie as tie
 
 -- the call, from where there is room enough
-abbrev call : tie.Joined2 → tie.Start
+abbrev call : tie.Joined-room-text → tie.Start
 call c = c.before.before.before.before.before.before.before.before.before
 
 -- there is room enough, counted or not
-fits : (c : tie.Joined2) (rs : List Rule) → Holds (call c).args.table.now rs
+fits : (c : tie.Joined-room-text) (rs : List Rule) → Holds (call c).args.table.now rs
     → length (lex rs (call c).args.text.now).tokens ≤ room_in (call c).args.records.now (call c).args.masks.now
 fits c rs h =
-    let room = c.before.room.ensures in
+    let room = c.before.room-room.ensures in
     ⊎_elim (λ w. omega (arith, (w.1.ensures rs h).tokens_are, w.3.left, room))
-    (λ w. subst (λ (n : ℕ). length (lex rs (call c).args.text.now).tokens ≤ n) room (enough rs _ _ w.left)) c.if2.branch
+    (λ w. subst (λ (n : ℕ). length (lex rs (call c).args.text.now).tokens ≤ n) room (enough rs _ _ w.left)) c.if-room-text.branch
 
-returns : tie.Need-returns
-returns c = λ rs h. rw c.refused.ensures (answered_long rs _ _ _ c.before.if1.true)
+returns : tie.Need-returns-then-text-gt-TEXT
+returns c = λ rs h. rw c.refused.ensures (answered_long rs _ _ _ c.before.if-text-gt-TEXT.true)
 
-returns-2 : tie.Need-returns-2
+returns-2 : tie.Need-returns-then-room-needed
 returns-2 c = λ rs h.
     let counted = c.before.before.before in
     let room = counted.before.before in
-    rw c.refused2.ensures
-    (answered_few rs _ _ _ room.before.before.before.if1.false (counted.count.ensures rs h)
-    (omega (arith, c.before.if3.true, room.room.ensures)))
+    rw c.refused-then-room-needed.ensures
+    (answered_few rs _ _ _ room.before.before.before.if-text-gt-TEXT.false (counted.count-needed.ensures rs h)
+    (omega (arith, c.before.if-room-needed.true, room.room-room.ensures)))
 
-fill-requires : tie.Need-fill-requires
+fill-requires : tie.Need-fill-cut-requires
 fill-requires c κs = room_of (call c.before.before).requires (fits c.before.before)
 
-returns-3 : tie.Need-returns-3
+returns-3 : tie.Need-returns
 returns-3 c = λ rs h.
     let filled = c.before.before.before.before in
     let joined = filled.before.before.before in
-    answered_lexed rs _ _ _ joined.before.before.before.before.if1.false (fits joined rs h) (filled.fill.ensures.0 rs h)
-    (filled.fill.ensures.1 rs h)
+    answered_lexed rs _ _ _ joined.before.before.before.before.if-text-gt-TEXT.false (fits joined rs h) (filled.fill-cut.ensures.0 rs h)
+    (filled.fill-cut.ensures.1 rs h)
 
-pub lex-rules-spec : {M : Type 1} → statement M
-lex-rules-spec =
+pub lex_rules_spec : {M : Type 1} → statement M
+lex_rules_spec =
     tie.close (tie.spec (λ c κs. search rules) returns (λ c κs. search rules) (λ c κs. search rules) (λ c κs. search rules)
     (λ c. search rules) (λ c. search rules) returns-2 fill-requires (λ c. search rules) (λ c. search rules) returns-3)

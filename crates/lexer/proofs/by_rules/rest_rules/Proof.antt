@@ -4,11 +4,11 @@ use Rattle.lexer.proofs.ByRules.{rest_long, rest_cut}
 use Rattle.lexer.proofs.by_rules.rest_rules.Statement.{statement}
 use Rattle.lexer.proofs.by_rules.rest_rules.Tie as tie
 
-returns : tie.Need-returns
-returns c = λ rs h. rest_cut rs _ c.before.if1.true (c.count.ensures rs h)
+returns : tie.Need-returns-then-text-le-TEXT
+returns c = λ rs h. rest_cut rs _ c.before.if-text-le-TEXT.true (c.count-cut.ensures rs h)
 
-returns-2 : tie.Need-returns-2
-returns-2 c = λ rs h. rest_long rs _ c.if1.false
+returns-2 : tie.Need-returns-else-text-le-TEXT
+returns-2 c = λ rs h. rest_long rs _ c.if-text-le-TEXT.false
 
-pub rest-rules-spec : {M : Type 1} → statement M
-rest-rules-spec = tie.close (tie.spec (λ c κs. search rules) returns returns-2)
+pub rest_rules_spec : {M : Type 1} → statement M
+rest_rules_spec = tie.close (tie.spec (λ c κs. search rules) returns returns-2)

@@ -7,8 +7,8 @@ use borrow.Fn.PlainCycle.{Measures, is, falls, and}
 use Rattle.listing.proofs.Putting.{room-digit, puts-digit, room_tenth, room-last, puts-last}
 use Rattle.listing.proofs.digits.+put_decimal.{statement}
 use Rattle.listing.proofs.digits.+put_decimal.Tie.{close}
-use Rattle.listing.proofs.digits.put_decimal.Reads as put-decimal
-use Rattle.listing.proofs.digits.put_decimal.Kinds as put-decimal-kinds
+use Rattle.listing.proofs.digits.put_decimal-last.Reads as put-decimal
+use Rattle.listing.proofs.digits.put_decimal-last.Kinds as put-decimal-kinds
 use Rattle.listing.proofs.digits.+put_decimal.Lts-put_decimal as put-decimal-lts
 use Rattle.listing.proofs.digits.put_byte.Reads as put-byte-reads
 
@@ -23,8 +23,8 @@ abbrev put-decimal-below : ℕ → In 1 put-decimal-kinds.ps
 put-decimal-below t =
     and 1 put-decimal-kinds.ps (falls 1 put-decimal-kinds.ps ◌<◌ μ-put-decimal t) put-decimal.Pre
 
-pub +put-decimal-spec : {M : Type 1} → statement M
-+put-decimal-spec = close μ-put-decimal λ t. put-decimal-lts.spec (
+pub +put_decimal_spec : {M : Type 1} → statement M
++put_decimal_spec = close μ-put-decimal λ t. put-decimal-lts.spec (
   put-byte-reads.Asked,
   put-byte-reads.Learnt,
   put-decimal-below t,
@@ -35,12 +35,12 @@ pub +put-decimal-spec : {M : Type 1} → statement M
     -- one digit
     (λ c. record { fits = omega arith })
     (λ c. record { fits = omega arith })
-    (λ c κs. room-digit c.before.if1.true c.before.before.before.requires.1)
+    (λ c κs. room-digit c.before.if-n-lt10.true c.before.before.before.requires.1)
     (λ c. c.before.before.put_byte.auto.0)
-    (λ c. puts-digit c.before.before.before.before.if1.true c.before.before.put_byte.ensures)
+    (λ c. puts-digit c.before.before.before.before.if-n-lt10.true c.before.before.put_byte.ensures)
     -- one more digit
     (λ c κs.
-    let l = c.before.if1.false in
+    let l = c.before.if-n-lt10.false in
     let p = c.before.before.before.requires in
     (omega (arith, l, p.0), room_tenth l p.1))
     (λ c. record { fits = omega arith })
@@ -48,9 +48,9 @@ pub +put-decimal-spec : {M : Type 1} → statement M
     (λ c κs.
     let d = c.before.before.before in
     let s = d.before.before in
-    room-last s.if1.false s.before.before.requires.1 d.put-decimal.ensures d.put-decimal.auto.0)
-    (λ c. c.before.before.put-byte2.auto.0 ∙ c.before.before.before.before.before.before.put-decimal.auto.0)
+    room-last s.if-n-lt10.false s.before.before.requires.1 d.put_decimal-last.ensures d.put_decimal-last.auto.0)
+    (λ c. c.before.before.put_byte-2.auto.0 ∙ c.before.before.before.before.before.before.put_decimal-last.auto.0)
     (λ c.
     let d = c.before.before.before.before.before.before in
     let s = d.before.before in
-    puts-last s.if1.false s.before.before.requires.1 d.put-decimal.ensures c.before.before.put-byte2.ensures)
+    puts-last s.if-n-lt10.false s.before.before.requires.1 d.put_decimal-last.ensures c.before.before.put_byte-2.ensures)

@@ -5,21 +5,21 @@ use Rattle.listing.specs.Decimal.{last_two}
 use Rattle.listing.proofs.digits.put_last_two.Statement.{statement}
 use Rattle.listing.proofs.digits.put_last_two.Tie as tie
 
-put-field-requires : tie.Need-put-field-requires
+put-field-requires : tie.Need-put_field-next-requires
 unfolding last_two
 put-field-requires c κs = room-first _ c.before.before.requires
 
-put-field-requires-2 : tie.Need-put-field-requires-2
+put-field-requires-2 : tie.Need-put_field-requires
 unfolding last_two
 put-field-requires-2 c κs =
     let f = c.before.before.before in
-    room_second f.put-field.ensures f.put-field.auto.0 f.before.before.before.requires
+    room_second f.put_field-next.ensures f.put_field-next.auto.0 f.before.before.before.requires
 
 returns : tie.Need-returns
 unfolding last_two
 returns c =
     let f = c.before.before.before.before.before.before in
-    puts_then f.put-field.ensures c.before.before.put-field2.ensures (room-first _ f.before.before.before.requires)
+    puts_then f.put_field-next.ensures c.before.before.put_field.ensures (room-first _ f.before.before.before.requires)
 
-pub put-last-two-spec : {M : Type 1} → statement M
-put-last-two-spec = tie.close (tie.spec put-field-requires put-field-requires-2 (λ c. search rules) returns)
+pub put_last_two_spec : {M : Type 1} → statement M
+put_last_two_spec = tie.close (tie.spec put-field-requires put-field-requires-2 (λ c. search rules) returns)

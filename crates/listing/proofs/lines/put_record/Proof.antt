@@ -4,17 +4,17 @@ use Rattle.listing.proofs.Recording.{room_record, puts_record}
 use Rattle.listing.proofs.lines.put_record.Statement.{statement}
 use Rattle.listing.proofs.lines.put_record.Tie as tie
 
-put-token-requires : tie.Need-put-token-requires
+put-token-requires : tie.Need-put_token-requires
 put-token-requires c κs =
     let read = c.before.before.before.before in
-    room_record _ _ read.read-record.ensures read.before.before.before.requires.1
+    room_record _ _ read.read_record-r.ensures read.before.before.before.requires.1
 
 returns : tie.Need-returns
 returns c =
-    puts_record _ _ c.before.before.before.before.before.before.before.read-record.ensures
-    c.before.before.put-token.ensures
+    puts_record _ _ c.before.before.before.before.before.before.before.read_record-r.ensures
+    c.before.before.put_token.ensures
 
-pub put-record-spec : {M : Type 1} → statement M
-put-record-spec =
+pub put_record_spec : {M : Type 1} → statement M
+put_record_spec =
     tie.close (tie.spec (λ c κs. search rules) (λ c. search rules) (λ c. search rules) (λ c. search rules) put-token-requires
     (λ c. search rules) returns)

@@ -14,22 +14,22 @@ use Rattle.longest_match.proofs.steps.choose_from.Tie as tie
 stands : (ns : List ℕ) (len : ℕ) → len ≡ greatest ns → (len ≡ 0 → ⊥) → first_with len ns < length ns
 stands ns len e z = rw e (first-greatest ns (omega arith)).known
 
-returns : tie.Need-returns
+returns : tie.Need-returns-then-len-eq0
 returns c =
-    let z : greatest _ ≡ 0 = sym c.before.longest-of.ensures.0 ∙ c.if1.true in
+    let z : greatest _ ≡ 0 = sym c.before.longest_of-longest.ensures.0 ∙ c.if-len-eq0.true in
     record {
       longest = sym z;
       earliest = sym (first_zero _ z);
       mask_is = record { zero = λ e. refl; those = λ p. absurd (omega arith) };
     }
 
-earliest-with-requires : tie.Need-earliest-with-requires
-earliest-with-requires c κs = stands _ _ c.before.longest-of.ensures.0 c.if1.false
+earliest-with-requires : tie.Need-earliest_with-rule-requires
+earliest-with-requires c κs = stands _ _ c.before.longest_of-longest.ensures.0 c.if-len-eq0.false
 
-returns-2 : tie.Need-returns-2
+returns-2 : tie.Need-returns
 returns-2 c =
-    let longest = c.before.before.longest-of.ensures in
-    record { longest = longest.0; earliest = c.earliest-with.ensures; mask_is = longest.1 }
+    let longest = c.before.before.longest_of-longest.ensures in
+    record { longest = longest.0; earliest = c.earliest_with-rule.ensures; mask_is = longest.1 }
 
-pub choose-from-spec : {M : Type 1} → statement M
-choose-from-spec = tie.close (tie.spec (λ c κs. search rules) returns earliest-with-requires returns-2)
+pub choose_from_spec : {M : Type 1} → statement M
+choose_from_spec = tie.close (tie.spec (λ c κs. search rules) returns earliest-with-requires returns-2)

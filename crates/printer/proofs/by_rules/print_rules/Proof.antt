@@ -5,33 +5,33 @@ use borrow.Author.Rules.{rules}
 use Rattle.printer.proofs.by_rules.print_rules.Statement.{statement}
 use Rattle.printer.proofs.by_rules.print_rules.Tie as tie
 
-returns : tie.Need-returns
-returns c = λ rs h. answered_many rs _ _ _ c.before.if1.true c.refused.ensures
+returns : tie.Need-returns-then-records-gt-TOKENS
+returns c = λ rs h. answered_many rs _ _ _ c.before.if-records-gt-TOKENS.true c.refused.ensures
 
 write-requires : tie.Need-write-requires
 write-requires c κs =
     let rehearsed = c.before.before.before.before.before.before.before in
     let start = rehearsed.before.before.before.before.before.before.before.before.requires in
-    let clean = (rehearsed.rehearse.ensures start.0.rules start.0.holds).clean _ c.before.before.before.total.given.1 in
+    let clean = (rehearsed.rehearse.ensures start.0.rules start.0.holds).clean _ c.before.before.before.total-1.given.1 in
     omega (arith, start.1.room _ clean.spanned, rehearsed.rehearse.auto)
 
-find-refusal-requires : tie.Need-find-refusal-requires
+find-refusal-requires : tie.Need-find_refusal-requires
 find-refusal-requires c κs =
     let rehearsed = c.before.before.before.before.before in
     let held = rehearsed.before.before.before.before.before.before.before.before.requires.0 in
-    record { held = held; suspected = λ rs h. (rehearsed.rehearse.ensures rs h).wrong _ c.before.found.given.1 }
+    record { held = held; suspected = λ rs h. (rehearsed.rehearse.ensures rs h).wrong _ c.before.in-Wrong.is }
 
-returns-2 : tie.Need-returns-2
+returns-2 : tie.Need-returns-in-Clean
 returns-2 c = λ rs h. clean_written rs _ _ _
-    c.before.before.before.before.before.before.before.before.before.before.before.before.if1.false
+    c.before.before.before.before.before.before.before.before.before.before.before.before.if-records-gt-TOKENS.false
     ((c.before.before.before.before.before.before.before.before.before.before.rehearse.ensures rs h).clean _
-    c.before.before.before.before.before.before.total.given.1) c.before.before.write.ensures
+    c.before.before.before.before.before.before.total-1.given.1) c.before.before.write.ensures
 
-returns-3 : tie.Need-returns-3
-returns-3 c = λ rs h. answered_troubled rs _ _ _ c.before.before.before.before.before.before.before.before.if1.false
-    (c.find-refusal.ensures rs h)
+returns-3 : tie.Need-returns-in-Wrong
+returns-3 c = λ rs h. answered_troubled rs _ _ _ c.before.before.before.before.before.before.before.before.if-records-gt-TOKENS.false
+    (c.find_refusal.ensures rs h)
 
-pub print-rules-spec : {M : Type 1} → statement M
-print-rules-spec =
+pub print_rules_spec : {M : Type 1} → statement M
+print_rules_spec =
     tie.close (tie.spec (λ c κs. search rules) returns (λ c κs. search rules) (λ c. search rules) write-requires (λ c. search rules)
     find-refusal-requires (λ c. search rules) (λ c. search rules) returns-2 (λ c. search rules) returns-3)

@@ -5,12 +5,12 @@ use borrow.Author.Rules.{rules}
 use Rattle.printer.proofs.rehearsal.find_refusal.Statement.{statement}
 use Rattle.printer.proofs.rehearsal.find_refusal.Tie as tie
 
-returns : tie.Need-returns
+returns : tie.Need-returns-in-Passed
 returns c = λ rs h. c.before.before.before.before.before.before.requires.suspected rs h
-    (passed_faultless rs _ _ (sym c.enum_told.given.1 ∙ c.before.before.check-tokens.ensures rs h))
+    (passed_faultless rs _ _ (sym c.in-Passed.is ∙ c.before.before.check_tokens.ensures rs h))
 
-returns-2 : tie.Need-returns-2
-returns-2 c = λ rs h. trouble_fault rs _ _ (sym c.before.refusal.given.1 ∙ c.before.before.before.check-tokens.ensures rs h)
+returns-2 : tie.Need-returns-in-Refused
+returns-2 c = λ rs h. trouble_fault rs _ _ (sym c.before.in-Refused.is ∙ c.before.before.before.check_tokens.ensures rs h)
 
-pub find-refusal-spec : {M : Type 1} → statement M
-find-refusal-spec = tie.close (tie.spec (λ c κs. search rules) (λ c. search rules) (λ c. search rules) returns returns-2)
+pub find_refusal_spec : {M : Type 1} → statement M
+find_refusal_spec = tie.close (tie.spec (λ c κs. search rules) (λ c. search rules) (λ c. search rules) returns returns-2)

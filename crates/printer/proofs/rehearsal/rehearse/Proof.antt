@@ -4,17 +4,17 @@ use borrow.Author.Rules.{rules}
 use Rattle.printer.proofs.rehearsal.rehearse.Statement.{statement}
 use Rattle.printer.proofs.rehearsal.rehearse.Tie as tie
 
-rehearse-bytes-requires : tie.Need-rehearse-bytes-requires
+rehearse-bytes-requires : tie.Need-rehearse_bytes-requires
 rehearse-bytes-requires c κs =
     let start = c.before.before.before.before.before.before.before.before.before.requires in
-    let spanned = c.before.before.before.before.measure.ensures.fits _ c.before.before.total.given.1 in
+    let spanned = c.before.before.before.before.measure.ensures.fits _ c.before.before.in-Bytes.is in
     (start.0, (start.1.room _ spanned, spanned))
 
-returns-2 : tie.Need-returns-2
-returns-2 c = λ rs h. rehearses_beyond rs _ _ _ (c.before.before.before.measure.ensures.beyond c.before.enum_told.given.1)
+returns-2 : tie.Need-returns-in-Beyond
+returns-2 c = λ rs h. rehearses_beyond rs _ _ _ (c.before.before.before.measure.ensures.beyond c.before.in-Beyond.is)
     c.wrong.ensures
 
-pub rehearse-spec : {M : Type 1} → statement M
-rehearse-spec =
+pub rehearse_spec : {M : Type 1} → statement M
+rehearse_spec =
     tie.close (tie.spec (λ c κs. search rules) (λ c. search rules) rehearse-bytes-requires (λ c. search rules) (λ c κs. search rules)
     (λ c. search rules) (λ c. search rules) returns-2)

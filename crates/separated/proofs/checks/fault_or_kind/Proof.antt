@@ -5,22 +5,22 @@ use Rattle.separated.proofs.Checking.{or_fault, or_kind}
 use Rattle.separated.proofs.checks.fault_or_kind.Statement.{statement}
 use Rattle.separated.proofs.checks.fault_or_kind.Tie as tie
 
-returns : tie.Need-returns
+returns : tie.Need-returns-then-is_separator-separator
 returns c = λ rs h.
-    or_kind _ _ _ _ (sym c.before.before.before.enum_told.given.1
-    ∙ c.before.before.before.before.before.token-fault.ensures rs h)
-    (rw (c.before.is-separator.ensures rs h) at c.if1.true)
+    or_kind _ _ _ _ (sym c.before.before.before.in-Nothing.is
+    ∙ c.before.before.before.before.before.token_fault.ensures rs h)
+    (rw (c.before.is_separator.ensures rs h) at c.if-is_separator-separator.true)
 
-returns-2 : tie.Need-returns-2
-returns-2 c = λ rs h. or_fault _ _ _ (sym c.before.first.given.1 ∙ c.before.before.before.token-fault.ensures rs h)
+returns-2 : tie.Need-returns-in-By
+returns-2 c = λ rs h. or_fault _ _ _ (sym c.before.in-By.is ∙ c.before.before.before.token_fault.ensures rs h)
 
-returns-3 : tie.Need-returns-3
+returns-3 : tie.Need-returns-else-is_separator-separator
 returns-3 c = λ rs h.
-    or_kind _ _ _ _ (sym c.before.before.before.enum_told.given.1
-    ∙ c.before.before.before.before.before.token-fault.ensures rs h)
-    (rw (c.before.is-separator.ensures rs h) at c.if1.false)
+    or_kind _ _ _ _ (sym c.before.before.before.in-Nothing.is
+    ∙ c.before.before.before.before.before.token_fault.ensures rs h)
+    (rw (c.before.is_separator.ensures rs h) at c.if-is_separator-separator.false)
 
-pub fault-or-kind-spec : {M : Type 1} → statement M
-fault-or-kind-spec =
+pub fault_or_kind_spec : {M : Type 1} → statement M
+fault_or_kind_spec =
     tie.close (tie.spec (λ c κs. search rules) (λ c. search rules) (λ c. search rules) (λ c. search rules) (λ c κs. search rules) returns
     returns-2 returns-3)

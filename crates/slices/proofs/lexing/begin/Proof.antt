@@ -5,19 +5,19 @@ use Rattle.slices.proofs.Starting.{begun_book, begun_refused}
 use Rattle.slices.proofs.lexing.begin.Statement.{statement}
 use Rattle.slices.proofs.lexing.begin.Tie as tie
 
-begin-rules-requires : tie.Need-begin-rules-requires
+begin-rules-requires : tie.Need-begin_rules-requires
 begin-rules-requires c κs =
-    loaded_held c.before.before.before.before.before.load.ensures c.before.before.before.enum_told.given.1
+    loaded_held c.before.before.before.before.before.load.ensures c.before.before.before.in-Accepted.is
 
-returns : tie.Need-returns
+returns : tie.Need-returns-in-Accepted
 returns c =
-    begun_book c.before.before.before.before.before.before.load.ensures c.before.before.before.before.enum_told.given.1
-    c.before.least.ensures c.begin-rules.ensures
+    begun_book c.before.before.before.before.before.before.load.ensures c.before.before.before.before.in-Accepted.is
+    c.before.least.ensures c.begin_rules.ensures
 
-returns-2 : tie.Need-returns-2
-returns-2 c = begun_refused c.before.before.before.before.load.ensures c.before.before.refusal.given.1 c.refuse.ensures
+returns-2 : tie.Need-returns-in-Refused
+returns-2 c = begun_refused c.before.before.before.before.load.ensures c.before.before.in-Refused.is c.refuse.ensures
 
-pub begin-spec : {M : Type 1} → statement M
-begin-spec =
+pub begin_spec : {M : Type 1} → statement M
+begin_spec =
     tie.close (tie.spec (λ c κs. search rules) (λ c. search rules) (λ c κs. search rules) begin-rules-requires (λ c. search rules)
     (λ c κs. search rules) returns returns-2)

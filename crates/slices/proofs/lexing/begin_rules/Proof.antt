@@ -14,29 +14,29 @@ use Rattle.slices.proofs.lexing.begin_rules.Statement.{statement}
 use Rattle.slices.proofs.lexing.begin_rules.Tie as tie
 
 -- the call, from where there is room
-abbrev call : tie.Joined2 → tie.Start
+abbrev call : tie.Joined-room-text → tie.Start
 call c = c.before.before.before.before
 
 -- there is room for the tokens, counted or not
-fits : (c : tie.Joined2) (rs : List Rule) → Holds (call c).args.table.now rs
+fits : (c : tie.Joined-room-text) (rs : List Rule) → Holds (call c).args.table.now rs
     → length (lex rs (call c).args.text.now).tokens ≤ (call c).args.room
 fits c rs h =
     ⊎_elim (λ w. omega (arith, (w.1.ensures rs h).tokens_are, w.3.left))
     (λ w. omega (arith, w.left, lex_few rs (call c).args.text.now))
-    c.if2.branch
+    c.if-room-text.branch
 
-returns : tie.Need-returns
-returns c = λ rs h. opens_long c.before.if1.true c.refuse.ensures
+returns : tie.Need-returns-then-text-gt-TEXT
+returns c = λ rs h. opens_long c.before.if-text-gt-TEXT.true c.refuse.ensures
 
-returns-2 : tie.Need-returns-2
+returns-2 : tie.Need-returns-then-room-needed
 returns-2 c = λ rs h.
     let counted = c.before.before.before in
-    opens_few counted.before.before.if1.false (counted.count.ensures rs h) c.before.if3.true c.refuse2.ensures
+    opens_few counted.before.before.if-text-gt-TEXT.false (counted.count-needed.ensures rs h) c.before.if-room-needed.true c.refuse-then-room-needed.ensures
 
-returns-3 : tie.Need-returns-3
-returns-3 c = λ rs h. opens_pending c.before.before.if1.false (fits c.before rs h) (c.pending-at.ensures rs h)
+returns-3 : tie.Need-returns
+returns-3 c = λ rs h. opens_pending c.before.before.if-text-gt-TEXT.false (fits c.before rs h) (c.pending_at.ensures rs h)
 
-pub begin-rules-spec : {M : Type 1} → statement M
-begin-rules-spec =
+pub begin_rules_spec : {M : Type 1} → statement M
+begin_rules_spec =
     tie.close (tie.spec (λ c κs. search rules) returns (λ c κs. search rules) (λ c κs. search rules) returns-2 (λ c κs. search rules)
     returns-3)

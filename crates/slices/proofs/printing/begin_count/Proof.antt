@@ -4,14 +4,14 @@ use borrow.Author.Rules.{rules}
 use Rattle.slices.proofs.printing.begin_count.Statement.{statement}
 use Rattle.slices.proofs.printing.begin_count.Tie as tie
 
-returns : tie.Need-returns
-returns c = rw (lt-ltb _ _ c.before.if1.true) c.refuse.ensures
+returns : tie.Need-returns-then-count-gt-TOKENS
+returns c = rw (lt-ltb _ _ c.before.if-count-gt-TOKENS.true) c.refuse.ensures
 
-returns-2 : tie.Need-returns-2
-returns-2 c = rw (le-ltb _ _ c.before.before.if1.false, eq-eqb _ _ c.before.if2.true) c.end.ensures
+returns-2 : tie.Need-returns-then-count-eq0
+returns-2 c = rw (le-ltb _ _ c.before.before.if-count-gt-TOKENS.false, eq-eqb _ _ c.before.if-count-eq0.true) c.end.ensures
 
-returns-3 : tie.Need-returns-3
-returns-3 c = rw (le-ltb _ _ c.before.before.if1.false, ne_eqb _ _ c.before.if2.false) c.go.ensures
+returns-3 : tie.Need-returns-else-count-eq0
+returns-3 c = rw (le-ltb _ _ c.before.before.if-count-gt-TOKENS.false, ne_eqb _ _ c.before.if-count-eq0.false) c.go.ensures
 
-pub begin-count-spec : {M : Type 1} → statement M
-begin-count-spec = tie.close (tie.spec (λ c κs. search rules) (λ c κs. search rules) (λ c κs. search rules) returns returns-2 returns-3)
+pub begin_count_spec : {M : Type 1} → statement M
+begin_count_spec = tie.close (tie.spec (λ c κs. search rules) (λ c κs. search rules) (λ c κs. search rules) returns returns-2 returns-3)

@@ -6,19 +6,19 @@ use Rattle.token_list.proofs.Passes.{by_number, by_none}
 use Rattle.slices.proofs.printing.check.Statement.{statement}
 use Rattle.slices.proofs.printing.check.Tie as tie
 
-returns : tie.Need-returns
+returns : tie.Need-returns-in-By
 returns c = λ rs h.
     let a = c.before.before.before.before.before.before.before.before.args in
     c.refuse.ensures ∙ rw (by_number (fault_of rs a.pool.now a.token)
-    (sym c.before.before.number.given.1 ∙ c.before.before.before.before.token-fault.ensures rs h))
+    (sym c.before.before.in-By.is ∙ c.before.before.before.before.token_fault.ensures rs h))
 
-returns-2 : tie.Need-returns-2
+returns-2 : tie.Need-returns-in-Nothing
 returns-2 c = λ rs h.
     let a = c.before.before.before.before.before.before.before.args in
-    c.move-on.ensures ∙ rw (by_none (fault_of rs a.pool.now a.token)
-    (sym c.before.enum_told.given.1 ∙ c.before.before.before.token-fault.ensures rs h))
+    c.move_on.ensures ∙ rw (by_none (fault_of rs a.pool.now a.token)
+    (sym c.before.in-Nothing.is ∙ c.before.before.before.token_fault.ensures rs h))
 
-pub check-spec : {M : Type 1} → statement M
-check-spec =
+pub check_spec : {M : Type 1} → statement M
+check_spec =
     tie.close (tie.spec (λ c. search rules) (λ c κs. search rules) (λ c. search rules) (λ c κs. search rules) (λ c. search rules)
     (λ c κs. search rules) returns returns-2)

@@ -5,12 +5,12 @@ use Rattle.automaton.proofs.Tests.{clash}
 use Rattle.slices.proofs.printing.finish.Statement.{statement}
 use Rattle.slices.proofs.printing.finish.Tie as tie
 
-returns : tie.Need-returns
-returns c = record { refuses = λ _. (refl, refl); writes = λ p. clash c.if1.true p }
+returns : tie.Need-returns-then-stage
+returns c = record { refuses = λ _. (refl, refl); writes = λ p. clash c.if-stage.true p }
 
-returns-2 : tie.Need-returns-2
+returns-2 : tie.Need-returns
 returns-2 c = record {
-  refuses = λ p. clash p c.before.before.before.before.before.if1.false;
+  refuses = λ p. clash p c.before.before.before.before.before.if-stage.false;
   writes = λ _. c.before.before.write.ensures;
 }
 

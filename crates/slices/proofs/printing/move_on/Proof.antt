@@ -4,15 +4,15 @@ use borrow.Author.Rules.{rules}
 use Rattle.slices.proofs.printing.move_on.Statement.{statement}
 use Rattle.slices.proofs.printing.move_on.Tie as tie
 
-pub move-on-spec : {M : Type 1} → statement M
-move-on-spec =
+pub move_on_spec : {M : Type 1} → statement M
+move_on_spec =
     tie.close (tie.spec (λ c. search rules) (λ c. search rules)
-    (λ c κs. search rules) (λ c. rw (lt-ltb _ _ c.before.if1.true) c.go.ensures)
+    (λ c κs. search rules) (λ c. rw (lt-ltb _ _ c.before.if-index-count.true) c.go.ensures)
     (λ c κs. search rules) (λ c. let k = c.before.before in
-    rw (le-ltb _ _ k.before.before.if1.false, eq-eqb _ _ k.if2.true, lt-ltb _ _ c.before.if3.true) c.refuse.ensures)
+    rw (le-ltb _ _ k.before.before.if-index-count.false, eq-eqb _ _ k.if-stage-eq-CHECK.true, lt-ltb _ _ c.before.if-at-gt-TEXT.true) c.refuse.ensures)
     (λ c κs. search rules) (λ c. let k = c.before.before in
-    rw (le-ltb _ _ k.before.before.if1.false, eq-eqb _ _ k.if2.true, le-ltb _ _ c.before.if3.false) c.go2.ensures)
+    rw (le-ltb _ _ k.before.before.if-index-count.false, eq-eqb _ _ k.if-stage-eq-CHECK.true, le-ltb _ _ c.before.if-at-gt-TEXT.false) c.go-then-stage-eq-CHECK.ensures)
     (λ c κs. search rules) (λ c. let k = c.before.before.before in
-    rw (le-ltb _ _ k.before.before.if1.false, ne_eqb _ _ k.if2.false, eq-eqb _ _ c.before.if4.true) c.go3.ensures)
+    rw (le-ltb _ _ k.before.before.if-index-count.false, ne_eqb _ _ k.if-stage-eq-CHECK.false, eq-eqb _ _ c.before.if-stage-eq-JOIN.true) c.go-then-stage-eq-JOIN.ensures)
     (λ c κs. search rules) (λ c. let k = c.before.before.before in
-    rw (le-ltb _ _ k.before.before.if1.false, ne_eqb _ _ k.if2.false, ne_eqb _ _ c.before.if4.false) c.end.ensures))
+    rw (le-ltb _ _ k.before.before.if-index-count.false, ne_eqb _ _ k.if-stage-eq-CHECK.false, ne_eqb _ _ c.before.if-stage-eq-JOIN.false) c.end.ensures))

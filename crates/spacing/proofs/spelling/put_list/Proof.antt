@@ -11,14 +11,14 @@ use Rattle.spacing.proofs.Putting.{Putting, spaced_inside, spaced_alone, putting
 use Rattle.spacing.proofs.spelling.put_list.Statement.{statement}
 use Rattle.spacing.proofs.spelling.put_list.Tie as tie
 
-abbrev invariant-loop : tie.invariant-loop
+abbrev invariant-loop : tie.invariant-loop-k
 invariant-loop table separator mode records pool scratch₀ count at₀ k₀ scratch at k = (length scratch ≡ length scratch₀)
     × ((rs : List Rule) → Holds table rs → Putting rs separator mode records pool scratch at k)
 
-abbrev decreases-loop : tie.decreases-loop
+abbrev decreases-loop : tie.decreases-loop-k
 decreases-loop table separator mode records pool scratch₀ count at₀ k₀ scratch at k = k
 
-loop-holds : tie.Need-loop-init invariant-loop decreases-loop
+loop-holds : tie.Need-loop-k-init invariant-loop decreases-loop
 loop-holds c =
     let start = c.before.before.before.before in (
       refl,
@@ -26,80 +26,80 @@ loop-holds c =
           _ refl,
     )
 
-sub-k : tie.Need-overflow-sub-k invariant-loop decreases-loop
-sub-k c = omega (arith, c.loop-test.true)
+sub-k : tie.Need-overflow_sub-k invariant-loop decreases-loop
+sub-k c = omega (arith, c.loop-k-test.true)
 
-read-record-requires : tie.Need-read-record-requires invariant-loop decreases-loop
+read-record-requires : tie.Need-read_record-token-requires invariant-loop decreases-loop
 read-record-requires c κs =
     let start = c.before.before.before.before.before.before in
-    omega (arith, c.loop-test.true, (c.before.loop.invariant.1 start.requires.held.rules start.requires.held.holds).few)
+    omega (arith, c.loop-k-test.true, (c.before.loop-k.invariant.1 start.requires.held.rules start.requires.held.holds).few)
 
-put-token-requires : tie.Need-put-token-requires invariant-loop decreases-loop
+put-token-requires : tie.Need-put_token-requires invariant-loop decreases-loop
 put-token-requires c κs =
     let head = c.before.before.before in
     let start = head.before.before.before.before.before in (
       start.requires.held,
       (
         spaced_inside start.requires (omega
-            (arith, (head.loop.invariant.1 start.requires.held.rules start.requires.held.holds).few, c.before.before.loop-test.true))
-            c.before.read-record.ensures,
+            (arith, (head.loop-k.invariant.1 start.requires.held.rules start.requires.held.holds).few, c.before.before.loop-k-test.true))
+            c.before.read_record-token.ensures,
         (
           start.requires.separator,
-          (head.loop.invariant.1 start.requires.held.rules start.requires.held.holds).within,
+          (head.loop-k.invariant.1 start.requires.held.rules start.requires.held.holds).within,
         ),
       ),
     )
 
-loop-less : tie.Need-loop-smaller invariant-loop decreases-loop
-loop-less c = omega (arith, c.before.before.before.before.before.before.before.before.loop-test.true)
+loop-less : tie.Need-loop-k-smaller invariant-loop decreases-loop
+loop-less c = omega (arith, c.before.before.before.before.before.before.before.before.loop-k-test.true)
 
-loop-again : tie.Need-loop-preserved invariant-loop decreases-loop
+loop-again : tie.Need-loop-k-preserved invariant-loop decreases-loop
 loop-again c =
     let at-put-token = c.before.before.before.before.before in
     let at-read-record = at-put-token.before.before in
     let test = at-read-record.before in
     let head = test.before in
     let start' = head.before.before.before.before.before in (
-      at-put-token.put-token.auto.1.1.1.1.1.1.0
-          ∙ head.loop.invariant.0,
+      at-put-token.put_token.auto.1.1.1.1.1.1.0
+          ∙ head.loop-k.invariant.0,
       λ rs h. putting_next rs start'.args.separator start'.args.mode start'.args.records.now
-          start'.args.pool.now (head.loop.invariant.1 rs h) test.loop-test.true at-read-record.read-record.ensures
-          (at-put-token.put-token.ensures rs h (spaced_alone start'.requires
-          (omega (arith, (head.loop.invariant.1 rs h).few, test.loop-test.true)) at-read-record.read-record.ensures rs h)
-          (from rs start'.args.separator start'.args.mode start'.args.records.now start'.args.pool.now head.loop.k)
-          (head.loop.invariant.1 rs h).laid (from_last rs start'.args.separator start'.args.mode start'.args.records.now
-          start'.args.pool.now head.loop.k (head.loop.invariant.1 rs h).few)) c.before.start.given.1,
+          start'.args.pool.now (head.loop-k.invariant.1 rs h) test.loop-k-test.true at-read-record.read_record-token.ensures
+          (at-put-token.put_token.ensures rs h (spaced_alone start'.requires
+          (omega (arith, (head.loop-k.invariant.1 rs h).few, test.loop-k-test.true)) at-read-record.read_record-token.ensures rs h)
+          (from rs start'.args.separator start'.args.mode start'.args.records.now start'.args.pool.now head.loop-k.k)
+          (head.loop-k.invariant.1 rs h).laid (from_last rs start'.args.separator start'.args.mode start'.args.records.now
+          start'.args.pool.now head.loop-k.k (head.loop-k.invariant.1 rs h).few)) c.before.in-At.is,
     )
 
-same_length : tie.Need-same-length invariant-loop decreases-loop
-same_length c = c.before.before.before.before.put-token.auto.1.1.1.1.1.1.0
-    ∙ c.before.before.before.before.before.before.before.before.loop.invariant.0
+same_length : tie.Need-shape_of-scratch-in-Full invariant-loop decreases-loop
+same_length c = c.before.before.before.before.put_token.auto.1.1.1.1.1.1.0
+    ∙ c.before.before.before.before.before.before.before.before.loop-k.invariant.0
 
-returns : tie.Need-returns invariant-loop decreases-loop
+returns : tie.Need-returns-in-Full invariant-loop decreases-loop
 returns c =
     let at-read-record = c.before.before.before.before.before.before in
     let test = at-read-record.before in
     let head = test.before in
     let start = head.before.before.before.before.before in
     λ rs h. putting_full rs start.args.separator start.args.mode start.args.records.now start.args.pool.now
-    (head.loop.invariant.1 rs h) test.loop-test.true at-read-record.read-record.ensures
-    (c.before.before.before.before.put-token.ensures rs h
-    (spaced_alone start.requires (omega (arith, (head.loop.invariant.1 rs h).few, test.loop-test.true))
-    at-read-record.read-record.ensures rs h) (from rs start.args.separator start.args.mode start.args.records.now
-    start.args.pool.now head.loop.k) (head.loop.invariant.1 rs h).laid
-    (from_last rs start.args.separator start.args.mode start.args.records.now start.args.pool.now head.loop.k
-    (head.loop.invariant.1 rs h).few)) c.enum_told.given.1
+    (head.loop-k.invariant.1 rs h) test.loop-k-test.true at-read-record.read_record-token.ensures
+    (c.before.before.before.before.put_token.ensures rs h
+    (spaced_alone start.requires (omega (arith, (head.loop-k.invariant.1 rs h).few, test.loop-k-test.true))
+    at-read-record.read_record-token.ensures rs h) (from rs start.args.separator start.args.mode start.args.records.now
+    start.args.pool.now head.loop-k.k) (head.loop-k.invariant.1 rs h).laid
+    (from_last rs start.args.separator start.args.mode start.args.records.now start.args.pool.now head.loop-k.k
+    (head.loop-k.invariant.1 rs h).few)) c.in-Full.is
 
-same-length-2 : tie.Need-same-length-2 invariant-loop decreases-loop
-same-length-2 c = c.before.loop.invariant.0
+same-length-2 : tie.Need-shape_of-scratch invariant-loop decreases-loop
+same-length-2 c = c.before.loop-k.invariant.0
 
-returns-2 : tie.Need-returns-2 invariant-loop decreases-loop
+returns-2 : tie.Need-returns invariant-loop decreases-loop
 returns-2 c =
     let start = c.before.before.before.before.before.before in
     λ rs h. putting_end rs start.args.separator start.args.mode start.args.records.now start.args.pool.now
-    (c.before.loop.invariant.1 rs h) (omega (arith, c.loop-test.false))
+    (c.before.loop-k.invariant.1 rs h) (omega (arith, c.loop-k-test.false))
 
-pub put-list-spec : {M : Type 1} → statement M
-put-list-spec =
+pub put_list_spec : {M : Type 1} → statement M
+put_list_spec =
     tie.close (tie.spec invariant-loop decreases-loop loop-holds sub-k read-record-requires put-token-requires (λ c. search rules) loop-less loop-again
     (λ c. search rules) same_length returns same-length-2 returns-2)

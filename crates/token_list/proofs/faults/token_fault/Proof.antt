@@ -7,39 +7,39 @@ use Rattle.token_list.proofs.Faulting.{checked_same}
 use Rattle.token_list.proofs.faults.token_fault.Statement.{statement}
 use Rattle.token_list.proofs.faults.token_fault.Tie as tie
 
-returns : tie.Need-returns
+returns : tie.Need-returns-then-pool-place
 returns c = λ rs h. checked_outside rs _ _ (omega arith)
 
-returns-2 : tie.Need-returns-2
-returns-2 c = λ rs h. checked_unknown h _ _ (omega (arith, c.before.before.before.before.if1.false))
-    (c.before.before.find-tag.ensures rs h) (c.before.count_of.ensures rs h) c.if2.true
+returns-2 : tie.Need-returns-then-rule-rules
+returns-2 c = λ rs h. checked_unknown h _ _ (omega (arith, c.before.before.before.before.if-pool-place.false))
+    (c.before.before.find_tag-rule.ensures rs h) (c.before.count_of-rules.ensures rs h) c.if-rule-rules.true
 
-choose-requires : tie.Need-choose-requires
+choose-requires : tie.Need-choose-chosen-requires
 choose-requires c κs = (c.before.before.before.before.before.before.before.before.before.requires, (omega arith, omega arith))
 
-returns-3 : tie.Need-returns-3
-returns-3 c = λ rs h. checked-idle h _ _ (omega (arith, c.before.before.before.before.before.before.before.if1.false))
-    (c.before.before.before.before.before.find-tag.ensures rs h) (c.before.before.before.before.count_of.ensures rs h)
-    c.before.before.before.if2.false (c.before.before.choose.ensures.0 rs _ h (part_bytes _ _ _)) c.if3.true
+returns-3 : tie.Need-returns-then-chosen-eq0
+returns-3 c = λ rs h. checked-idle h _ _ (omega (arith, c.before.before.before.before.before.before.before.if-pool-place.false))
+    (c.before.before.before.before.before.find_tag-rule.ensures rs h) (c.before.before.before.before.count_of-rules.ensures rs h)
+    c.before.before.before.if-rule-rules.false (c.before.before.choose-chosen.ensures.0 rs _ h (part_bytes _ _ _)) c.if-chosen-eq0.true
 
-returns-4 : tie.Need-returns-4
+returns-4 : tie.Need-returns-then-chosen-len
 returns-4 c = λ rs h. checked-part h _ _
-    (omega (arith, c.before.before.before.before.before.before.before.before.before.if1.false))
-    (c.before.before.before.before.before.before.before.find-tag.ensures rs h)
-    (c.before.before.before.before.before.before.count_of.ensures rs h) c.before.before.before.before.before.if2.false
-    (c.before.before.before.before.choose.ensures.0 rs _ h (part_bytes _ _ _)) c.if4.true
+    (omega (arith, c.before.before.before.before.before.before.before.before.before.if-pool-place.false))
+    (c.before.before.before.before.before.before.before.find_tag-rule.ensures rs h)
+    (c.before.before.before.before.before.before.count_of-rules.ensures rs h) c.before.before.before.before.before.if-rule-rules.false
+    (c.before.before.before.before.choose-chosen.ensures.0 rs _ h (part_bytes _ _ _)) c.if-chosen-len.true
 
-pub token-fault-spec : {M : Type 1} → statement M
-token-fault-spec =
+pub token_fault_spec : {M : Type 1} → statement M
+token_fault_spec =
     tie.close (tie.spec (λ c. search rules) (λ c. search rules) (λ c. search rules) returns (λ c. search rules) (λ c κs. search rules)
     (λ c κs. search rules) returns-2 (λ c. search rules) choose-requires returns-3 returns-4
     (λ c rs h. let k = c.before.before.before.before.before.before in
-    checked_other h _ _ (omega (arith, k.before.before.before.before.before.if1.false))
-    (k.before.before.before.find-tag.ensures rs h) (k.before.before.count_of.ensures rs h) k.before.if2.false
-    (k.choose.ensures.0 rs _ h (part_bytes _ _ _)) c.before.before.before.before.if3.false
-    c.before.before.if4.false c.if5.true)
+    checked_other h _ _ (omega (arith, k.before.before.before.before.before.if-pool-place.false))
+    (k.before.before.before.find_tag-rule.ensures rs h) (k.before.before.count_of-rules.ensures rs h) k.before.if-rule-rules.false
+    (k.choose-chosen.ensures.0 rs _ h (part_bytes _ _ _)) c.before.before.before.before.if-chosen-eq0.false
+    c.before.before.if-chosen-len.false c.if-chosen-rule.true)
     (λ c rs h. let k = c.before.before.before.before.before.before in
-    checked_same h _ _ (omega (arith, k.before.before.before.before.before.if1.false))
-    (k.before.before.before.find-tag.ensures rs h) (k.before.before.count_of.ensures rs h) k.before.if2.false
-    (k.choose.ensures.0 rs _ h (part_bytes _ _ _)) c.before.before.before.before.if3.false
-    c.before.before.if4.false c.if5.false))
+    checked_same h _ _ (omega (arith, k.before.before.before.before.before.if-pool-place.false))
+    (k.before.before.before.find_tag-rule.ensures rs h) (k.before.before.count_of-rules.ensures rs h) k.before.if-rule-rules.false
+    (k.choose-chosen.ensures.0 rs _ h (part_bytes _ _ _)) c.before.before.before.before.if-chosen-eq0.false
+    c.before.before.if-chosen-len.false c.if-chosen-rule.false))

@@ -7,42 +7,42 @@ use Rattle.token_list.proofs.Settling.{Spanning, spanning_start, spanning_outsid
 use Rattle.token_list.proofs.readback.measure.Statement.{statement}
 use Rattle.token_list.proofs.readback.measure.Tie as tie
 
-abbrev invariant-loop : tie.invariant-loop
+abbrev invariant-loop : tie.invariant-loop-k
 invariant-loop records pool count total₀ k₀ total k = Spanning records pool total k
 
-abbrev decreases-loop : tie.decreases-loop
+abbrev decreases-loop : tie.decreases-loop-k
 decreases-loop records pool count total₀ k₀ total k = record_count records - k
 
-loop-holds : tie.Need-loop-init invariant-loop decreases-loop
+loop-holds : tie.Need-loop-k-init invariant-loop decreases-loop
 loop-holds c = spanning_start _ _
 
-read-record-requires : tie.Need-read-record-requires invariant-loop decreases-loop
-read-record-requires c κs = omega (arith, c.loop-test.true)
+read-record-requires : tie.Need-read_record-token-requires invariant-loop decreases-loop
+read-record-requires c κs = omega (arith, c.loop-k-test.true)
 
-returns : tie.Need-returns invariant-loop decreases-loop
-returns c = spanning_outside c.before.before.before.before.before.loop.invariant c.before.before.before.before.loop-test.true
-    c.before.before.before.read-record.ensures c.if1.true
+returns : tie.Need-returns-then-pool-token invariant-loop decreases-loop
+returns c = spanning_outside c.before.before.before.before.before.loop-k.invariant c.before.before.before.before.loop-k-test.true
+    c.before.before.before.read_record-token.ensures c.if-pool-token.true
 
-returns-2 : tie.Need-returns-2 invariant-loop decreases-loop
-returns-2 c = spanning_long c.before.before.before.before.before.before.loop.invariant
-    c.before.before.before.before.before.loop-test.true c.before.before.before.before.read-record.ensures
-    c.before.if1.false c.if2.true
+returns-2 : tie.Need-returns-then-total-gt-TEXT invariant-loop decreases-loop
+returns-2 c = spanning_long c.before.before.before.before.before.before.loop-k.invariant
+    c.before.before.before.before.before.loop-k-test.true c.before.before.before.before.read_record-token.ensures
+    c.before.if-pool-token.false c.if-total-gt-TEXT.true
 
-add-k : tie.Need-overflow-add-k invariant-loop decreases-loop
-add-k c = omega (arith, c.before.before.before.before.before.loop-test.true)
+add-k : tie.Need-overflow_add-k invariant-loop decreases-loop
+add-k c = omega (arith, c.before.before.before.before.before.loop-k-test.true)
 
-loop-less : tie.Need-loop-smaller invariant-loop decreases-loop
-loop-less c = omega (arith, c.before.before.before.before.before.loop-test.true)
+loop-less : tie.Need-loop-k-smaller invariant-loop decreases-loop
+loop-less c = omega (arith, c.before.before.before.before.before.loop-k-test.true)
 
-loop-again : tie.Need-loop-preserved invariant-loop decreases-loop
-loop-again c = spanning_next c.before.before.before.before.before.before.loop.invariant
-    c.before.before.before.before.before.loop-test.true c.before.before.before.before.read-record.ensures
-    c.before.if1.false c.if2.false
+loop-again : tie.Need-loop-k-preserved invariant-loop decreases-loop
+loop-again c = spanning_next c.before.before.before.before.before.before.loop-k.invariant
+    c.before.before.before.before.before.loop-k-test.true c.before.before.before.before.read_record-token.ensures
+    c.before.if-pool-token.false c.if-total-gt-TEXT.false
 
-returns-3 : tie.Need-returns-3 invariant-loop decreases-loop
-returns-3 c = spanning_end c.before.loop.invariant c.loop-test.false
+returns-3 : tie.Need-returns invariant-loop decreases-loop
+returns-3 c = spanning_end c.before.loop-k.invariant c.loop-k-test.false
 
-pub measure-spec : {M : Type 1} → statement M
-measure-spec =
+pub measure_spec : {M : Type 1} → statement M
+measure_spec =
     tie.close (tie.spec invariant-loop decreases-loop loop-holds read-record-requires (λ c. search rules) (λ c. search rules) (λ c. search rules) returns
     (λ c. search rules) returns-2 add-k loop-less loop-again returns-3)

@@ -17,10 +17,10 @@ abbrev entry : tie.After-least → tie.Start
 entry c = c.before.before.before.before.before.before.before.before
 
 -- where they are
-abbrev asked : tie.After-run → tie.After-least
+abbrev asked : tie.After-run-turn → tie.After-least
 asked c = c.before.before.before.before
 
-returns : tie.Need-returns
+returns : tie.Need-returns-then-least-room
 returns c =
     let k = c.before in (
       λ rs h.
@@ -32,8 +32,8 @@ returns c =
               turn_paid state_count rs (held_sound h) text budget,
               simp length-drop at (turn_short rs text budget),
               k.least.ensures,
-              k.before.room.ensures,
-              c.if1.true,
+              k.before.room-room.ensures,
+              c.if-least-room.true,
             );
             fewer = λ p. absurd (omega arith);
             number = λ p. absurd (omega arith);
@@ -41,31 +41,31 @@ returns c =
       (refl, refl),
     )
 
-run-requires : tie.Need-run-requires
+run-requires : tie.Need-run-turn-requires
 run-requires c κs =
     let start = entry c.before.before.before in
-    record { held = start.pre.0; inside = start.pre.1; room = λ e. clash e refl }
+    record { held = start.requires.0; inside = start.requires.1; room = λ e. clash e refl }
 
 -- the tokens are counted, and nothing is written
-abbrev counted : tie.After-struct-known → tie.After-run
+abbrev counted : tie.After-struct_known-1 → tie.After-run-turn
 counted c = c.before.before.before.before.before
 
-abbrev held : (c : tie.After-run) → Held (entry (asked c)).args.table.now
+abbrev held : (c : tie.After-run-turn) → Held (entry (asked c)).args.table.now
 held c = (entry (asked c)).requires.0
 
-returns-2 : tie.Need-returns-2
+returns-2 : tie.Need-returns-then-turn-room
 returns-2 c = let run = counted c.before in (
-  λ rs h. lacks_none (run.run.ensures.0 rs h) (omega (arith, (asked run).before.room.ensures, c.if2.true)),
-  stores_nothing (run.run.ensures.1 (held run).rules (held run).holds),
+  λ rs h. lacks_none (run.run-turn.ensures.0 rs h) (omega (arith, (asked run).before.room-room.ensures, c.if-turn-room.true)),
+  stores_nothing (run.run-turn.ensures.1 (held run).rules (held run).holds),
 )
 
-returns-3 : tie.Need-returns-3
+returns-3 : tie.Need-returns
 returns-3 c = let run = counted c.before in (
-  λ rs h. lacks_some (run.run.ensures.0 rs h) (omega (arith, (asked run).before.room.ensures, c.if2.false)),
-  stores_nothing (run.run.ensures.1 (held run).rules (held run).holds),
+  λ rs h. lacks_some (run.run-turn.ensures.0 rs h) (omega (arith, (asked run).before.room-room.ensures, c.if-turn-room.false)),
+  stores_nothing (run.run-turn.ensures.1 (held run).rules (held run).holds),
 )
 
-pub lacking-spec : {M : Type 1} → statement M
-lacking-spec =
+pub lacking_spec : {M : Type 1} → statement M
+lacking_spec =
     tie.close (tie.spec (λ c κs. search rules) (λ c. search rules) (λ c κs. search rules) (λ c. search rules) (λ c. search rules) returns
     run-requires (λ c. search rules) (λ c. search rules) returns-2 (λ c. search rules) (λ c. search rules) returns-3)

@@ -5,27 +5,27 @@ use Rattle.automaton.proofs.Tests.{clash}
 use Rattle.turns.proofs.running.keep.Statement.{statement}
 use Rattle.turns.proofs.running.keep.Tie as tie
 
-put-record-requires : tie.Need-put-record-requires
-put-record-requires c κs = let k = c.before in k.before.before.before.requires.in_records k.if1.true
+put-record-requires : tie.Need-put_record-requires
+put-record-requires c κs = let k = c.before in k.before.before.before.requires.in_records k.if-writing.true
 
-put-mask-requires : tie.Need-put-mask-requires
-put-mask-requires c κs = let k = c.before.before.before.before.before in k.before.before.before.requires.in_masks k.if1.true
+put-mask-requires : tie.Need-put_mask-requires
+put-mask-requires c κs = let k = c.before.before.before.before.before in k.before.before.before.requires.in_masks k.if-writing.true
 
-returns : tie.Need-returns
+returns : tie.Need-returns-then-writing
 returns c =
     let masked = c.before.before in
     let stored = masked.before.before.before.before in
-    let yes = stored.before.before.if1.true in
+    let yes = stored.before.before.if-writing.true in
     record {
       stored = λ e. stored.put_record.ensures;
-      masked = λ e. masked.put-mask.ensures;
+      masked = λ e. masked.put_mask.ensures;
       left = λ e. clash yes e;
       masks_left = λ e. clash yes e;
     }
 
-returns-2 : tie.Need-returns-2
+returns-2 : tie.Need-returns-else-writing
 returns-2 c =
-    let no = c.if1.false in
+    let no = c.if-writing.false in
     record { stored = λ e. clash e no; masked = λ e. clash e no; left = λ e. refl; masks_left = λ e. refl }
 
 pub keep_spec : {M : Type 1} → statement M

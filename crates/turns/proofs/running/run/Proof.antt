@@ -16,49 +16,49 @@ use Rattle.turns.proofs.Taking.{running_stop, running_stores, turn-idle, next_tr
 use Rattle.turns.proofs.running.run.Statement.{statement}
 use Rattle.turns.proofs.running.run.Tie as tie
 
-abbrev invariant-loop : tie.invariant-loop
+abbrev invariant-loop : tie.invariant-loop-at
 invariant-loop writing table text place budget records₀ masks₀ lengths₀ tokens₀ at₀ left₀ records masks lengths tokens at left =
     (rs : List Rule) → Holds table rs → Running writing rs text place budget records₀ records masks₀ masks at left tokens
 
-abbrev decreases-loop : tie.decreases-loop
+abbrev decreases-loop : tie.decreases-loop-at
 decreases-loop writing table text place budget records₀ masks₀ lengths₀ tokens₀ at₀ left₀ records masks lengths tokens at left = length text - at
 
 -- the call, from the loop's head
-abbrev call : tie.At-loop invariant-loop decreases-loop → tie.Start invariant-loop decreases-loop
+abbrev call : tie.At-loop-at invariant-loop decreases-loop → tie.Start invariant-loop decreases-loop
 call c = c.before.before.before.before.before.before.before
 
 -- the loop's head, from where `next_token` has answered
-abbrev head : tie.After-struct-known invariant-loop decreases-loop → tie.At-loop invariant-loop decreases-loop
+abbrev head : tie.After-struct_known-1 invariant-loop decreases-loop → tie.At-loop-at invariant-loop decreases-loop
 head c = c.before.before.before.before
 
 -- by one list of rules that the table holds
-some : (c : tie.At-loop invariant-loop decreases-loop)
+some : (c : tie.At-loop-at invariant-loop decreases-loop)
     → Running (call c).args.writing (call c).requires.held.rules (call c).args.text.now (call c).args.place (call c).args.budget
-    (call c).args.records.now c.loop.records (call c).args.masks.now c.loop.masks c.loop.at c.loop.left
-    c.loop.tokens
-some c = c.loop.invariant (call c).requires.held.rules (call c).requires.held.holds
+    (call c).args.records.now c.loop-at.records (call c).args.masks.now c.loop-at.masks c.loop-at.at c.loop-at.left
+    c.loop-at.tokens
+some c = c.loop-at.invariant (call c).requires.held.rules (call c).requires.held.holds
 
-module _ (e : tie.Else2 invariant-loop decreases-loop) where
-  abbrev here : tie.At-loop invariant-loop decreases-loop
+module _ (e : tie.Else-not-n invariant-loop decreases-loop) where
+  abbrev here : tie.At-loop-at invariant-loop decreases-loop
   here = head e.before
 
   -- the reach fits
   next : (rs : List Rule) → Holds (call here).args.table.now rs
-      → Next rs (drop here.loop.at (call here).args.text.now) here.loop.left e.before.before.next-token.result.rule
-      e.before.before.next-token.result.len e.before.before.next-token.result.mask
-      e.before.before.next-token.result.paid true
-  next rs h = next_true (not-false _ e.if2.left) (e.before.before.next-token.ensures rs h)
+      → Next rs (drop here.loop-at.at (call here).args.text.now) here.loop-at.left e.before.before.next_token-n.result.rule
+      e.before.before.next_token-n.result.len e.before.before.next_token-n.result.mask
+      e.before.before.next_token-n.result.paid true
+  next rs h = next_true (not-false _ e.if-not-n.left) (e.before.before.next_token-n.ensures rs h)
 
-  one : Next (call here).pre.held.rules (drop here.loop.at (call here).args.text.now) here.loop.left
-      e.before.before.next-token.result.rule e.before.before.next-token.result.len
-      e.before.before.next-token.result.mask e.before.before.next-token.result.paid true
-  one = next (call here).pre.held.rules (call here).pre.held.holds
+  one : Next (call here).requires.held.rules (drop here.loop-at.at (call here).args.text.now) here.loop-at.left
+      e.before.before.next_token-n.result.rule e.before.before.next_token-n.result.len
+      e.before.before.next_token-n.result.mask e.before.before.next_token-n.result.paid true
+  one = next (call here).requires.held.rules (call here).requires.held.holds
 
-is-idle-requires : tie.Need-is-idle-requires invariant-loop decreases-loop
+is-idle-requires : tie.Need-is_idle-requires invariant-loop decreases-loop
 is-idle-requires c κs = c.before.before.before.before.requires.held
 
 -- before the first token
-begun : (c : tie.After-is-idle invariant-loop decreases-loop) (rs : List Rule) → let start = c.before.before.before.before.before in
+begun : (c : tie.After-is_idle invariant-loop decreases-loop) (rs : List Rule) → let start = c.before.before.before.before.before in
     Holds start.args.table.now rs
     → Running start.args.writing rs start.args.text.now start.args.place start.args.budget start.args.records.now
     start.args.records.now start.args.masks.now start.args.masks.now start.args.place start.args.budget 0
@@ -66,74 +66,74 @@ begun c rs h =
     let start = c.before.before.before.before.before in
     running_start _ rs _ _ _ _ _ start.requires.inside (λ b. start.requires.room b rs h)
 
-returns : tie.Need-returns invariant-loop decreases-loop
+returns : tie.Need-returns-then-is_idle invariant-loop decreases-loop
 returns c = let asked = c.before in (
   λ rs h. running_stop (begun asked rs h)
-      (turn-idle state_count rs (held_sound h) (sym (asked.is-idle.ensures rs h) ∙ c.if1.true) _ _) (omega arith),
+      (turn-idle state_count rs (held_sound h) (sym (asked.is_idle.ensures rs h) ∙ c.if-is_idle.true) _ _) (omega arith),
   λ rs h. running_stores (begun asked rs h)
-      (turn-idle state_count rs (held_sound h) (sym (asked.is-idle.ensures rs h) ∙ c.if1.true) _ _),
+      (turn-idle state_count rs (held_sound h) (sym (asked.is_idle.ensures rs h) ∙ c.if-is_idle.true) _ _),
 )
 
-loop-holds : tie.Need-loop-init invariant-loop decreases-loop
+loop-holds : tie.Need-loop-at-init invariant-loop decreases-loop
 loop-holds c = begun c.before
 
-next-token-requires : tie.Need-next-token-requires invariant-loop decreases-loop
+next-token-requires : tie.Need-next_token-n-requires invariant-loop decreases-loop
 next-token-requires c κs =
     let at_head = c.before.before in
     let busy = at_head.before in
-    ((call at_head).requires.held, (λ rs h. sym (busy.before.is-idle.ensures rs h) ∙ busy.if1.false, c.before.loop-test.true))
+    ((call at_head).requires.held, (λ rs h. sym (busy.before.is_idle.ensures rs h) ∙ busy.if-is_idle.false, c.before.loop-at-test.true))
 
-sub-t19 : tie.Need-overflow-sub-t19 invariant-loop decreases-loop
+sub-t19 : tie.Need-overflow_sub-result invariant-loop decreases-loop
 sub-t19 c = (some (head c.before)).pays.affords
 
-same_length : tie.Need-same-length invariant-loop decreases-loop
+same_length : tie.Need-shape_of-records-then-not-n invariant-loop decreases-loop
 same_length c = running_same (some (head c.before))
 
-same-length-2 : tie.Need-same-length-2 invariant-loop decreases-loop
+same-length-2 : tie.Need-shape_of-masks-then-not-n invariant-loop decreases-loop
 same-length-2 c = running_masks_same (some (head c.before))
 
-returns-2 : tie.Need-returns-2 invariant-loop decreases-loop
+returns-2 : tie.Need-returns-then-not-n invariant-loop decreases-loop
 returns-2 c =
     let inv = (head c.before).loop.inv in
-    let no = not-true _ c.if2.true in (
-      λ rs h. running_stop (inv rs h) (turn-spent rs _ _ ((c.before.before.next-token.ensures rs h).larger no)) (omega arith),
-      λ rs h. running_stores (inv rs h) (turn-spent rs _ _ ((c.before.before.next-token.ensures rs h).larger no)),
+    let no = not-true _ c.if-not-n.true in (
+      λ rs h. running_stop (inv rs h) (turn-spent rs _ _ ((c.before.before.next_token-n.ensures rs h).larger no)) (omega arith),
+      λ rs h. running_stores (inv rs h) (turn-spent rs _ _ ((c.before.before.next_token-n.ensures rs h).larger no)),
     )
 
-sub-left : tie.Need-overflow-sub-left invariant-loop decreases-loop
+sub-left : tie.Need-overflow_sub-left invariant-loop decreases-loop
 sub-left c = (one c.before).within refl
 
-sub-t20 : tie.Need-overflow-sub-t20 invariant-loop decreases-loop
+sub-t20 : tie.Need-overflow_sub-result-then-n-eq0 invariant-loop decreases-loop
 sub-t20 c = omega (arith, (some (here c.before.before.before)).pays.affords)
 
-same-length-3 : tie.Need-same-length-3 invariant-loop decreases-loop
+same-length-3 : tie.Need-shape_of-records-then-n-eq0 invariant-loop decreases-loop
 same-length-3 c = running_same (some (here c.before.before.before))
 
-same-length-4 : tie.Need-same-length-4 invariant-loop decreases-loop
+same-length-4 : tie.Need-shape_of-masks-then-n-eq0 invariant-loop decreases-loop
 same-length-4 c = running_masks_same (some (here c.before.before.before))
 
-returns-3 : tie.Need-returns-3 invariant-loop decreases-loop
+returns-3 : tie.Need-returns-then-n-eq0 invariant-loop decreases-loop
 returns-3 c =
     let e = c.before.before.before in
     let inv = (here e).loop.invariant in
     let text = (call (here e)).args.text.now in
     let at = (here e).loop.at in (
-      λ rs h. running_stop (inv rs h) (turn_stops text at (next e rs h) c.if3.true)
+      λ rs h. running_stop (inv rs h) (turn_stops text at (next e rs h) c.if-n-eq0.true)
           (omega (arith, (one e).within refl, (some (here e)).pays.affords)),
-      λ rs h. running_stores (inv rs h) (turn_stops text at (next e rs h) c.if3.true),
+      λ rs h. running_stores (inv rs h) (turn_stops text at (next e rs h) c.if-n-eq0.true),
     )
 
 -- where something is chosen
-abbrev fitting : tie.Else3 invariant-loop decreases-loop → tie.Else2 invariant-loop decreases-loop
+abbrev fitting : tie.Else-n-eq0 invariant-loop decreases-loop → tie.Else-not-n invariant-loop decreases-loop
 fitting c = c.before.before.before
 
-more : (c : tie.Else3 invariant-loop decreases-loop)
-    → (here (fitting c)).loop.at + (fitting c).before.before.next-token.result.len ≤ length (call (here (fitting c))).args.text.now
+more : (c : tie.Else-n-eq0 invariant-loop decreases-loop)
+    → (here (fitting c)).loop.at + (fitting c).before.before.next_token-n.result.len ≤ length (call (here (fitting c))).args.text.now
 more c = running_within (some (here (fitting c))) (one (fitting c)) (omega arith)
 
-tag-of-requires : tie.Need-tag-of-requires invariant-loop decreases-loop
+tag-of-requires : tie.Need-tag_of-tag-requires invariant-loop decreases-loop
 tag-of-requires c κs =
-    let held = (call (here (fitting c))).pre.held in
+    let held = (call (here (fitting c))).requires.held in
     record { rule = _; table = held.holds.each _ (((one (fitting c)).chooses refl).known (omega arith)) }
 
 keep-requires : tie.Need-keep-requires invariant-loop decreases-loop
@@ -142,43 +142,43 @@ keep-requires c κs =
     running_room (some (here (fitting e))) (one (fitting e)) (omega arith)
 
 -- from the end of the turn
-abbrev chosen : tie.After-slice-known4 invariant-loop decreases-loop → tie.Else3 invariant-loop decreases-loop
+abbrev chosen : tie.After-slice_known-in-loop-at-2-1 invariant-loop decreases-loop → tie.Else-n-eq0 invariant-loop decreases-loop
 chosen c = c.before.before.before.before.before.before.before.before
 
-add-tokens : tie.Need-overflow-add-tokens invariant-loop decreases-loop
+add-tokens : tie.Need-overflow_add-tokens invariant-loop decreases-loop
 add-tokens c =
     let l = here (fitting (chosen c)) in
     omega (arith, more (chosen c), (some l).pays.few, (some l).pays.within, (call l).good)
 
-add_at : tie.Need-overflow-add-at invariant-loop decreases-loop
+add_at : tie.Need-overflow_add-at invariant-loop decreases-loop
 add_at c = omega (arith, more (chosen c), (call (here (fitting (chosen c)))).good)
 
-loop-less : tie.Need-loop-smaller invariant-loop decreases-loop
+loop-less : tie.Need-loop-at-smaller invariant-loop decreases-loop
 loop-less c = omega (arith, more (chosen c))
 
-loop-again : tie.Need-loop-preserved invariant-loop decreases-loop
+loop-again : tie.Need-loop-at-preserved invariant-loop decreases-loop
 loop-again c = λ rs h.
     let e = fitting (chosen c) in
     let kept = c.before.before.before.before in
     running_next ((here e).loop.inv rs h) (next e rs h) (omega arith)
-    (kept.before.before.before.tag_of.ensures _ (h.each _ (((next e rs h).chooses refl).known (omega arith)))) kept.keep.ensures
+    (kept.before.before.before.tag_of-tag.ensures _ (h.each _ (((next e rs h).chooses refl).known (omega arith)))) kept.keep.ensures
 
-sub-t26 : tie.Need-overflow-sub-t26 invariant-loop decreases-loop
+sub-t26 : tie.Need-overflow_sub-result-2 invariant-loop decreases-loop
 sub-t26 c = (some c.before).pays.affords
 
-same-length-5 : tie.Need-same-length-5 invariant-loop decreases-loop
+same-length-5 : tie.Need-shape_of-records invariant-loop decreases-loop
 same-length-5 c = running_same (some c.before)
 
-same-length-6 : tie.Need-same-length-6 invariant-loop decreases-loop
+same-length-6 : tie.Need-shape_of-masks invariant-loop decreases-loop
 same-length-6 c = running_masks_same (some c.before)
 
-ended : (c : tie.After-loop invariant-loop decreases-loop) → length (call c.before).args.text.now ≤ c.before.loop.at
+ended : (c : tie.After-loop-at invariant-loop decreases-loop) → length (call c.before).args.text.now ≤ c.before.loop-at.at
 ended c = omega arith
 
-returns-4 : tie.Need-returns-4 invariant-loop decreases-loop
+returns-4 : tie.Need-returns invariant-loop decreases-loop
 returns-4 c = (
-  λ rs h. running_stop (c.before.loop.invariant rs h) (turn-past rs _ _ _ (ended c)) (omega arith),
-  λ rs h. running_stores (c.before.loop.invariant rs h) (turn-past rs _ _ _ (ended c)),
+  λ rs h. running_stop (c.before.loop-at.invariant rs h) (turn-past rs _ _ _ (ended c)) (omega arith),
+  λ rs h. running_stores (c.before.loop-at.invariant rs h) (turn-past rs _ _ _ (ended c)),
 )
 
 pub run_spec : {M : Type 1} → statement M

@@ -15,31 +15,31 @@ use Rattle.used_bytes.proofs.Waiting.{waits_leading}
 use Rattle.used_bytes.proofs.releasing.release.Statement.{statement}
 use Rattle.used_bytes.proofs.releasing.release.Tie as tie
 
-abbrev invariant-loop : tie.invariant-loop
+abbrev invariant-loop : tie.invariant-loop-next
 invariant-loop waiting rows s good₀ stamp queue₀ set₀ head n₀ next₀ good queue set n next = (bound : ℕ) (base : List ℕ)
     → Worklist bound good₀ stamp queue₀ n₀ base → (end : ℕ) (us : List Transition) → Built waiting rows stamp edge_start end [] us
     → Releasing bound us stamp base (queued queue₀ n₀ base) set₀ good queue set n next
 
-abbrev decreases-loop : tie.decreases-loop
+abbrev decreases-loop : tie.decreases-loop-next
 decreases-loop waiting rows s good₀ stamp queue₀ set₀ head n₀ next₀ good queue set n next = state_count - next
 
 -- ---- before the loop
 
-let-go-requires : tie.Need-let-go-requires invariant-loop decreases-loop
+let-go-requires : tie.Need-let_go-n-requires invariant-loop decreases-loop
 let-go-requires c κs =
     let a = c.before.before.before.before.before.before.before.before.requires in
-    (a.0, waits_leading a.1 a.2 c.before.before.before.head.ensures, a.3, a.4)
+    (a.0, waits_leading a.1 a.2 c.before.before.before.head-head.ensures, a.3, a.4)
 
 abbrev Opened : Type 0
-Opened = tie.After-slice-known4 invariant-loop decreases-loop
+Opened = tie.After-slice_known-4-1 invariant-loop decreases-loop
 
 abbrev entry : Opened → tie.Start invariant-loop decreases-loop
 entry c = c.before.before.before.before.before.before.before.before.before.before.before.before.before
 
-abbrev call : Opened → tie.After-let-go invariant-loop decreases-loop
+abbrev call : Opened → tie.After-let_go-n invariant-loop decreases-loop
 call c = c.before.before.before.before
 
-abbrev headed : Opened → tie.After-head invariant-loop decreases-loop
+abbrev headed : Opened → tie.After-head-head invariant-loop decreases-loop
 headed c = c.before.before.before.before.before.before.before.before
 
 -- what the first `let_go` answered
@@ -63,91 +63,91 @@ first c =
     let a = (entry c).requires in
     opened c a.0 a.3.base a.3.worklist a.1.end a.1.transitions a.1.built
 
-loop-holds : tie.Need-loop-init invariant-loop decreases-loop
+loop-holds : tie.Need-loop-next-init invariant-loop decreases-loop
 loop-holds c = λ bound base w end us k. releasing_start w (first c).marks.size
 
 -- ---- a turn
 
 abbrev Turn : Type 0
-Turn = tie.In-loop invariant-loop decreases-loop
+Turn = tie.In-loop-next invariant-loop decreases-loop
 
 abbrev start : Turn → Opened
 start c = c.before.before
 
 -- of the states and the transitions that are known to be there
-known : (c : Turn) → Releasing (entry (start c)).pre.0 (entry (start c)).pre.1.transitions (entry (start c)).args.stamp
-    (entry (start c)).pre.3.base
-    (queued (call (start c)).let_go.last.1.1.1.1.0 (call (start c)).let_go.result (entry (start c)).pre.3.base)
-    (call (start c)).let_go.last.1.1.1.1.1.1.0 c.before.loop.good c.before.loop.queue c.before.loop.set
-    c.before.loop.n c.before.loop.next
+known : (c : Turn) → Releasing (entry (start c)).requires.0 (entry (start c)).requires.1.transitions (entry (start c)).args.stamp
+    (entry (start c)).requires.3.base
+    (queued (call (start c)).let_go.last.1.1.1.1.0 (call (start c)).let_go.result (entry (start c)).requires.3.base)
+    (call (start c)).let_go.last.1.1.1.1.1.1.0 c.before.loop-next.good-1 c.before.loop-next.queue-1 c.before.loop-next.set
+    c.before.loop-next.n c.before.loop-next.next
 known c =
-    let a = (entry (start c)).pre in
-    c.before.loop.invariant a.0 a.3.base (first (start c)).follows.worklist a.1.end a.1.transitions a.1.built
+    let a = (entry (start c)).requires in
+    c.before.loop-next.invariant a.0 a.3.base (first (start c)).follows.worklist a.1.end a.1.transitions a.1.built
 
-inside : (c : Turn) → c.before.loop.next < length c.before.loop.queue
+inside : (c : Turn) → c.before.loop-next.next < length c.before.loop-next.queue-1
 inside c = omega (arith, (worklist_most (known c).worklist).0)
 
-few : (c : Turn) → c.before.loop.next < state_count
+few : (c : Turn) → c.before.loop-next.next < state_count
 few c = omega (arith, inside c, (worklist_most (known c).worklist).1)
 
-mul-state : tie.Need-overflow-mul-state invariant-loop decreases-loop
+mul-state : tie.Need-offset_bounds-queue-next invariant-loop decreases-loop
 mul-state c = omega (arith, few c)
 
-slice-read-state : tie.Need-slice-read-state invariant-loop decreases-loop
+slice-read-state : tie.Need-bounds-queue-next invariant-loop decreases-loop
 slice-read-state c = inside c.before
 
-add-next : tie.Need-overflow-add-next invariant-loop decreases-loop
+add-next : tie.Need-overflow_add-next invariant-loop decreases-loop
 add-next c = omega (arith, few c.before.before)
 
-abbrev turn : tie.After-state invariant-loop decreases-loop → Turn
+abbrev turn : tie.After-state-x invariant-loop decreases-loop → Turn
 turn c = c.before.before
 
 -- the next state
-below : (c : tie.After-state invariant-loop decreases-loop) → c.state.result < (entry (start (turn c))).pre.0
-below c = omega (arith, c.state.ensures, releasing_below (known (turn c)) (turn c).loop-test.true)
+below : (c : tie.After-state-x invariant-loop decreases-loop) → c.state-x.result < (entry (start (turn c))).requires.0
+below c = omega (arith, c.state-x.ensures, releasing_below (known (turn c)) (turn c).loop-test.true)
 
-let-go-requires-2 : tie.Need-let-go-requires-2 invariant-loop decreases-loop
+let-go-requires-2 : tie.Need-let_go-n-requires-in-loop-next invariant-loop decreases-loop
 let-go-requires-2 c κs =
     let k = c.before.before.before.before in
-    let a = (entry (start (turn k))).pre in
+    let a = (entry (start (turn k))).requires in
     let v = known (turn k) in (
       a.0,
-      waits_leading a.1 (below k) c.before.before.before.head2.ensures,
+      waits_leading a.1 (below k) c.before.before.before.head-first.ensures,
       record { base = a.3.base; worklist = v.worklist },
       v.size,
     )
 
-loop-less : tie.Need-loop-smaller invariant-loop decreases-loop
+loop-less : tie.Need-loop-next-smaller invariant-loop decreases-loop
 loop-less c = omega (arith, few c.before.before.before.before.before.before.before.before.before.before.before)
 
-loop-again : tie.Need-loop-preserved invariant-loop decreases-loop
+loop-again : tie.Need-loop-next-preserved invariant-loop decreases-loop
 loop-again c = λ bound base w end us k.
     let q = c.before.before.before.before.before.before.before.before.before in
-    let v = (turn q).before.loop.invariant bound base w end us k in
-    releasing_next v (turn q).loop-test.true q.state.ensures
-    (c.before.before.before.before.let-go2.ensures bound base v.worklist edge_start (leaving q.state.result us)
-    (waits_chain k (omega (arith, below q, (entry (start (turn q))).pre.1.within))
-    c.before.before.before.before.before.before.before.before.head2.ensures))
+    let v = (turn q).before.loop-next.invariant bound base w end us k in
+    releasing_next v (turn q).loop-test.true q.state-x.ensures
+    (c.before.before.before.before.let_go-n-in-loop-next.ensures bound base v.worklist edge_start (leaving q.state-x.result us)
+    (waits_chain k (omega (arith, below q, (entry (start (turn q))).requires.1.within))
+    c.before.before.before.before.before.before.before.before.head-first.ensures))
 
 -- ---- at the end
 
-after : (c : tie.After-loop invariant-loop decreases-loop) → Worklist (entry c.before.before).pre.0 c.before.loop.good
-    (entry c.before.before).args.stamp c.before.loop.queue c.before.loop.n (entry c.before.before).pre.3.base
+after : (c : tie.After-loop-next invariant-loop decreases-loop) → Worklist (entry c.before.before).requires.0 c.before.loop-next.good
+    (entry c.before.before).args.stamp c.before.loop-next.queue c.before.loop-next.n (entry c.before.before).requires.3.base
 after c =
-    let a = (entry c.before.before).pre in
-    (c.before.loop.invariant a.0 a.3.base (first c.before.before).follows.worklist a.1.end a.1.transitions a.1.built
+    let a = (entry c.before.before).requires in
+    (c.before.loop-next.invariant a.0 a.3.base (first c.before.before).follows.worklist a.1.end a.1.transitions a.1.built
     ).worklist
 
-same_length : tie.Need-same-length invariant-loop decreases-loop
-same_length c = (after c).cells ∙ sym (entry c.before.before).pre.3.worklist.cells
+same_length : tie.Need-shape_of-good invariant-loop decreases-loop
+same_length c = (after c).cells ∙ sym (entry c.before.before).requires.3.worklist.cells
 
-same-length-2 : tie.Need-same-length-2 invariant-loop decreases-loop
-same-length-2 c = (after c).slots ∙ sym (entry c.before.before).pre.3.worklist.slots
+same-length-2 : tie.Need-shape_of-queue invariant-loop decreases-loop
+same-length-2 c = (after c).slots ∙ sym (entry c.before.before).requires.3.worklist.slots
 
 returns : tie.Need-returns invariant-loop decreases-loop
 returns c = λ bound base w a end us k.
     let v = opened c.before.before bound base w end us k in
-    releasing_end v (c.before.loop.invariant bound base v.follows.worklist end us k) c.loop-test.false a
+    releasing_end v (c.before.loop-next.invariant bound base v.follows.worklist end us k) c.loop-next-test.false a
 
 pub release_spec : {M : Type 1} → statement M
 release_spec =

@@ -14,7 +14,7 @@ use Rattle.used_bytes.proofs.sweeping.gain.Tie as tie
 
 -- where it is said, from the start
 abbrev Said : Type 0
-Said = tie.Then1
+Said = tie.Then-said
 
 abbrev entry : Said → tie.Start
 entry c = c.before.before.before.before.before
@@ -29,29 +29,29 @@ release-requires c κs =
     let a = (entry c.before.before.before.before.before).requires in
     (a.bound, a.waits, a.below, record { base = _; worklist = worklist_gain a.working.worklist _ a.below }, a.size)
 
-same_length : tie.Need-same-length
+same_length : tie.Need-shape_of-good-then-head-ne0
 same_length c =
     let a = (entry c.before.before.before.before.before.before.before.before.before.before).args in
-    c.before.before.before.before.release.auto.1.1.1.0 ∙ length-set a.good.now a.s a.stamp
+    c.before.before.before.before.release.auto.1.1.1.0 ∙ length-set a.good-1.now a.s a.stamp
 
-returns : tie.Need-returns
+returns : tie.Need-returns-then-head-ne0
 returns c = λ bound m end gs us w e.
     let k = c.before.before.before.before.before.before.before.before.before.before in
     let s = (entry k).args.s in
-    gains_said w s (e k.if1.true)
+    gains_said w s (e k.if-said.true)
     (c.before.before.before.before.release.ensures bound (noted gs s) (worklist_gain w.worklist s (below k w.worklist))
     (noted_here gs s) end us w.waiting.built)
 
-returns-2 : tie.Need-returns-2
+returns-2 : tie.Need-returns-else-head-ne0
 returns-2 c = λ bound m end gs us w e.
     let k = c.before.before in
-    gains_said w _ (e k.if1.true) (gain_alone w.worklist _ (below k w.worklist) w.waiting.built c.before.head.ensures
-    c.if2.false (entry k).requires.size)
+    gains_said w _ (e k.if-said.true) (gain_alone w.worklist _ (below k w.worklist) w.waiting.built c.before.head.ensures
+    c.if-head-ne0.false (entry k).requires.size)
 
-returns-3 : tie.Need-returns-3
-returns-3 c = λ bound m end gs us w e. gains_not w _ c.if1.false
+returns-3 : tie.Need-returns-else-said
+returns-3 c = λ bound m end gs us w e. gains_not w _ c.if-said.false
 
-pub gain-spec : {M : Type 1} → statement M
-gain-spec =
+pub gain_spec : {M : Type 1} → statement M
+gain_spec =
     tie.close (tie.spec (λ c. search rules) (λ c κs. search rules) release-requires same_length (λ c. search rules) returns
     (λ c. search rules) returns-2 returns-3)
