@@ -33,7 +33,7 @@ put-edge-requires : tie.Need-put_edge-requires
 put-edge-requires c κs = (
   c.requires.1.0,
   rw (c.head-head.ensures, c.stamp-stamp.ensures)
-      (omega (arith, c.requires.0.tops c.args.step.from (from_below (there c)), c.requires.0.short)),
+      (omega (arith, c.requires.0.tops c.args.step.from (from_below (there c.before.before)), c.requires.0.short)),
 )
 
 returns-4 : tie.Need-returns
