@@ -1,6 +1,7 @@
 -- `fill_row`: the invariant is `Filling`. Assumes nothing.
 use mathlib.Core.Path.{◌≡◌, sym, ◌∙◌}
-use Prim.Native.Nat.{◌+◌, ◌-◌, ◌≤◌}
+use mathlib.Core.List.{List}
+use Prim.Native.Nat.{ℕ, ◌+◌, ◌-◌, ◌≤◌}
 use native.Mathlib.Omega.{arith}
 use lib.ListN.{length, set, length-map, length-set}
 use Rattle.subsets.specs.States.{sets_ahead}
@@ -15,8 +16,8 @@ invariant-loop ahead takers sets₀ count targets₀ at last₀ b₀ sets target
 abbrev decreases-loop : tie.decreases-loop-b
 decreases-loop ahead takers sets₀ count targets₀ at last₀ b₀ sets targets last b = 256 - b
 
-long : (c : tie.At-loop-b invariant-loop decreases-loop) → length (sets_ahead c.args.takers.now c.args.ahead) ≡ 256
-long c = length-map c.args.takers.now _ ∙ c.requires.1
+long : (takers : List ℕ) (ahead : ℕ) → length takers ≡ 256 → length (sets_ahead takers ahead) ≡ 256
+long takers ahead l = length-map takers _ ∙ l
 
 loop-holds : tie.Need-loop-b-init invariant-loop decreases-loop
 loop-holds c =
@@ -42,7 +43,7 @@ cast-targets c =
 
 add-targets : tie.Need-overflow_add-targets invariant-loop decreases-loop
 add-targets c =
-    omega (arith, c.loop-b-test.true, c.requires.3, c.good)
+    omega (arith, c.loop-b-test.true, c.requires.3)
 
 slice-write-targets : tie.Need-bounds-targets-at invariant-loop decreases-loop
 slice-write-targets c =
@@ -59,25 +60,24 @@ turned : (c : tie.After-struct_known-in-loop-b-1 invariant-loop decreases-loop)
     c.learn-last.result.number)
     c.learn-last.result (c.loop-b.b + 1)
 turned c =
-    let s = c in
-    filling_next c.loop-b.invariant.0 (long c) s.requires.2 c.loop-b-test.true s.requires.3
-    (sym (row_at_lem s.args.takers.now s.args.ahead c.loop-b.b)) c.learn-last.ensures
+    filling_next c.loop-b.invariant.0 (long _ c.args.ahead c.requires.1) c.requires.2 c.loop-b-test.true c.requires.3
+    (sym (row_at_lem c.args.takers.now c.args.ahead c.loop-b.b)) c.learn-last.ensures
 
 same_length : tie.Need-shape_of-sets-then-last-gt254 invariant-loop decreases-loop
-same_length c = (turned c).same
+same_length c = (turned c.before).same
 
 same-length-2 : tie.Need-shape_of-targets-then-last-gt254 invariant-loop decreases-loop
 same-length-2 c = simp length-set c.loop-b.invariant.0.size
 
 returns : tie.Need-returns-then-last-gt254 invariant-loop decreases-loop
 returns c =
-    filling_many (turned c) (long c) c.requires.2 c.if-last-gt254.true (same-length-2 c)
+    filling_many (turned c.before) (long _ c.args.ahead c.requires.1) c.requires.2 c.if-last-gt254.true (same-length-2 c)
 
 loop-less : tie.Need-loop-b-smaller invariant-loop decreases-loop
 loop-less c = omega (arith, c.loop-b-test.true)
 
 loop-again : tie.Need-loop-b-preserved invariant-loop decreases-loop
-loop-again c = (turned c, c.if-last-gt254.false)
+loop-again c = (turned c.before, c.if-last-gt254.false)
 
 same-length-3 : tie.Need-shape_of-sets invariant-loop decreases-loop
 same-length-3 c = c.loop-b.invariant.0.same
@@ -88,7 +88,7 @@ same-length-4 c = c.loop-b.invariant.0.size
 returns-2 : tie.Need-returns invariant-loop decreases-loop
 returns-2 c =
     let w = c.loop-b.invariant in
-    filling_end w.0 (long c) c.requires.2 w.1 c.loop-b-test.false
+    filling_end w.0 (long _ c.args.ahead c.requires.1) c.requires.2 w.1 c.loop-b-test.false
 
 pub fill_row_spec : {M : Type 1} → statement M
 fill_row_spec =

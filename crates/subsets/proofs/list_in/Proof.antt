@@ -33,7 +33,7 @@ cast-put-if c = omega (arith, c.loop-k-test.true, c.requires)
 
 put-if-requires-2 : tie.Need-put_if-n-requires-in-loop-k invariant-loop decreases-loop
 put-if-requires-2 c κs =
-    omega (arith, c.loop-k-test.true, c.requires, c.loop-c.invariant.few, c.loop-c.invariant.size)
+    omega (arith, c.loop-k-test.true, c.requires, c.loop-k.invariant.few, c.loop-k.invariant.size)
 
 add-k : tie.Need-overflow_add-k-in-loop-k invariant-loop decreases-loop
 add-k c =
@@ -45,14 +45,14 @@ loop-less c =
 
 loop-again : tie.Need-loop-k-preserved invariant-loop decreases-loop
 loop-again c =
-    listing_next c.loop-c.invariant c.loop-k-test.true c.put_if-n-in-loop-c.ensures
+    listing_next c.loop-k.invariant c.loop-k-test.true c.put_if-n-in-loop-k.ensures
 
 same_length : tie.Need-shape_of-finals invariant-loop decreases-loop
-same_length c = c.loop-c.invariant.size ∙ sym c.requires.2
+same_length c = c.loop-k.invariant.size ∙ sym c.requires.2
 
 returns : tie.Need-returns invariant-loop decreases-loop
 returns c =
-    let w = c.loop-c.invariant in
+    let w = c.loop-k.invariant in
     let p = c.requires in
     (omega (arith, w.few, w.within), listing-end w p.0 p.1 c.loop-k-test.false)
 
