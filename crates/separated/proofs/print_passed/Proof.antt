@@ -13,7 +13,7 @@ write-from-requires : tie.Need-write_from-requires
 write-from-requires c κs =
     (
       ((c.put_list.ensures c.requires.0.held.rules c.requires.0.held.holds).at _
-          c.at-1.given.1).within,
+          c.in-At.is).within,
       omega (arith, c.put_list.auto.1.1.1.1.1.0, c.requires.1.short),
     )
 
@@ -21,7 +21,7 @@ returns : tie.Need-returns-in-At
 returns c =
     λ rs h. answered_at
     (spelled rs c.args.separator c.args.mode c.args.records.now c.args.pool.now)
-    c.args.out.now (c.put_list.ensures rs h) c.at-1.given.1
+    c.args.out.now (c.put_list.ensures rs h) c.in-At.is
     c.write_from.ensures
 
 returns-2 : tie.Need-returns-in-Full
