@@ -1,49 +1,74 @@
 // Runs the book reader over the cases of standard input, the examples and edges of document 01, and prints what it answers, a
 // line for each book.
-use answer::BookAnswer;
-use libc::{STDIN_FILENO, STDOUT_FILENO};
+#![tactic(auto)]
 
-fn main() {
+use answer::BookAnswer;
+use std::io;
+use std::io::{Read, Write};
+
+fn main(rt: HostRuntime) -> io::Result<()> {
     let mut room = [0u8; 80000];
-    run(&mut room);
+    run(&rt, &mut room)
 }
 
-fn run(room: &mut [u8; 80000]) {
-    let text = read(room);
-    cases(room, text);
+fn run(rt: &HostRuntime, room: &mut [u8; 80000]) -> io::Result<()> {
+    let text = read(rt, room);
+    cases(rt, room, text)
 }
 
 // Reads standard input to the front of `room` and ends its last line; where the text ends.
-fn read(room: &mut [u8]) -> usize {
-    let text = io::read_full(STDIN_FILENO, room);
+fn read(rt: &HostRuntime, room: &mut [u8]) -> usize {
+    let text = read_full(rt, room);
     put(room, text, b'\n')
 }
 
+// Reads until the room is full, or no more comes.
+fn read_full(rt: &HostRuntime, room: &mut [u8]) -> usize {
+    let mut input = rt.stdin();
+    let mut done = 0;
+    while done < room.len() {
+        match input.read(&mut room[done..]) {
+            Ok(0) => break,
+            Ok(n) => done += n,
+            Err(_) => break,
+        }
+    }
+    done
+}
+
 // The books are made behind the text, each in the place of the one before, which ends at `book`.
-fn cases(room: &mut [u8], text: usize) {
+fn cases(rt: &HostRuntime, room: &mut [u8], text: usize) -> io::Result<()> {
     let mut start = 0;
     let mut book = text;
     let mut i = 0;
     while i < text {
         i += 1;
         if get(room, i - 1) == b'\n' {
-            book = line(room, start, i - 1, text, book);
+            book = line(rt, room, start, i - 1, text, book)?;
             start = i;
         }
     }
+    Ok(())
 }
 
 // Answers where the last book ends, 0 where the line has none.
-fn line(room: &mut [u8], start: usize, end: usize, text: usize, book: usize) -> usize {
+fn line(
+    rt: &HostRuntime,
+    room: &mut [u8],
+    start: usize,
+    end: usize,
+    text: usize,
+    book: usize,
+) -> io::Result<usize> {
     let first = get(room, start);
     if first == b'#' || first == b'\n' {
-        return book;
+        return Ok(book);
     }
     let mark = find_mark(room, start, end);
-    write_name(room, start, mark);
+    write_name(rt, room, start, mark)?;
     let to = make(room, mark, end, text, book);
-    answer(room, text, to);
-    to
+    answer(rt, room, text, to)?;
+    Ok(to)
 }
 
 // The place of the first mark, or `end`.
@@ -209,38 +234,33 @@ fn put(room: &mut [u8], at: usize, byte: u8) -> usize {
 }
 
 // A name ends a blank before its mark.
-fn write_name(room: &[u8], start: usize, mark: usize) {
+fn write_name(rt: &HostRuntime, room: &[u8], start: usize, mark: usize) -> io::Result<()> {
     if mark > room.len() {
-        return;
+        return Ok(());
     }
     if start < mark {
-        io::write_all(STDOUT_FILENO, &room[start..mark - 1]);
+        return io::writer(rt).write_all(&room[start..mark - 1]);
     }
+    Ok(())
 }
 
-fn answer(room: &[u8], from: usize, to: usize) {
+fn answer(rt: &HostRuntime, room: &[u8], from: usize, to: usize) -> io::Result<()> {
     if to > room.len() {
-        return;
+        return Ok(());
     }
     if from > to {
-        io::write_all(STDOUT_FILENO, b": not a case\n");
-        return;
+        return println!(rt; ": not a case");
     }
-    print(book_reader::read(&room[from..to]));
+    print(rt, book_reader::read(&room[from..to]))
 }
 
-fn print(answer: BookAnswer) {
+fn print(rt: &HostRuntime, answer: BookAnswer) -> io::Result<()> {
     match answer {
-        BookAnswer::Accepted(rules) => print_number(b": accepted ", rules as u64),
+        BookAnswer::Accepted(rules) => println!(rt; ": accepted {rules}"),
         BookAnswer::Refused(refusal) => {
-            print_number(b": refused ", refusal.number as u64);
-            print_number(b" ", refusal.place as u64);
+            let number = refusal.number;
+            let place = refusal.place;
+            println!(rt; ": refused {number} {place}")
         }
     }
-    io::write_all(STDOUT_FILENO, b"\n");
-}
-
-fn print_number(before: &[u8], n: u64) {
-    io::write_all(STDOUT_FILENO, before);
-    io::print_decimal(STDOUT_FILENO, n);
 }

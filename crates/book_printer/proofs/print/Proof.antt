@@ -3,7 +3,7 @@ use Rattle.book_printer.proofs.print.Statement.{statement}
 use Rattle.book_printer.proofs.print.Tie as tie
 
 print-short-requires : tie.Need-print_short-requires
-print-short-requires c κs = c.before.before.is_short.ensures c.before.if-is_short.true
+print-short-requires c κs = c.is_short.ensures c.if-is_short.true
 
 pub print_spec : {M : Type 1} → statement M
 print_spec =

@@ -7,22 +7,17 @@ use Rattle.listing.proofs.put_line.Tie as tie
 
 copy-requires : tie.Need-copy-requires
 copy-requires c κs =
-    let i = c.before.before.before in
-    let r = room-first {xs = i.args.word.now} _ i.requires in
+    let r = room-first {xs = c.args.word.now} _ c.requires in
     (omega arith, r.room)
 
 put-last-two-requires : tie.Need-put_last_two-requires
 put-last-two-requires c κs =
-    let s = c.before.before.before in
-    let i = s.before.before.before.before in
-    room_second (puts_copied _ i.args.at i.args.word.now s.copy.ensures) s.copy.auto.1.1.1.0 i.requires
+    room_second (puts_copied _ c.args.at c.args.word.now c.copy.ensures) c.copy.auto.1.1.1.0 c.requires
 
 returns : tie.Need-returns
 returns c =
-    let s = c.before.before.before.before.before.before in
-    let i = s.before.before.before.before in
-    let p = puts_copied i.args.out.now i.args.at i.args.word.now s.copy.ensures in
-    puts_then p c.before.before.put_last_two.ensures (room-first _ i.requires)
+    let p = puts_copied c.args.out.now c.args.at c.args.word.now c.copy.ensures in
+    puts_then p c.put_last_two.ensures (room-first _ c.requires)
 
 pub put_line_spec : {M : Type 1} → statement M
 put_line_spec = tie.close (tie.spec copy-requires (λ c. search rules) put-last-two-requires (λ c. search rules) returns)

@@ -8,44 +8,35 @@ use Rattle.listing.proofs.put_lines.Tie as tie
 
 put-records-requires : tie.Need-put_records-at-requires
 put-records-requires c κs =
-    let a = c.before.before in
-    let f = fit_lexed a.in-Lexed.is _ _ a.before.before.before.before.requires in
+    let f = fit_lexed c.in-Lexed.is _ _ c.requires in
     (f.0, room-first _ f.2)
 
 sub-put-line : tie.Need-put_line-requires
 sub-put-line c =
-    let a = c.before.before.before.before.before.before.before in
-    (fit_lexed a.in-Lexed.is _ _ a.before.before.before.before.requires).1
+    (fit_lexed c.in-Lexed.is _ _ c.requires).1
 
 put-line-requires : tie.Need-enum_known-answer-in-Refused-1
 unfolding rest_line
 put-line-requires c κs =
-    let p = c.before.before.before.before in
-    let a = p.before.before.before in
-    let f = fit_lexed a.answer-1.given.1 _ _ a.before.before.before.before.requires in
-    room_second p.put_records-at.ensures p.put_records-at.auto.0 f.2
+    let f = fit_lexed c.answer-1.given.1 _ _ c.requires in
+    room_second c.put_records-at.ensures c.put_records-at.auto.0 f.2
 
 put-line-requires-2 : tie.Need-returns-in-Lexed
 unfolding refused_line
 put-line-requires-2 c κs =
-    let a = c.before.before.before.before in
     let g = c.struct_known-1.given in
-    room_refused a.answer-in-Refused-1.given.1 _ _ a.before.before.before.before.requires g.0.fits g.1.0.fits
+    room_refused c.answer-in-Refused-1.given.1 _ _ c.requires g.0.fits g.1.0.fits
 
 returns : tie.Need-returns-in-Refused
 unfolding rest_line
 returns c =
-    let l = c.before.before in
-    let p = l.before.before.before.before.before in
-    let a = p.before.before.before in
-    let f = fit_lexed a.answer-1.given.1 _ _ a.before.before.before.before.requires in
-    puts_lexed a.answer-1.given.1 _ _ (puts_then p.put_records-at.ensures l.put_line.ensures (room-first _ f.2))
+    let f = fit_lexed c.answer-1.given.1 _ _ c.requires in
+    puts_lexed c.answer-1.given.1 _ _ (puts_then c.put_records-at.ensures c.put_line.ensures (room-first _ f.2))
 
 returns-2 : tie.Need-returns-in-Refused
 unfolding refused_line
 returns-2 c =
-    let l = c.before.before in
-    puts_refused l.before.before.before.before.before.answer-in-Refused-1.given.1 _ _ l.put_line-in-Refused.ensures
+    puts_refused c.answer-in-Refused-1.given.1 _ _ c.put_line-in-Refused.ensures
 
 pub put_lines_spec : {M : Type 1} → statement M
 put_lines_spec =

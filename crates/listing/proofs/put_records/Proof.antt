@@ -16,23 +16,19 @@ loop-holds c = going_start _ _ _
 
 put-record-requires : tie.Need-put_record-at-requires invariant-loop decreases-loop
 put-record-requires c κs =
-    let l = c.before.before in
-    let p = l.before.before.before.requires in
-    let t = c.before.loop-k-test.true in
-    (omega (arith, t, p.0), going-room l.loop-k.invariant p.1 t)
+    let p = c.requires in
+    let t = c.loop-k-test.true in
+    (omega (arith, t, p.0), going-room c.loop-k.invariant p.1 t)
 
 loop-again : tie.Need-loop-k-preserved invariant-loop decreases-loop
 loop-again c =
-    let r = c.before.before in
-    let t = r.before.before in
-    let l = t.before in
-    going_next l.loop-k.invariant l.before.before.before.requires.1 t.loop-k-test.true r.put_record-at.auto.0 r.put_record-at.ensures
+    going_next c.loop-k.invariant c.requires.1 c.loop-k-test.true c.put_record-at.auto.0 c.put_record-at.ensures
 
 same_length : tie.Need-shape_of-out invariant-loop decreases-loop
-same_length c = c.before.loop-k.invariant.same
+same_length c = c.loop-k.invariant.same
 
 returns : tie.Need-returns invariant-loop decreases-loop
-returns c = going_end c.before.loop-k.invariant c.before.before.before.before.requires.1 c.loop-k-test.false
+returns c = going_end c.loop-k.invariant c.requires.1 c.loop-k-test.false
 
 pub put_records_spec : {M : Type 1} → statement M
 put_records_spec =

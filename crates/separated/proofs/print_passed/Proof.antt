@@ -7,32 +7,27 @@ use Rattle.separated.proofs.print_passed.Statement.{statement}
 use Rattle.separated.proofs.print_passed.Tie as tie
 
 put-list-requires : tie.Need-put_list-requires
-put-list-requires c κs = passed_spaceable c.before.before.before.before.before.before.requires.0
+put-list-requires c κs = passed_spaceable c.requires.0
 
 write-from-requires : tie.Need-write_from-requires
 write-from-requires c κs =
-    let at-put-list = c.before.before.before.before.before.before.before in
-    let start = at-put-list.before.before.before.before.before.before.before in (
-      ((at-put-list.put_list.ensures start.requires.0.held.rules start.requires.0.held.holds).at _
-          c.before.before.before.at-1.given.1).within,
-      omega (arith, at-put-list.put_list.auto.1.1.1.1.1.0, start.requires.1.short),
+    (
+      ((c.put_list.ensures c.requires.0.held.rules c.requires.0.held.holds).at _
+          c.in-At.is).within,
+      omega (arith, c.put_list.auto.1.1.1.1.1.0, c.requires.1.short),
     )
 
 returns : tie.Need-returns-in-At
 returns c =
-    let at-put-list = c.before.before.before.before.before.before.before.before.before.before in
-    let start = at-put-list.before.before.before.before.before.before.before in
     λ rs h. answered_at
-    (spelled rs start.args.separator start.args.mode start.args.records.now start.args.pool.now)
-    start.args.out.now (at-put-list.put_list.ensures rs h) c.before.before.before.before.before.before.at-1.given.1
-    c.before.before.write_from.ensures
+    (spelled rs c.args.separator c.args.mode c.args.records.now c.args.pool.now)
+    c.args.out.now (c.put_list.ensures rs h) c.in-At.is
+    c.write_from.ensures
 
 returns-2 : tie.Need-returns-in-Full
 returns-2 c =
-    let at-put-list = c.before.before.before.before.before in
-    let start = at-put-list.before.before.before.before.before.before.before in
-    λ rs h. answered_full start.requires.1 rs start.args.out.now at-put-list.put_list.auto.1.1.1.1.1.0
-    (at-put-list.put_list.ensures rs h) c.before.in-Full.is c.refused.ensures
+    λ rs h. answered_full c.requires.1 rs c.args.out.now c.put_list.auto.1.1.1.1.1.0
+    (c.put_list.ensures rs h) c.in-Full.is c.refused.ensures
 
 pub print_passed_spec : {M : Type 1} → statement M
 print_passed_spec =

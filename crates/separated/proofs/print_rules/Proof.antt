@@ -7,30 +7,27 @@ use Rattle.separated.proofs.print_rules.Tie as tie
 
 print-passed-requires : tie.Need-print_passed-requires
 print-passed-requires c κs =
-    let start = c.before.before.before.before.before.before.before.before.before.before in (
+    (
       record {
-        held = start.requires.0;
-        unrefused = λ rs h. unrefused rs start.args.separator start.args.mode
-            start.args.records.now start.args.pool.now
-            (sym c.before.before.in-Passed.is ∙ c.before.before.before.before.check_call.ensures rs h);
+        held = c.requires.0;
+        unrefused = λ rs h. unrefused rs c.args.separator c.args.mode
+            c.args.records.now c.args.pool.now
+            (sym c.in-Passed.is ∙ c.check_call.ensures rs h);
       },
-      start.requires.1,
+      c.requires.1,
     )
 
 returns : tie.Need-returns-in-Passed
 returns c =
-    let call = c.before.before.before.before.before.before.before.before.before in
-    let start = call.before.before.before.before.before.before in
-    λ rs h. answered_passed rs start.args.separator start.args.mode start.args.records.now start.args.pool.now _
-    (sym c.before.before.before.before.before.before.before.in-Passed.is
-    ∙ call.check_call.ensures rs h)
-    (c.before.before.before.before.print_passed.ensures rs h)
+    λ rs h. answered_passed rs c.args.separator c.args.mode c.args.records.now c.args.pool.now _
+    (sym c.in-Passed.is
+    ∙ c.check_call.ensures rs h)
+    (c.print_passed.ensures rs h)
 
 returns-2 : tie.Need-returns-in-Refused
 returns-2 c =
-    let start = c.before.before.before.before.before.before.before.before.before in
-    λ rs h. answered_fault rs start.args.separator start.args.mode start.args.records.now start.args.pool.now _
-    (sym c.before.in-Refused.is ∙ c.before.before.before.check_call.ensures rs h)
+    λ rs h. answered_fault rs c.args.separator c.args.mode c.args.records.now c.args.pool.now _
+    (sym c.in-Refused.is ∙ c.check_call.ensures rs h)
 
 pub print_rules_spec : {M : Type 1} → statement M
 print_rules_spec =

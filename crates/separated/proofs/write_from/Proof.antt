@@ -9,9 +9,8 @@ use Rattle.separated.proofs.write_from.Tie as tie
 
 returns : tie.Need-returns
 returns c =
-    let start = c.before.before.before.before.before.before in
-    answered_written start.args.scratch.now start.args.at _ (sym (length-drop start.args.at start.args.scratch.now))
-    (omega (arith, start.requires.1)) c.before.before.write.ensures
+    answered_written c.args.scratch.now c.args.at _ (sym (length-drop c.args.at c.args.scratch.now))
+    (omega (arith, c.requires.1)) c.write.ensures
 
 pub write_from_spec : {M : Type 1} → statement M
 write_from_spec = tie.close (tie.spec (λ c. search rules) (λ c κs. search rules) (λ c. search rules) returns)

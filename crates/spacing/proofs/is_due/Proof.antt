@@ -12,22 +12,21 @@ returns : tie.Need-returns-then-last
 returns c = λ rs h t us a. due_last _ a c.if-last.true
 
 returns-2 : tie.Need-returns-then-meaning_of-eq1
-returns-2 c = λ rs h t us a. due_always _ a c.before.before.if-last.false (sym c.before.meaning_of.ensures ∙ c.if-meaning_of-eq1.true)
+returns-2 c = λ rs h t us a. due_always _ a c.if-last.false (sym c.meaning_of.ensures ∙ c.if-meaning_of-eq1.true)
 
 choose-requires : tie.Need-choose-chosen-requires
 choose-requires c κs =
-    let start = c.before.before.before.before.before in
-    (start.requires.0, (start.requires.1, le_refl _))
+    (c.requires.0, (c.requires.1, le_refl _))
 
 returns-3 : tie.Need-returns-then-chosen-len
-returns-3 c = λ rs h t us a. due_more _ a c.before.before.before.before.before.if-last.false
-    (λ z. c.before.before.before.if-meaning_of-eq1.false (c.before.before.before.before.meaning_of.ensures ∙ z)) (held_empty h)
-    (c.before.before.choose-chosen.ensures.0 rs _ h (part_end _ _)) c.if-chosen-len.true
+returns-3 c = λ rs h t us a. due_more _ a c.if-last.false
+    (λ z. c.if-meaning_of-eq1.false (c.meaning_of.ensures ∙ z)) (held_empty h)
+    (c.choose-chosen.ensures.0 rs _ h (part_end _ _)) c.if-chosen-len.true
 
 returns-4 : tie.Need-returns
-returns-4 c = λ rs h t us a. due_no _ a c.before.before.before.before.before.if-last.false
-    (λ z. c.before.before.before.if-meaning_of-eq1.false (c.before.before.before.before.meaning_of.ensures ∙ z)) (held_empty h)
-    (c.before.before.choose-chosen.ensures.0 rs _ h (part_end _ _)) c.if-chosen-len.false
+returns-4 c = λ rs h t us a. due_no _ a c.if-last.false
+    (λ z. c.if-meaning_of-eq1.false (c.meaning_of.ensures ∙ z)) (held_empty h)
+    (c.choose-chosen.ensures.0 rs _ h (part_end _ _)) c.if-chosen-len.false
 
 pub is_due_spec : {M : Type 1} → statement M
 is_due_spec = tie.close (tie.spec returns (λ c κs. search rules) returns-2 choose-requires returns-3 returns-4)

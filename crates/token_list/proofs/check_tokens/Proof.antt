@@ -25,33 +25,33 @@ read-record-requires : tie.Need-read_record-token-requires invariant-loop decrea
 read-record-requires c κs = omega (arith, c.loop-k-test.true)
 
 token-fault-requires : tie.Need-token_fault-requires invariant-loop decreases-loop
-token-fault-requires c κs = c.before.before.before.before.before.before.requires
+token-fault-requires c κs = c.requires
 
 returns : tie.Need-returns-in-By invariant-loop decreases-loop
 returns c = λ rs h.
-    passing_refused (c.before.before.before.before.before.before.before.loop-k.invariant rs h)
-    c.before.before.before.before.before.before.loop-k-test.true
-    c.before.before.before.before.before.read_record-token.ensures
-    (sym c.before.before.in-By.is ∙ c.before.before.before.before.token_fault.ensures rs h) c.refused.ensures
+    passing_refused (c.loop-k.invariant rs h)
+    c.loop-k-test.true
+    c.read_record-token.ensures
+    (sym c.in-By.is ∙ c.token_fault.ensures rs h) c.refused.ensures
 
 add-k : tie.Need-overflow_add-k invariant-loop decreases-loop
 add-k c = omega (
   arith,
-  c.before.before.before.before.loop-k-test.true,
-  c.before.before.before.before.before.before.before.before.before.well_formed,
+  c.loop-k-test.true,
+  c.well_formed,
 )
 
 loop-less : tie.Need-loop-k-smaller invariant-loop decreases-loop
-loop-less c = omega (arith, c.before.before.before.before.loop-k-test.true)
+loop-less c = omega (arith, c.loop-k-test.true)
 
 loop-again : tie.Need-loop-k-preserved invariant-loop decreases-loop
 loop-again c = λ rs h.
-    passing_next (c.before.before.before.before.before.loop-k.invariant rs h) c.before.before.before.before.loop-k-test.true
-    c.before.before.before.read_record-token.ensures
-    (sym c.in-Nothing.is ∙ c.before.before.token_fault.ensures rs h)
+    passing_next (c.loop-k.invariant rs h) c.loop-k-test.true
+    c.read_record-token.ensures
+    (sym c.in-Nothing.is ∙ c.token_fault.ensures rs h)
 
 returns-2 : tie.Need-returns invariant-loop decreases-loop
-returns-2 c = λ rs h. passing_end (c.before.loop-k.invariant rs h) c.loop-k-test.false
+returns-2 c = λ rs h. passing_end (c.loop-k.invariant rs h) c.loop-k-test.false
 
 pub check_tokens_spec : {M : Type 1} → statement M
 check_tokens_spec =

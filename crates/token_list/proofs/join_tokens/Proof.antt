@@ -14,52 +14,49 @@ abbrev decreases-loop : tie.decreases-loop-k
 decreases-loop records pool out₀ count at₀ k₀ out at k = record_count records - k
 
 loop-holds : tie.Need-loop-k-init invariant-loop decreases-loop
-loop-holds c = joining_start _ _ _ c.before.before.before.requires
+loop-holds c = joining_start _ _ _ c.requires
 
 read-record-requires : tie.Need-read_record-token-requires invariant-loop decreases-loop
 read-record-requires c κs = omega (arith, c.loop-k-test.true)
 
 copy-requires : tie.Need-copy-requires invariant-loop decreases-loop
 copy-requires c κs =
-    let at-read-record = c.before.before.before in
-    let test = at-read-record.before in
-    let head = test.before in (
-      joining_pool head.loop-k.invariant test.loop-k-test.true at-read-record.read_record-token.ensures,
-      joining_room head.loop-k.invariant
-          test.loop-k-test.true at-read-record.read_record-token.ensures,
+    (
+      joining_pool c.loop-k.invariant c.loop-k-test.true c.read_record-token.ensures,
+      joining_room c.loop-k.invariant
+          c.loop-k-test.true c.read_record-token.ensures,
     )
 
 add_at : tie.Need-overflow_add-at invariant-loop decreases-loop
 add_at c =
-    let head = c.before.before.before.before.before.before.before.before in
     omega (
       arith,
-      joining_room head.loop-k.invariant c.before.before.before.before.before.before.before.loop-k-test.true
-          c.before.before.before.before.before.before.read_record-token.ensures,
-      head.loop-k.invariant.filling.same,
-      c.before.before.before.before.before.before.before.before.before.before.before.before.well_formed,
+      joining_room c.loop-k.invariant c.loop-k-test.true
+          c.read_record-token.ensures,
+      c.loop-k.invariant.filling.same,
+      c.well_formed,
     )
 
 add-k : tie.Need-overflow_add-k invariant-loop decreases-loop
 add-k c = omega (
   arith,
-  c.before.before.before.before.before.before.before.loop-k-test.true,
-  c.before.before.before.before.before.before.before.before.before.before.before.before.well_formed,
+  c.loop-k-test.true,
+  c.well_formed,
 )
 
 loop-less : tie.Need-loop-k-smaller invariant-loop decreases-loop
-loop-less c = omega (arith, c.before.before.before.before.before.before.before.loop-k-test.true)
+loop-less c = omega (arith, c.loop-k-test.true)
 
 loop-again : tie.Need-loop-k-preserved invariant-loop decreases-loop
-loop-again c = joining_next c.before.before.before.before.before.before.before.before.loop-k.invariant
-    c.before.before.before.before.before.before.before.loop-k-test.true
-    c.before.before.before.before.before.before.read_record-token.ensures c.before.before.copy.ensures
+loop-again c = joining_next c.loop-k.invariant
+    c.loop-k-test.true
+    c.read_record-token.ensures c.copy.ensures
 
 same_length : tie.Need-shape_of-out invariant-loop decreases-loop
-same_length c = c.before.loop-k.invariant.filling.same
+same_length c = c.loop-k.invariant.filling.same
 
 returns : tie.Need-returns invariant-loop decreases-loop
-returns c = joining_end c.before.loop-k.invariant c.loop-k-test.false
+returns c = joining_end c.loop-k.invariant c.loop-k-test.false
 
 pub join_tokens_spec : {M : Type 1} → statement M
 join_tokens_spec =

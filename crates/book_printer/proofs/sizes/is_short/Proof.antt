@@ -11,9 +11,9 @@ returns c = λ e. clash e refl
 returns-2 : tie.Need-returns-in-Bytes
 returns-2 c = λ e.
     record {
-      bytes = c.before.in-Bytes.total;
-      spanned = c.before.before.before.measure.ensures.fits _
-          c.before.in-Bytes.is;
+      bytes = c.in-Bytes.total;
+      spanned = c.measure.ensures.fits _
+          c.in-Bytes.is;
       few = leb-true _ _ e;
     }
 

@@ -4,7 +4,7 @@ use Rattle.book_printer.proofs.sizes.print_64k.Statement.{statement}
 use Rattle.book_printer.proofs.sizes.print_64k.Tie as tie
 
 print-with-requires : tie.Need-print_with-requires
-print-with-requires c κs = (lent_large _, c.before.before.before.before.before.before.before.before.requires)
+print-with-requires c κs = (lent_large _, c.requires)
 
 pub print_64k_spec : {M : Type 1} → statement M
 print_64k_spec =

@@ -9,13 +9,11 @@ use Rattle.automaton.proofs.Tests.{clash}
 use Rattle.book_separated.proofs.sizes.is_short.Statement.{statement}
 use Rattle.book_separated.proofs.sizes.is_short.Tie as tie
 
-product : (c : tie.After-struct_known-1) → length c.before.before.before.before.before.before.before.before.args.records.now / 10
-    * c.before.before.before.before.before.before.before.before.args.separator.len ≤ 2048 *
-    c.before.before.before.before.before.before.before.before.args.separator.len
+product : (c : tie.After-struct_known-1) → length c.args.records.now / 10
+    * c.args.separator.len ≤ 2048 *
+    c.args.separator.len
 product c =
-    let k = c.before.before.before.before.before in
-    let k₁ = k.before.before.before in
-    mul-le-mul_right k₁.args.separator.len k.if-count-gt-SMALL.false
+    mul-le-mul_right c.args.separator.len c.if-count-gt-SMALL.false
 
 returns : tie.Need-returns-then-count-gt-SMALL
 returns c = λ e. clash e refl
@@ -29,16 +27,16 @@ add-result c =
       arith,
       product c,
       c.struct_known-1.given,
-      (c.before.before.before.before.measure.ensures.fits _
-          c.before.before.in-Bytes.is).short,
+      (c.measure.ensures.fits _
+          c.in-Bytes.is).short,
     )
 
 returns-2 : tie.Need-returns-in-Bytes
 returns-2 c = λ e.
     record {
-      bytes = c.before.before.in-Bytes.total;
-      spanned = c.before.before.before.before.measure.ensures.fits _
-          c.before.before.in-Bytes.is;
+      bytes = c.in-Bytes.total;
+      spanned = c.measure.ensures.fits _
+          c.in-Bytes.is;
       few = leb-true _ _ e;
     }
 

@@ -6,8 +6,7 @@ use Rattle.book_separated.proofs.sizes.print_32k.Tie as tie
 
 print-with-requires : tie.Need-print_with-requires
 print-with-requires c κs =
-    let k = c.before.before.before.before.before.before.before.before in
-    (zeros_lent _ 8258 (omega arith) (λ h. omega (arith, k.requires.0)), k.requires.1)
+    (zeros_lent _ 8258 (omega arith) (λ h. omega (arith, c.requires.0)), c.requires.1)
 
 pub print_32k_spec : {M : Type 1} → statement M
 print_32k_spec =

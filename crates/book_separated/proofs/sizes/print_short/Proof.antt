@@ -6,7 +6,7 @@ use Rattle.book_separated.proofs.sizes.print_short.Tie as tie
 
 print-sized-requires : tie.Need-print_sized-requires
 print-sized-requires c κs =
-    let s = c.before.before.before.before.before.before.requires in
+    let s = c.requires in
     roomy_small _ _ _ _ s.spanned s.few (omega arith)
 
 pub print_short_spec : {M : Type 1} → statement M

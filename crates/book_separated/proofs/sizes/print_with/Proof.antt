@@ -7,15 +7,13 @@ use Rattle.book_separated.proofs.sizes.print_with.Tie as tie
 
 returns : tie.Need-returns-in-Accepted
 returns c =
-    let k = c.before.before.before.before.before.before.before.before in
-    answered_book k.before.before.before.before.load.ensures k.enum_told-1.given.1 _ _ _ _ _ _ _
-    c.before.before.before.before.print_rules.ensures
+    answered_book c.load.ensures c.in-Accepted.is _ _ _ _ _ _ _
+    c.print_rules.ensures
 
 returns-2 : tie.Need-returns-in-Refused
-returns-2 c = answered_refused c.before.before.before.before.before.load.ensures c.before.in-Refused.is _ _ _ _ _
+returns-2 c = answered_refused c.load.ensures c.in-Refused.is _ _ _ _ _
 
 pub print_with_spec : {M : Type 1} → statement M
 print_with_spec = tie.close (tie.spec (λ c κs. search rules) (λ c. search rules)
-    (λ c κs. let k = c.before.before.before in
-    (loaded_held k.before.before.before.before.load.ensures k.enum_told-1.given.1, search rules))
+    (λ c κs. (loaded_held c.load.ensures c.in-Accepted.is, search rules))
     (λ c. search rules) (λ c. search rules) (λ c. search rules) (λ c. search rules) returns (λ c. search rules) returns-2)

@@ -35,22 +35,18 @@ pub +put_decimal_spec : {M : Type 1} → statement M
     -- one digit
     (λ c. record { fits = omega arith })
     (λ c. record { fits = omega arith })
-    (λ c κs. room-digit c.before.if-n-lt10.true c.before.before.before.requires.1)
-    (λ c. c.before.before.put_byte.auto.0)
-    (λ c. puts-digit c.before.before.before.before.if-n-lt10.true c.before.before.put_byte.ensures)
+    (λ c κs. room-digit c.if-n-lt10.true c.requires.1)
+    (λ c. c.put_byte.auto.0)
+    (λ c. puts-digit c.if-n-lt10.true c.put_byte.ensures)
     -- one more digit
     (λ c κs.
-    let l = c.before.if-n-lt10.false in
-    let p = c.before.before.before.requires in
+    let l = c.if-n-lt10.false in
+    let p = c.requires in
     (omega (arith, l, p.0), room_tenth l p.1))
     (λ c. record { fits = omega arith })
     (λ c. record { fits = omega arith })
     (λ c κs.
-    let d = c.before.before.before in
-    let s = d.before.before in
-    room-last s.if-n-lt10.false s.before.before.requires.1 d.put_decimal-last.ensures d.put_decimal-last.auto.0)
-    (λ c. c.before.before.put_byte-2.auto.0 ∙ c.before.before.before.before.before.before.put_decimal-last.auto.0)
+    room-last c.if-n-lt10.false c.requires.1 c.put_decimal-last.ensures c.put_decimal-last.auto.0)
+    (λ c. c.put_byte-2.auto.0 ∙ c.put_decimal-last.auto.0)
     (λ c.
-    let d = c.before.before.before.before.before.before in
-    let s = d.before.before in
-    puts-last s.if-n-lt10.false s.before.before.requires.1 d.put_decimal-last.ensures c.before.before.put_byte-2.ensures)
+    puts-last c.if-n-lt10.false c.requires.1 c.put_decimal-last.ensures c.put_byte-2.ensures)

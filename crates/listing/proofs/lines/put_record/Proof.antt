@@ -6,13 +6,12 @@ use Rattle.listing.proofs.lines.put_record.Tie as tie
 
 put-token-requires : tie.Need-put_token-requires
 put-token-requires c κs =
-    let read = c.before.before.before.before in
-    room_record _ _ read.read_record-r.ensures read.before.before.before.requires.1
+    room_record _ _ c.read_record-r.ensures c.requires.1
 
 returns : tie.Need-returns
 returns c =
-    puts_record _ _ c.before.before.before.before.before.before.before.read_record-r.ensures
-    c.before.before.put_token.ensures
+    puts_record _ _ c.read_record-r.ensures
+    c.put_token.ensures
 
 pub put_record_spec : {M : Type 1} → statement M
 put_record_spec =

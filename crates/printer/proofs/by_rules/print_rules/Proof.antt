@@ -6,29 +6,27 @@ use Rattle.printer.proofs.by_rules.print_rules.Statement.{statement}
 use Rattle.printer.proofs.by_rules.print_rules.Tie as tie
 
 returns : tie.Need-returns-then-records-gt-TOKENS
-returns c = λ rs h. answered_many rs _ _ _ c.before.if-records-gt-TOKENS.true c.refused.ensures
+returns c = λ rs h. answered_many rs _ _ _ c.if-records-gt-TOKENS.true c.refused.ensures
 
 write-requires : tie.Need-write-requires
 write-requires c κs =
-    let rehearsed = c.before.before.before.before.before.before.before in
-    let start = rehearsed.before.before.before.before.before.before.before.before.requires in
-    let clean = (rehearsed.rehearse.ensures start.0.rules start.0.holds).clean _ c.before.before.before.total-1.given.1 in
-    omega (arith, start.1.room _ clean.spanned, rehearsed.rehearse.auto)
+    let start = c.requires in
+    let clean = (c.rehearse.ensures start.0.rules start.0.holds).clean _ c.in-Clean.is in
+    omega (arith, start.1.room _ clean.spanned, c.rehearse.auto)
 
 find-refusal-requires : tie.Need-find_refusal-requires
 find-refusal-requires c κs =
-    let rehearsed = c.before.before.before.before.before in
-    let held = rehearsed.before.before.before.before.before.before.before.before.requires.0 in
-    record { held = held; suspected = λ rs h. (rehearsed.rehearse.ensures rs h).wrong _ c.before.in-Wrong.is }
+    let held = c.requires.0 in
+    record { held = held; suspected = λ rs h. (c.rehearse.ensures rs h).wrong _ c.in-Wrong.is }
 
 returns-2 : tie.Need-returns-in-Clean
 returns-2 c = λ rs h. clean_written rs _ _ _
-    c.before.before.before.before.before.before.before.before.before.before.before.before.if-records-gt-TOKENS.false
-    ((c.before.before.before.before.before.before.before.before.before.before.rehearse.ensures rs h).clean _
-    c.before.before.before.before.before.before.total-1.given.1) c.before.before.write.ensures
+    c.if-records-gt-TOKENS.false
+    ((c.rehearse.ensures rs h).clean _
+    c.in-Clean.is) c.write.ensures
 
 returns-3 : tie.Need-returns-in-Wrong
-returns-3 c = λ rs h. answered_troubled rs _ _ _ c.before.before.before.before.before.before.before.before.if-records-gt-TOKENS.false
+returns-3 c = λ rs h. answered_troubled rs _ _ _ c.if-records-gt-TOKENS.false
     (c.find_refusal.ensures rs h)
 
 pub print_rules_spec : {M : Type 1} → statement M

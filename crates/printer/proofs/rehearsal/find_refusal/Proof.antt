@@ -6,11 +6,11 @@ use Rattle.printer.proofs.rehearsal.find_refusal.Statement.{statement}
 use Rattle.printer.proofs.rehearsal.find_refusal.Tie as tie
 
 returns : tie.Need-returns-in-Passed
-returns c = λ rs h. c.before.before.before.before.before.before.requires.suspected rs h
-    (passed_faultless rs _ _ (sym c.in-Passed.is ∙ c.before.before.check_tokens.ensures rs h))
+returns c = λ rs h. c.requires.suspected rs h
+    (passed_faultless rs _ _ (sym c.in-Passed.is ∙ c.check_tokens.ensures rs h))
 
 returns-2 : tie.Need-returns-in-Refused
-returns-2 c = λ rs h. trouble_fault rs _ _ (sym c.before.in-Refused.is ∙ c.before.before.before.check_tokens.ensures rs h)
+returns-2 c = λ rs h. trouble_fault rs _ _ (sym c.in-Refused.is ∙ c.check_tokens.ensures rs h)
 
 pub find_refusal_spec : {M : Type 1} → statement M
 find_refusal_spec = tie.close (tie.spec (λ c κs. search rules) (λ c. search rules) (λ c. search rules) returns returns-2)

@@ -6,12 +6,12 @@ use Rattle.printer.proofs.rehearsal.rehearse.Tie as tie
 
 rehearse-bytes-requires : tie.Need-rehearse_bytes-requires
 rehearse-bytes-requires c κs =
-    let start = c.before.before.before.before.before.before.before.before.before.requires in
-    let spanned = c.before.before.before.before.measure.ensures.fits _ c.before.before.in-Bytes.is in
+    let start = c.requires in
+    let spanned = c.measure.ensures.fits _ c.in-Bytes.is in
     (start.0, (start.1.room _ spanned, spanned))
 
 returns-2 : tie.Need-returns-in-Beyond
-returns-2 c = λ rs h. rehearses_beyond rs _ _ _ (c.before.before.before.measure.ensures.beyond c.before.in-Beyond.is)
+returns-2 c = λ rs h. rehearses_beyond rs _ _ _ (c.measure.ensures.beyond c.in-Beyond.is)
     c.wrong.ensures
 
 pub rehearse_spec : {M : Type 1} → statement M

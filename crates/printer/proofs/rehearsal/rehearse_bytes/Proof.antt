@@ -6,26 +6,26 @@ use Rattle.printer.proofs.rehearsal.rehearse_bytes.Statement.{statement}
 use Rattle.printer.proofs.rehearsal.rehearse_bytes.Tie as tie
 
 join-tokens-requires : tie.Need-join_tokens-requires
-join-tokens-requires c κs = let start = c.before.before.before.before.before.requires in spanned_fitting start.1.1 start.1.0
+join-tokens-requires c κs = let start = c.requires in spanned_fitting start.1.1 start.1.0
 
 read-back-requires : tie.Need-read_back-k-requires
 read-back-requires c κs =
-    let start = c.before.before.before.before.before.before.before.before.before.requires in
-    let joined = c.before.before.before.join_tokens in
+    let start = c.requires in
+    let joined = c.join_tokens in
     (start.0, (omega (arith, joined.auto, start.1.0), record { pool = _; spread = spanned_spread start.1.1 joined.ensures }))
 
 returns : tie.Need-returns-then-k-records
 returns c = λ rs h.
-    let spanned = c.before.before.before.before.before.before.before.before.before.before.before.before.requires.1.1 in
-    let joined = c.before.before.before.before.before.before.join_tokens.ensures in
-    rehearses_on rs _ _ _ spanned (c.before.before.read_back-k.ensures rs _ h (spanned_spread spanned joined)) c.before.if-k-records.true
+    let spanned = c.requires.1.1 in
+    let joined = c.join_tokens.ensures in
+    rehearses_on rs _ _ _ spanned (c.read_back-k.ensures rs _ h (spanned_spread spanned joined)) c.if-k-records.true
     c.wrong.ensures
 
 returns-2 : tie.Need-returns
 returns-2 c = λ rs h.
-    let spanned = c.before.before.before.before.before.before.before.before.before.before.before.requires.1.1 in
-    let joined = c.before.before.before.before.before.join_tokens.ensures in
-    rehearses_clean rs _ _ _ spanned (c.before.read_back-k.ensures rs _ h (spanned_spread spanned joined)) c.if-k-records.false
+    let spanned = c.requires.1.1 in
+    let joined = c.join_tokens.ensures in
+    rehearses_clean rs _ _ _ spanned (c.read_back-k.ensures rs _ h (spanned_spread spanned joined)) c.if-k-records.false
     (spanned_laid spanned joined)
 
 pub rehearse_bytes_spec : {M : Type 1} → statement M

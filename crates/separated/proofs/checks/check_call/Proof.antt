@@ -6,11 +6,11 @@ use Rattle.separated.proofs.checks.check_call.Statement.{statement}
 use Rattle.separated.proofs.checks.check_call.Tie as tie
 
 returns : tie.Need-returns-in-Byte
-returns c = λ rs h. call_shared rs _ _ _ _ (sym c.before.before.in-Byte.is
-    ∙ c.before.before.before.before.shared_byte.ensures rs h) c.refused.ensures
+returns c = λ rs h. call_shared rs _ _ _ _ (sym c.in-Byte.is
+    ∙ c.shared_byte.ensures rs h) c.refused.ensures
 
 returns-2 : tie.Need-returns-in-Nothing
-returns-2 c = λ rs h. call_list rs _ _ _ _ (sym c.before.in-Nothing.is ∙ c.before.before.before.shared_byte.ensures rs h)
+returns-2 c = λ rs h. call_list rs _ _ _ _ (sym c.in-Nothing.is ∙ c.shared_byte.ensures rs h)
     (c.check_list.ensures rs h)
 
 pub check_call_spec : {M : Type 1} → statement M

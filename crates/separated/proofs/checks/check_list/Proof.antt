@@ -7,25 +7,25 @@ use Rattle.separated.proofs.checks.check_list.Statement.{statement}
 use Rattle.separated.proofs.checks.check_list.Tie as tie
 
 returns : tie.Need-returns-then-mode-gt2
-returns c = λ rs h. list_mode rs _ _ _ _ (omega (arith, c.before.if-mode-gt2.true)) c.refused.ensures
+returns c = λ rs h. list_mode rs _ _ _ _ (omega (arith, c.if-mode-gt2.true)) c.refused.ensures
 
 returns-2 : tie.Need-returns-then-count-gt-TOKENS
 returns-2 c = λ rs h.
-    list_many rs _ _ _ _ c.before.before.before.before.before.if-mode-gt2.false
-    (separator_fault_lem rs _ _ (sym c.before.before.in-Nothing.is
-    ∙ c.before.before.before.before.fault_or_kind.ensures rs h)) c.before.if-count-gt-TOKENS.true c.refused-then-count-gt-TOKENS.ensures
+    list_many rs _ _ _ _ c.if-mode-gt2.false
+    (separator_fault_lem rs _ _ (sym c.in-Nothing.is
+    ∙ c.fault_or_kind.ensures rs h)) c.if-count-gt-TOKENS.true c.refused-then-count-gt-TOKENS.ensures
 
 returns-3 : tie.Need-returns-in-By
 returns-3 c = λ rs h.
-    list_separator rs _ _ _ _ c.before.before.before.before.before.if-mode-gt2.false
-    (separator_fault_lem rs _ _ (sym c.before.before.in-By.is
-    ∙ c.before.before.before.before.fault_or_kind.ensures rs h)) c.refused-in-By.ensures
+    list_separator rs _ _ _ _ c.if-mode-gt2.false
+    (separator_fault_lem rs _ _ (sym c.in-By.is
+    ∙ c.fault_or_kind.ensures rs h)) c.refused-in-By.ensures
 
 returns-4 : tie.Need-returns-else-count-gt-TOKENS
 returns-4 c = λ rs h.
-    list_tokens rs _ _ _ _ c.before.before.before.before.before.if-mode-gt2.false
-    (separator_fault_lem rs _ _ (sym c.before.before.in-Nothing.is
-    ∙ c.before.before.before.before.fault_or_kind.ensures rs h)) c.before.if-count-gt-TOKENS.false (c.check_tokens.ensures rs h)
+    list_tokens rs _ _ _ _ c.if-mode-gt2.false
+    (separator_fault_lem rs _ _ (sym c.in-Nothing.is
+    ∙ c.fault_or_kind.ensures rs h)) c.if-count-gt-TOKENS.false (c.check_tokens.ensures rs h)
 
 pub check_list_spec : {M : Type 1} → statement M
 check_list_spec =

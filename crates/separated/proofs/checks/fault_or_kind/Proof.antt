@@ -7,18 +7,18 @@ use Rattle.separated.proofs.checks.fault_or_kind.Tie as tie
 
 returns : tie.Need-returns-then-is_separator-separator
 returns c = λ rs h.
-    or_kind _ _ _ _ (sym c.before.before.before.in-Nothing.is
-    ∙ c.before.before.before.before.before.token_fault.ensures rs h)
-    (rw (c.before.is_separator.ensures rs h) at c.if-is_separator-separator.true)
+    or_kind _ _ _ _ (sym c.in-Nothing.is
+    ∙ c.token_fault.ensures rs h)
+    (rw (c.is_separator.ensures rs h) at c.if-is_separator-separator.true)
 
 returns-2 : tie.Need-returns-in-By
-returns-2 c = λ rs h. or_fault _ _ _ (sym c.before.in-By.is ∙ c.before.before.before.token_fault.ensures rs h)
+returns-2 c = λ rs h. or_fault _ _ _ (sym c.in-By.is ∙ c.token_fault.ensures rs h)
 
 returns-3 : tie.Need-returns-else-is_separator-separator
 returns-3 c = λ rs h.
-    or_kind _ _ _ _ (sym c.before.before.before.in-Nothing.is
-    ∙ c.before.before.before.before.before.token_fault.ensures rs h)
-    (rw (c.before.is_separator.ensures rs h) at c.if-is_separator-separator.false)
+    or_kind _ _ _ _ (sym c.in-Nothing.is
+    ∙ c.token_fault.ensures rs h)
+    (rw (c.is_separator.ensures rs h) at c.if-is_separator-separator.false)
 
 pub fault_or_kind_spec : {M : Type 1} → statement M
 fault_or_kind_spec =

@@ -18,16 +18,16 @@ abbrev decreases-loop : tie.decreases-loop-next
 decreases-loop table tag rules next₀ next = rules - next
 
 -- there is a rule number `next`
-more : (c : tie.In-loop-next invariant-loop decreases-loop) (rs : List Rule) → Holds c.before.before.before.before.args.table.now rs
-    → c.before.loop-next.next < length rs
-more c rs h = omega (arith, c.loop-next-test.true, c.before.before.count_of-rules.ensures rs h)
+more : (c : tie.In-loop-next invariant-loop decreases-loop) (rs : List Rule) → Holds c.args.table.now rs
+    → c.loop-next.next < length rs
+more c rs h = omega (arith, c.loop-next-test.true, c.count_of-rules.ensures rs h)
 
-here : (c : tie.In-loop-next invariant-loop decreases-loop) (rs : List Rule) (h : Holds c.before.before.before.before.args.table.now rs)
-    → Table c.before.before.before.before.args.table.now c.before.loop-next.next (rule_at rs c.before.loop-next.next)
-here c rs h = h.each c.before.loop-next.next (more c rs h)
+here : (c : tie.In-loop-next invariant-loop decreases-loop) (rs : List Rule) (h : Holds c.args.table.now rs)
+    → Table c.args.table.now c.loop-next.next (rule_at rs c.loop-next.next)
+here c rs h = h.each c.loop-next.next (more c rs h)
 
-tabled : (c : tie.In-loop-next invariant-loop decreases-loop) → Tabled c.before.before.before.before.args.table.now c.before.loop-next.next
-tabled c = record { rule = _; table = here c _ c.before.before.before.before.requires.holds }
+tabled : (c : tie.In-loop-next invariant-loop decreases-loop) → Tabled c.args.table.now c.loop-next.next
+tabled c = record { rule = _; table = here c _ c.requires.holds }
 
 loop-holds : tie.Need-loop-next-init invariant-loop decreases-loop
 loop-holds c = λ rs h. plainly_start rs _
@@ -44,28 +44,28 @@ kind-of-requires c κs = tabled c.before.before
 returns : tie.Need-returns-then-kind_of-eq1 invariant-loop decreases-loop
 returns c = λ rs h.
     let t = here c.before.before.before.before rs h in
-    separator-found rs _ _ (more c.before.before.before.before rs h) (sym (c.before.before.before.tag_of.ensures _ t)
-    ∙ c.before.before.if-tag_of-tag.true)
-    (sym (c.before.kind_of.ensures _ t) ∙ c.if-kind_of-eq1.true)
+    separator-found rs _ _ (more c.before.before.before.before rs h) (sym (c.tag_of.ensures _ t)
+    ∙ c.if-tag_of-tag.true)
+    (sym (c.kind_of.ensures _ t) ∙ c.if-kind_of-eq1.true)
 
 loop-less : tie.Need-loop-next-smaller-else-kind_of-eq1 invariant-loop decreases-loop
-loop-less c = omega (arith, c.before.before.before.before.loop-next-test.true)
+loop-less c = omega (arith, c.loop-next-test.true)
 
 loop-again : tie.Need-loop-next-preserved-else-kind_of-eq1 invariant-loop decreases-loop
 loop-again c = λ rs h.
-    plainly_plain (c.before.before.before.before.before.loop-next.invariant rs h)
-    (λ z. c.if-kind_of-eq1.false (c.before.kind_of.ensures _ (here c.before.before.before.before rs h) ∙ z))
+    plainly_plain (c.loop-next.invariant rs h)
+    (λ z. c.if-kind_of-eq1.false (c.kind_of.ensures _ (here c.before.before.before.before rs h) ∙ z))
 
 loop-less-2 : tie.Need-loop-next-smaller invariant-loop decreases-loop
-loop-less-2 c = omega (arith, c.before.before.loop-next-test.true)
+loop-less-2 c = omega (arith, c.loop-next-test.true)
 
 loop-again-2 : tie.Need-loop-next-preserved invariant-loop decreases-loop
 loop-again-2 c = λ rs h.
-    plainly_other (c.before.before.before.loop-next.invariant rs h)
-    (λ z. c.if-tag_of-tag.false (c.before.tag_of.ensures _ (here c.before.before rs h) ∙ z))
+    plainly_other (c.loop-next.invariant rs h)
+    (λ z. c.if-tag_of-tag.false (c.tag_of.ensures _ (here c.before.before rs h) ∙ z))
 
 returns-2 : tie.Need-returns invariant-loop decreases-loop
-returns-2 c = λ rs h. plainly_end (c.before.loop-next.invariant rs h) (omega (arith, c.loop-next-test.false, c.before.before.count_of-rules.ensures rs h))
+returns-2 c = λ rs h. plainly_end (c.loop-next.invariant rs h) (omega (arith, c.loop-next-test.false, c.count_of-rules.ensures rs h))
 
 pub is_separator_spec : {M : Type 1} → statement M
 is_separator_spec =

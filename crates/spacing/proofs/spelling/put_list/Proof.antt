@@ -20,9 +20,9 @@ decreases-loop table separator mode records pool scratch₀ count at₀ k₀ scr
 
 loop-holds : tie.Need-loop-k-init invariant-loop decreases-loop
 loop-holds c =
-    let start = c.before.before.before.before in (
+    (
       refl,
-      λ rs h. putting_start rs start.args.separator start.args.mode start.args.records.now start.args.pool.now _
+      λ rs h. putting_start rs c.args.separator c.args.mode c.args.records.now c.args.pool.now _
           _ refl,
     )
 
@@ -31,73 +31,62 @@ sub-k c = omega (arith, c.loop-k-test.true)
 
 read-record-requires : tie.Need-read_record-token-requires invariant-loop decreases-loop
 read-record-requires c κs =
-    let start = c.before.before.before.before.before.before in
-    omega (arith, c.loop-k-test.true, (c.before.loop-k.invariant.1 start.requires.held.rules start.requires.held.holds).few)
+    omega (arith, c.loop-k-test.true, (c.loop-k.invariant.1 c.requires.held.rules c.requires.held.holds).few)
 
 put-token-requires : tie.Need-put_token-requires invariant-loop decreases-loop
 put-token-requires c κs =
-    let head = c.before.before.before in
-    let start = head.before.before.before.before.before in (
-      start.requires.held,
+    (
+      c.requires.held,
       (
-        spaced_inside start.requires (omega
-            (arith, (head.loop-k.invariant.1 start.requires.held.rules start.requires.held.holds).few, c.before.before.loop-k-test.true))
-            c.before.read_record-token.ensures,
+        spaced_inside c.requires (omega
+            (arith, (c.loop-k.invariant.1 c.requires.held.rules c.requires.held.holds).few, c.loop-k-test.true))
+            c.read_record-token.ensures,
         (
-          start.requires.separator,
-          (head.loop-k.invariant.1 start.requires.held.rules start.requires.held.holds).within,
+          c.requires.separator,
+          (c.loop-k.invariant.1 c.requires.held.rules c.requires.held.holds).within,
         ),
       ),
     )
 
 loop-less : tie.Need-loop-k-smaller invariant-loop decreases-loop
-loop-less c = omega (arith, c.before.before.before.before.before.before.before.before.loop-k-test.true)
+loop-less c = omega (arith, c.loop-k-test.true)
 
 loop-again : tie.Need-loop-k-preserved invariant-loop decreases-loop
 loop-again c =
-    let at-put-token = c.before.before.before.before.before in
-    let at-read-record = at-put-token.before.before in
-    let test = at-read-record.before in
-    let head = test.before in
-    let start' = head.before.before.before.before.before in (
-      at-put-token.put_token.auto.1.1.1.1.1.1.0
-          ∙ head.loop-k.invariant.0,
-      λ rs h. putting_next rs start'.args.separator start'.args.mode start'.args.records.now
-          start'.args.pool.now (head.loop-k.invariant.1 rs h) test.loop-k-test.true at-read-record.read_record-token.ensures
-          (at-put-token.put_token.ensures rs h (spaced_alone start'.requires
-          (omega (arith, (head.loop-k.invariant.1 rs h).few, test.loop-k-test.true)) at-read-record.read_record-token.ensures rs h)
-          (from rs start'.args.separator start'.args.mode start'.args.records.now start'.args.pool.now head.loop-k.k)
-          (head.loop-k.invariant.1 rs h).laid (from_last rs start'.args.separator start'.args.mode start'.args.records.now
-          start'.args.pool.now head.loop-k.k (head.loop-k.invariant.1 rs h).few)) c.before.in-At.is,
+    (
+      c.put_token.auto.1.1.1.1.1.1.0
+          ∙ c.loop-k.invariant.0,
+      λ rs h. putting_next rs c.args.separator c.args.mode c.args.records.now
+          c.args.pool.now (c.loop-k.invariant.1 rs h) c.loop-k-test.true c.read_record-token.ensures
+          (c.put_token.ensures rs h (spaced_alone c.requires
+          (omega (arith, (c.loop-k.invariant.1 rs h).few, c.loop-k-test.true)) c.read_record-token.ensures rs h)
+          (from rs c.args.separator c.args.mode c.args.records.now c.args.pool.now c.loop-k.k)
+          (c.loop-k.invariant.1 rs h).laid (from_last rs c.args.separator c.args.mode c.args.records.now
+          c.args.pool.now c.loop-k.k (c.loop-k.invariant.1 rs h).few)) c.in-At.is,
     )
 
 same_length : tie.Need-shape_of-scratch-in-Full invariant-loop decreases-loop
-same_length c = c.before.before.before.before.put_token.auto.1.1.1.1.1.1.0
-    ∙ c.before.before.before.before.before.before.before.before.loop-k.invariant.0
+same_length c = c.put_token.auto.1.1.1.1.1.1.0
+    ∙ c.loop-k.invariant.0
 
 returns : tie.Need-returns-in-Full invariant-loop decreases-loop
 returns c =
-    let at-read-record = c.before.before.before.before.before.before in
-    let test = at-read-record.before in
-    let head = test.before in
-    let start = head.before.before.before.before.before in
-    λ rs h. putting_full rs start.args.separator start.args.mode start.args.records.now start.args.pool.now
-    (head.loop-k.invariant.1 rs h) test.loop-k-test.true at-read-record.read_record-token.ensures
-    (c.before.before.before.before.put_token.ensures rs h
-    (spaced_alone start.requires (omega (arith, (head.loop-k.invariant.1 rs h).few, test.loop-k-test.true))
-    at-read-record.read_record-token.ensures rs h) (from rs start.args.separator start.args.mode start.args.records.now
-    start.args.pool.now head.loop-k.k) (head.loop-k.invariant.1 rs h).laid
-    (from_last rs start.args.separator start.args.mode start.args.records.now start.args.pool.now head.loop-k.k
-    (head.loop-k.invariant.1 rs h).few)) c.in-Full.is
+    λ rs h. putting_full rs c.args.separator c.args.mode c.args.records.now c.args.pool.now
+    (c.loop-k.invariant.1 rs h) c.loop-k-test.true c.read_record-token.ensures
+    (c.put_token.ensures rs h
+    (spaced_alone c.requires (omega (arith, (c.loop-k.invariant.1 rs h).few, c.loop-k-test.true))
+    c.read_record-token.ensures rs h) (from rs c.args.separator c.args.mode c.args.records.now
+    c.args.pool.now c.loop-k.k) (c.loop-k.invariant.1 rs h).laid
+    (from_last rs c.args.separator c.args.mode c.args.records.now c.args.pool.now c.loop-k.k
+    (c.loop-k.invariant.1 rs h).few)) c.in-Full.is
 
 same-length-2 : tie.Need-shape_of-scratch invariant-loop decreases-loop
-same-length-2 c = c.before.loop-k.invariant.0
+same-length-2 c = c.loop-k.invariant.0
 
 returns-2 : tie.Need-returns invariant-loop decreases-loop
 returns-2 c =
-    let start = c.before.before.before.before.before.before in
-    λ rs h. putting_end rs start.args.separator start.args.mode start.args.records.now start.args.pool.now
-    (c.before.loop-k.invariant.1 rs h) (omega (arith, c.loop-k-test.false))
+    λ rs h. putting_end rs c.args.separator c.args.mode c.args.records.now c.args.pool.now
+    (c.loop-k.invariant.1 rs h) (omega (arith, c.loop-k-test.false))
 
 pub put_list_spec : {M : Type 1} → statement M
 put_list_spec =

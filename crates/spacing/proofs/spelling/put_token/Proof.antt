@@ -11,56 +11,47 @@ use Rattle.spacing.proofs.spelling.put_token.Tie as tie
 
 put-token-requires : tie.Need-put_token-requires
 put-token-requires c κs =
-    let start = c.before.before.before.before in
-    (start.requires.1.0, start.requires.1.1.1)
+    (c.requires.1.0, c.requires.1.1.1)
 
 is-due-requires : tie.Need-is_due-requires
 is-due-requires c κs = (
-  c.before.before.before.before.before.before.before.before.before.before.before.before.requires.0,
-  (c.before.before.before.before.before.before.before.put_token.ensures.at _
-      c.before.before.before.start-1.given.1).within,
+  c.requires.0,
+  (c.put_token.ensures.at _
+      c.in-At.is).within,
 )
 
 put-both-requires : tie.Need-put_both-requires
 put-both-requires c κs =
-    let placed = c.before.before.before.before.before.before.before.before.before.before in
-    let start = placed.before.before.before.before.before in
-    (start.requires.1.0, (start.requires.1.1.0, omega (arith, placed.put_token.auto, start.requires.1.1.1)))
+    (c.requires.1.0, (c.requires.1.1.0, omega (arith, c.put_token.auto, c.requires.1.1.1)))
 
 returns : tie.Need-returns-then-is_due
 returns c =
-    let at-put-token = c.before.before.before.before.before.before.before.before.before.before.before.before.before in
-    let start' = at-put-token.before.before.before.before.before in
-    λ rs h a us e l. let s = at-put-token.put_token.ensures.at _
-    c.before.before.before.before.before.before.before.before.before.start-1.given.1 in token_both rs
-    start'.args.mode start'.args.pool.now start'.args.token start'.args.separator us
-    (drop start'.args.at at-put-token.put_token.new.1.1.0)
-    (behind start'.args.at (bytes_in start'.args.pool.now start'.args.token) start'.args.scratch.now s
-    at-put-token.put_token.auto.1.1.0 start'.requires.1.1.1 ∙ e)
-    (sym c.before.before.before.before.if-is_due.true
-    ∙ c.before.before.before.before.before.is_due.ensures rs h _ us
-    (token-ahead rs start'.args.mode start'.args.pool.now start'.args.token start'.args.separator us
-    (drop start'.args.at start'.args.scratch.now) e a start'.requires.1.0 l s.laid)) c.before.before.put_both.ensures
+    λ rs h a us e l. let s = c.put_token.ensures.at _
+    c.in-At.is in token_both rs
+    c.args.mode c.args.pool.now c.args.token c.args.separator us
+    (drop c.args.at c.put_token.new.1.1.0)
+    (behind c.args.at (bytes_in c.args.pool.now c.args.token) c.args.scratch.now s
+    c.put_token.auto.1.1.0 c.requires.1.1.1 ∙ e)
+    (sym c.if-is_due.true
+    ∙ c.is_due.ensures rs h _ us
+    (token-ahead rs c.args.mode c.args.pool.now c.args.token c.args.separator us
+    (drop c.args.at c.args.scratch.now) e a c.requires.1.0 l s.laid)) c.put_both.ensures
 
 returns-2 : tie.Need-returns-else-is_due
 returns-2 c =
-    let at-start = c.before.before.before.before.before in
-    let at-put-token = at-start.before.before.before.before in
-    let start' = at-put-token.before.before.before.before.before in
-    λ rs h a us e l. let s = at-put-token.put_token.ensures.at _ at-start.start-1.given.1 in token_alone rs start'.args.mode
-    start'.args.pool.now start'.args.token start'.args.separator us
-    (drop start'.args.at start'.args.scratch.now) e
-    (sym c.if-is_due.false ∙ c.before.is_due.ensures rs h _ us
-    (token-ahead rs start'.args.mode start'.args.pool.now start'.args.token start'.args.separator us
-    (drop start'.args.at start'.args.scratch.now) e a start'.requires.1.0 l s.laid)) at-start.start-1.given.1
-    at-put-token.put_token.ensures
+    λ rs h a us e l. let s = c.put_token.ensures.at _ c.in-At.is in token_alone rs c.args.mode
+    c.args.pool.now c.args.token c.args.separator us
+    (drop c.args.at c.args.scratch.now) e
+    (sym c.if-is_due.false ∙ c.is_due.ensures rs h _ us
+    (token-ahead rs c.args.mode c.args.pool.now c.args.token c.args.separator us
+    (drop c.args.at c.args.scratch.now) e a c.requires.1.0 l s.laid)) c.in-At.is
+    c.put_token.ensures
 
 returns-3 : tie.Need-returns-in-Full
 returns-3 c =
-    let start = c.before.before.before.before.before.before.before.before.before in
-    λ rs h a us e l. token_full rs start.args.mode start.args.pool.now start.args.token start.args.separator us
-    (drop start.args.at start.args.scratch.now) e c.in-Full.is
-    c.before.before.before.before.put_token.ensures
+    λ rs h a us e l. token_full rs c.args.mode c.args.pool.now c.args.token c.args.separator us
+    (drop c.args.at c.args.scratch.now) e c.in-Full.is
+    c.put_token.ensures
 
 pub put_token_spec : {M : Type 1} → statement M
 put_token_spec =

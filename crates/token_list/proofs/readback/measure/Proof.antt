@@ -20,27 +20,27 @@ read-record-requires : tie.Need-read_record-token-requires invariant-loop decrea
 read-record-requires c κs = omega (arith, c.loop-k-test.true)
 
 returns : tie.Need-returns-then-pool-token invariant-loop decreases-loop
-returns c = spanning_outside c.before.before.before.before.before.loop-k.invariant c.before.before.before.before.loop-k-test.true
-    c.before.before.before.read_record-token.ensures c.if-pool-token.true
+returns c = spanning_outside c.loop-k.invariant c.loop-k-test.true
+    c.read_record-token.ensures c.if-pool-token.true
 
 returns-2 : tie.Need-returns-then-total-gt-TEXT invariant-loop decreases-loop
-returns-2 c = spanning_long c.before.before.before.before.before.before.loop-k.invariant
-    c.before.before.before.before.before.loop-k-test.true c.before.before.before.before.read_record-token.ensures
-    c.before.if-pool-token.false c.if-total-gt-TEXT.true
+returns-2 c = spanning_long c.loop-k.invariant
+    c.loop-k-test.true c.read_record-token.ensures
+    c.if-pool-token.false c.if-total-gt-TEXT.true
 
 add-k : tie.Need-overflow_add-k invariant-loop decreases-loop
-add-k c = omega (arith, c.before.before.before.before.before.loop-k-test.true)
+add-k c = omega (arith, c.loop-k-test.true)
 
 loop-less : tie.Need-loop-k-smaller invariant-loop decreases-loop
-loop-less c = omega (arith, c.before.before.before.before.before.loop-k-test.true)
+loop-less c = omega (arith, c.loop-k-test.true)
 
 loop-again : tie.Need-loop-k-preserved invariant-loop decreases-loop
-loop-again c = spanning_next c.before.before.before.before.before.before.loop-k.invariant
-    c.before.before.before.before.before.loop-k-test.true c.before.before.before.before.read_record-token.ensures
-    c.before.if-pool-token.false c.if-total-gt-TEXT.false
+loop-again c = spanning_next c.loop-k.invariant
+    c.loop-k-test.true c.read_record-token.ensures
+    c.if-pool-token.false c.if-total-gt-TEXT.false
 
 returns-3 : tie.Need-returns invariant-loop decreases-loop
-returns-3 c = spanning_end c.before.loop-k.invariant c.loop-k-test.false
+returns-3 c = spanning_end c.loop-k.invariant c.loop-k-test.false
 
 pub measure_spec : {M : Type 1} → statement M
 measure_spec =

@@ -58,20 +58,20 @@ test c = (read c).before
 returns : tie.Need-returns-then-chosen-eq0 invariant-loop decreases-loop
 returns c = λ rs pool h s.
     let a = c.before.before in
-    retracing_none ((test a).before.loop-k.invariant rs pool h s) (held_empty h) (test a).loop-test.true (read a).read-record.ensures
-    ((found a).find-tag.ensures rs h) (a.choose_with-chosen.ensures.0 rs _ h (part-front _ _ _)) c.if-chosen-eq0.true
+    retracing_none ((test a).before.loop-k.invariant rs pool h s) (held_empty h) (test a).loop-k-test.true (read a).read_record-token.ensures
+    ((found a).find_tag-rule.ensures rs h) (a.choose_with-chosen.ensures.0 rs _ h (part-front _ _ _)) c.if-chosen-eq0.true
 
 returns-2 : tie.Need-returns-then-chosen-len invariant-loop decreases-loop
 returns-2 c = λ rs pool h s.
     let a = c.before.before.before.before in
-    retracing_longer ((test a).before.loop-k.invariant rs pool h s) (held_empty h) (test a).loop-test.true (read a).read-record.ensures
-    ((found a).find-tag.ensures rs h) (a.choose_with-chosen.ensures.0 rs _ h (part-front _ _ _)) c.if-chosen-len.true
+    retracing_longer ((test a).before.loop-k.invariant rs pool h s) (held_empty h) (test a).loop-k-test.true (read a).read_record-token.ensures
+    ((found a).find_tag-rule.ensures rs h) (a.choose_with-chosen.ensures.0 rs _ h (part-front _ _ _)) c.if-chosen-len.true
 
 returns-3 : tie.Need-returns-then-chosen-rule invariant-loop decreases-loop
 returns-3 c = λ rs pool h s.
     let a = c.before.before.before.before.before.before in
-    retracing_other ((test a).before.loop-k.invariant rs pool h s) (held_empty h) (test a).loop-test.true (read a).read-record.ensures
-    ((found a).find-tag.ensures rs h) (a.choose_with-chosen.ensures.0 rs _ h (part-front _ _ _)) c.before.before.before.before.if-chosen-eq0.false
+    retracing_other ((test a).before.loop-k.invariant rs pool h s) (held_empty h) (test a).loop-k-test.true (read a).read_record-token.ensures
+    ((found a).find_tag-rule.ensures rs h) (a.choose_with-chosen.ensures.0 rs _ h (part-front _ _ _)) c.before.before.before.before.if-chosen-eq0.false
     c.before.before.if-chosen-len.false c.if-chosen-rule.true
 
 add_at : tie.Need-overflow_add-at invariant-loop decreases-loop
@@ -82,23 +82,23 @@ add_at c =
       arith,
       length-take-le start.args.total start.args.text.now start.requires.1.0,
       retracing_within (some (test a).before)
-          (held_empty start.requires.0.holds) (test a).loop-test.true (read a).read-record.ensures,
-      start.good,
+          (held_empty start.requires.0.holds) (test a).loop-k-test.true (read a).read_record-token.ensures,
+      start.well_formed,
     )
 
 add-k : tie.Need-overflow_add-k invariant-loop decreases-loop
 add-k c =
     let t = test c.before.before.before.before.before.before in
-    omega (arith, t.loop-k-test.taken, t.before.before.before.before.before.good)
+    omega (arith, t.loop-k-test.true, t.before.before.before.before.before.well_formed)
 
 loop-less : tie.Need-loop-k-smaller invariant-loop decreases-loop
-loop-less c = omega (arith, (test c.before.before.before.before.before.before).loop-test.taken)
+loop-less c = omega (arith, (test c.before.before.before.before.before.before).loop-k-test.true)
 
 loop-again : tie.Need-loop-k-preserved invariant-loop decreases-loop
 loop-again c = λ rs pool h s.
     let a = c.before.before.before.before.before.before in
-    retracing_next ((test a).before.loop-k.invariant rs pool h s) (held_empty h) (test a).loop-test.true (read a).read-record.ensures
-    ((found a).find-tag.ensures rs h) (a.choose_with-chosen.ensures.0 rs _ h (part-front _ _ _)) c.before.before.before.before.if-chosen-eq0.false
+    retracing_next ((test a).before.loop-k.invariant rs pool h s) (held_empty h) (test a).loop-k-test.true (read a).read_record-token.ensures
+    ((found a).find_tag-rule.ensures rs h) (a.choose_with-chosen.ensures.0 rs _ h (part-front _ _ _)) c.before.before.before.before.if-chosen-eq0.false
     c.before.before.if-chosen-len.false c.if-chosen-rule.false
 
 returns-4 : tie.Need-returns invariant-loop decreases-loop
