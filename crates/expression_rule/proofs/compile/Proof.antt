@@ -1,6 +1,8 @@
 -- `compile`: each return is one case of the outcome. Assumes nothing.
 use mathlib.Core.Path.{◌≡◌, sym, ◌∙◌}
 use mathlib.Core.Bool.{false, ◌||◌}
+use mathlib.Core.List.{List}
+use Prim.Native.Nat.{ℕ, ◌≤◌}
 use lib.Dec.{eqb, ltb}
 use lib.ListN.{length}
 use borrow.Author.Tests.{eq-eqb, ne_eqb, lt-ltb, le-ltb}
@@ -11,12 +13,11 @@ use Rattle.expression_rule.proofs.compile.Statement.{statement}
 use Rattle.expression_rule.proofs.compile.Tie as tie
 
 -- tag and kind are those of a rule, and the text is no longer than the limit
-fine : (c : tie.Else-kind-gt1)
-    → eqb c.before.before.before.before.args.tag 0 || ltb 1 c.before.before.before.before.args.kind ≡ false
-fine c = rw (ne_eqb _ 0 c.before.if-tag-eq0.false, le-ltb 1 _ c.if-kind-gt1.false)
+fine : (tag kind : ℕ) → (tag ≡ 0 → ⊥) → kind ≤ 1 → eqb tag 0 || ltb 1 kind ≡ false
+fine tag kind some low = rw (ne_eqb tag 0 some, le-ltb 1 kind low)
 
-short : (c : tie.Else-text-gt-BYTES) → ltb 512 (length c.before.before.before.before.before.args.text.now) ≡ false
-short c = le-ltb 512 _ c.if-text-gt-BYTES.false
+short : (text : List ℕ) → length text ≤ 512 → ltb 512 (length text) ≡ false
+short text low = le-ltb 512 (length text) low
 
 returns : tie.Need-returns-then-tag-eq0
 returns c = answered (wrong_rule_lem _ _ _ _ (rw (eq-eqb _ 0 c.before.if-tag-eq0.true))) c.refused.ensures
@@ -28,24 +29,20 @@ returns-2 c =
 
 returns-3 : tie.Need-returns-then-text-gt-BYTES
 returns-3 c =
-    answered (text_long _ _ _ _ (fine c.before.before) (lt-ltb 512 _ c.before.if-text-gt-BYTES.true)) c.refused-then-text-gt-BYTES.ensures
+    answered (text_long _ _ _ _ (fine _ _ c.if-tag-eq0.false c.if-kind-gt1.false) (lt-ltb 512 _ c.before.if-text-gt-BYTES.true)) c.refused-then-text-gt-BYTES.ensures
 
 returns-4 : tie.Need-returns-in-Right
 returns-4 c =
-    let k = c.before.before.before.before.before.before.before in
-    let m = k.before.before in
-    let u = understood _ (sym k.in-Right.is ∙ m.read_expression.ensures.answer) in
-    let s = m.before.before.before.before.before.before.before.before in
-    let h = holds (m.read_expression.ensures.noted u.expression u.reads) s.args.text.now u.is in
-    passed _ _ _ _ (fine m.before.before.before.before) (short m.before.before.before) u.reads
-    (c.before.before.compile_part.ensures u.expression h)
+    let u = understood _ (sym c.in-Right.is ∙ c.read_expression.ensures.answer) in
+    let h = holds (c.read_expression.ensures.noted u.expression u.reads) c.args.text.now u.is in
+    passed _ _ _ _ (fine _ _ c.if-tag-eq0.false c.if-kind-gt1.false) (short _ c.if-text-gt-BYTES.false) u.reads
+    (c.compile_part.ensures u.expression h)
 
 returns-5 : tie.Need-returns-in-Wrong
 returns-5 c =
-    let k = c.before.before in
-    let m = k.before.before in
-    let w = mistaken _ (sym k.in-Wrong.is ∙ m.read_expression.ensures.answer) in
-    answered (text_wrong _ _ _ _ (fine m.before.before.before.before) (short m.before.before.before) w) c.refused-in-Wrong.ensures
+    let w = mistaken _ (sym c.in-Wrong.is ∙ c.read_expression.ensures.answer) in
+    answered (text_wrong _ _ _ _ (fine _ _ c.if-tag-eq0.false c.if-kind-gt1.false) (short _ c.if-text-gt-BYTES.false) w)
+    c.refused-in-Wrong.ensures
 
 pub compile_spec : {M : Type 1} → statement M
 compile_spec =

@@ -11,30 +11,21 @@ returns-2 : tie.Need-returns-then-part-gt-DEPTH
 returns-2 c = λ e h. answered (too_deep _ _ h _ c.before.before.before.if-part-gt-POSITIONS.false c.before.if-part-gt-DEPTH.true) c.refused-then-part-gt-DEPTH.ensures
 
 write-states-requires : tie.Need-write_states-requires
-write-states-requires c κs =
-    let k = c.before.before.before.before in
-    found_few (k.before.before.explore.ensures.found _ k.in-States.is)
+write-states-requires c κs = found_few (c.explore.ensures.found _ c.in-States.is)
 
 returns-3 : tie.Need-returns-in-States
 returns-3 c = λ e h.
-    let k = c.before.before.before.before.before.before.before in
-    let m = k.before.before in
-    let f = m.explore.ensures.found _ k.in-States.is in
-    let a = m.before.before.before in
-    let b = a.before.before.before in
-    let s = a.tell_sizes.ensures in
-    rw (found_all _ _ h _ b.before.before.if-part-gt-POSITIONS.false b.if-part-gt-DEPTH.false s.0 s.1 f)
-    (c.before.before.write_states.ensures _ (found_stood s.0 f))
+    let f = c.explore.ensures.found _ c.in-States.is in
+    let s = c.tell_sizes.ensures in
+    rw (found_all _ _ h _ c.if-part-gt-POSITIONS.false c.if-part-gt-DEPTH.false s.0 s.1 f)
+    (c.write_states.ensures _ (found_stood s.0 f))
 
 returns-4 : tie.Need-returns-in-TooMany
 returns-4 c = λ e h.
-    let m = c.before.before.before in
-    let a = m.before.before.before in
-    let b = a.before.before.before in
-    let s = a.tell_sizes.ensures in
+    let s = c.tell_sizes.ensures in
     answered
-    (many_sets_lem _ _ h _ b.before.before.if-part-gt-POSITIONS.false b.if-part-gt-DEPTH.false s.0 s.1
-    (m.explore.ensures.many c.before.in-TooMany.is))
+    (many_sets_lem _ _ h _ c.if-part-gt-POSITIONS.false c.if-part-gt-DEPTH.false s.0 s.1
+    (c.explore.ensures.many c.in-TooMany.is))
     c.refused-in-TooMany.ensures
 
 pub compile_part_spec : {M : Type 1} → statement M
