@@ -15,7 +15,7 @@
 #   make install       header, library, pkg-config file, cutlist, zgvbook, documents and examples below PREFIX (/usr/local; DESTDIR)
 #   make uninstall     removes what make install put there
 #   make dist          a tarball of the same in build/, for who has no kit
-#   make clean         removes build/; what rt has proved stays in target/
+#   make clean         removes build/; what rt has proved stays in crates/*/out/
 #   make help          this text
 #
 # Building the library and cutlist needs rt, the Rattle kit: it proves what it compiles. The rest needs a C compiler; the harness
@@ -37,8 +37,7 @@ NO_RE2C ?=
 
 WARNINGS = -std=c99 -Wall -Wextra -Werror -pedantic
 RATTLE := crates.txt $(shell find crates -name '*.rt' -o -name '*.antt')
-BELOW := $(shell sed -n 's/^zagvulem://p' crates.txt)
-# two runs of rt would share target/: the lock has one wait for the other
+# two runs of rt would share out/ of each crate: the lock has one wait for the other
 RT = flock build/rt.lock tools/quiet.sh
 
 DOCUMENTS = docs/FORMAT.md docs/PERFORMANCE.md
@@ -56,15 +55,14 @@ build:
 	@mkdir -p build
 
 build/libzagvulem.a: $(RATTLE) | build
-	@echo 'Proving the library: two to three minutes on two cores where nothing is proved yet. Logs: build/crates.log, build/library.log'
-	@$(RT) build/crates.log rt check $(BELOW)
-	@$(RT) build/library.log rt staticlib zagvulem
-	@cp target/staticlib/libzagvulem.a $@
+	@echo 'Proving the library: some ten minutes on two cores where nothing is proved yet. Log: build/library.log'
+	@$(RT) build/library.log rt lib zagvulem_c
+	@cp crates/zagvulem_c/out/libzagvulem_c.a $@
 
 build/cutlist: $(RATTLE) | build
-	@echo 'Proving cutlist: about two minutes on two cores where nothing is proved yet. Log: build/cutlist.log'
-	@$(RT) build/cutlist.log rt check cutlist
-	@cp target/bin/cutlist $@
+	@echo 'Proving cutlist: some minutes on two cores where nothing is proved yet. Log: build/cutlist.log'
+	@$(RT) build/cutlist.log rt run cutlist
+	@cp crates/cutlist/out/cutlist $@
 
 cutlist: build/cutlist
 	@:

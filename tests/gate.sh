@@ -46,6 +46,10 @@ echo edit >fail
 gate 1 '3 passed, 2 failed' 'an edit is not refused'
 says 'rt: must-fail lexer/wrong: NOT REFUSED'
 says 'what the compiler said'
+echo bad >fail
+gate 1 '0 passed, 1 failed' 'an edit is bad'
+says 'an edit of must-fail/ is bad'
+! grep -q 'one.sh' said || fail 'the gate goes on although an edit is bad'
 echo dies >fail
 gate 1 '0 passed, 1 failed' 'rt ci has no tally'
 says 'crates.txt: line 3'

@@ -20,7 +20,7 @@ done
 grep -q '^rt: reader proved (4 s)$' said || fail "no line for a crate: $(cat said)"
 ! grep -q 'fn reader\|logic=\|unchanged' said || fail "make prints proofs: $(cat said)"
 [ "$(wc -l <said)" -lt 13 ] || fail "make prints $(wc -l <said) lines"
-for log in build/crates.log build/library.log build/cutlist.log; do
+for log in build/library.log build/cutlist.log; do
     grep -q '^fn reader::read: proved$' "$log" || fail "$log has not all that rt printed"
 done
 
@@ -30,7 +30,7 @@ echo proof >fail
 ! make build/libzagvulem.a >said 2>&1 || fail 'make builds what is not proved'
 grep -q '^  crates/lexer/proofs/lex/Proof.antt:0:1: error: line 0 of the errors$' said || fail "make does not show the errors: $(cat said)"
 grep -q '^rt: lexer NOT PROVED (exit 1, 3 s)$' said || fail "make does not show what failed: $(cat said)"
-grep -q 'the log is build/crates.log' said || fail 'make does not name the log'
+grep -q 'the log is build/library.log' said || fail 'make does not name the log'
 [ "$(wc -l <said)" -lt 120 ] || fail "make prints $(wc -l <said) lines of errors"
 ! grep -q 'fn lexer::rest' said || fail 'make shows what is proved among the errors'
 [ ! -e build/libzagvulem.a ] || fail 'make leaves a library'

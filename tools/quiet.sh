@@ -43,7 +43,7 @@ awk '
         next
     }
     following-- > 0 { say($0); next }
-    /^fn .*: proved$/ || /^library / || /^logic / || /^logic=proved/ || / passed, [0-9]* failed$/ { next }
+    /^(so far: )?fn .*: proved$/ || /^checked / || /^so far: [0-9]+ of / || /^(library|statements|crate) / || /^logic / || /^logic=proved/ || / passed, [0-9]* failed$/ { next }
     { block[held++] = $0 }
     END {
         failures()

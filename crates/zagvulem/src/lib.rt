@@ -1,5 +1,5 @@
 // The library as C calls it: numbers and byte slices, each answer in 64 bits, which `answer_word` puts together.
-// include/zagvulem.h declares these functions.
+// Crate `zagvulem_c` exports these functions to C, and include/zagvulem.h declares them.
 #![tactic(auto)]
 
 ghost use Rattle.std.specs.Prelude.{◌≡◌};
@@ -19,24 +19,21 @@ use answer::RuleAnswer;
 use record::TokenRecord;
 
 // Reads a book: the number of its rules and 0, or the refusal.
-#[unsafe(no_mangle)]
-pub extern "C" fn zgv_read_book(book: &[u8]) -> u64
+pub fn zgv_read_book(book: &[u8]) -> u64
     ensures { result ≡ book_word (answer (read_book book.now)) }
 {
     answer_word::read(book_reader::read(book))
 }
 
 // The stricter reading, which refuses STEP: as `zgv_read_book`, with 33 directly after 3.
-#[unsafe(no_mangle)]
-pub extern "C" fn zgv_read_book_strict(book: &[u8]) -> u64
+pub fn zgv_read_book_strict(book: &[u8]) -> u64
     ensures { result ≡ book_word (answer (read_strict book.now)) }
 {
     answer_word::read(book_reader::read_strict(book))
 }
 
 // Rewrites an old book, a SPAN in each STEP's place: the number of bytes and 0, or the refusal.
-#[unsafe(no_mangle)]
-pub extern "C" fn zgv_rewrite_book(book: &[u8], out: &mut [u8]) -> u64
+pub fn zgv_rewrite_book(book: &[u8], out: &mut [u8]) -> u64
     ensures value { result ≡ print_word (rewrite_outcome book.now out.old).answer }
     ensures out_after { out.new ≡ (rewrite_outcome book.now out.old).out }
 {
@@ -44,8 +41,7 @@ pub extern "C" fn zgv_rewrite_book(book: &[u8], out: &mut [u8]) -> u64
 }
 
 // Makes a rule of an expression, of this tag and kind: the number of bytes of its commands and 0, or the refusal.
-#[unsafe(no_mangle)]
-pub extern "C" fn zgv_compile(tag: u16, kind: u32, regex: &[u8], out: &mut [u8]) -> u64
+pub fn zgv_compile(tag: u16, kind: u32, regex: &[u8], out: &mut [u8]) -> u64
     ensures value { result ≡ print_word (compile_outcome tag kind regex.now out.old).answer }
     ensures out_after { out.new ≡ (compile_outcome tag kind regex.now out.old).out }
 {
@@ -53,8 +49,7 @@ pub extern "C" fn zgv_compile(tag: u16, kind: u32, regex: &[u8], out: &mut [u8])
 }
 
 // The tag and the kind of a rule of a book by its number, from 0, or the refusal.
-#[unsafe(no_mangle)]
-pub extern "C" fn zgv_rule(book: &[u8], index: u32) -> u64
+pub fn zgv_rule(book: &[u8], index: u32) -> u64
     ensures { result ≡ rule_word (rule_outcome book.now index) }
 {
     match book_reader::rule(book, index as usize) {
@@ -64,8 +59,7 @@ pub extern "C" fn zgv_rule(book: &[u8], index: u32) -> u64
 }
 
 // Lexes a text by a book: the number of tokens and the place of the rest, or the refusal.
-#[unsafe(no_mangle)]
-pub extern "C" fn zgv_lex(book: &[u8], text: &[u8], records: &mut [u8], masks: &mut [u8]) -> u64
+pub fn zgv_lex(book: &[u8], text: &[u8], records: &mut [u8], masks: &mut [u8]) -> u64
     ensures value { result
         ≡ lex_word (masked_outcome book.now text.now records.old masks.old).answer }
     ensures records_after { records.new
@@ -77,8 +71,7 @@ pub extern "C" fn zgv_lex(book: &[u8], text: &[u8], records: &mut [u8], masks: &
 }
 
 // Lexes a text by the built-in book, through its byte classes: as `zgv_lex` with the book's command bytes.
-#[unsafe(no_mangle)]
-pub extern "C" fn zgv_lex_builtin(text: &[u8], records: &mut [u8], masks: &mut [u8]) -> u64
+pub fn zgv_lex_builtin(text: &[u8], records: &mut [u8], masks: &mut [u8]) -> u64
     ensures value { result ≡ lex_word (masked_outcome builtin_bytes text.now records.old masks.old).answer }
     ensures records_after { records.new
         ≡ (masked_outcome builtin_bytes text.now records.old masks.old).records }
@@ -90,8 +83,7 @@ pub extern "C" fn zgv_lex_builtin(text: &[u8], records: &mut [u8], masks: &mut [
 
 // Lexes a text in turns: from `place` on while the next reach fits what is left of `budget`. The number of tokens and whether the turn is
 // finished (1, else 0), with the next place and the bytes examined in the two numbers that are lent; or the refusal, which leaves them.
-#[unsafe(no_mangle)]
-pub extern "C" fn zgv_lex_within(
+pub fn zgv_lex_within(
     book: &[u8],
     text: &[u8],
     place: usize,
@@ -122,8 +114,7 @@ pub extern "C" fn zgv_lex_within(
 }
 
 // Prints the tokens that the records say with a pool: the number of bytes and 0, or the refusal.
-#[unsafe(no_mangle)]
-pub extern "C" fn zgv_print(book: &[u8], records: &[u8], pool: &[u8], out: &mut [u8]) -> u64
+pub fn zgv_print(book: &[u8], records: &[u8], pool: &[u8], out: &mut [u8]) -> u64
     ensures value { result
         ≡ print_word (print_outcome book.now records.now pool.now out.old).answer }
     ensures out_after { out.new
@@ -133,8 +124,7 @@ pub extern "C" fn zgv_print(book: &[u8], records: &[u8], pool: &[u8], out: &mut 
 }
 
 // Prints the tokens with a separator token between them: the number of bytes and 0, or the refusal.
-#[unsafe(no_mangle)]
-pub extern "C" fn zgv_print_separated(
+pub fn zgv_print_separated(
     book: &[u8],
     separator_tag: u16,
     separator_place: u32,

@@ -5,10 +5,7 @@ use Rattle.big_endian.proofs.put_four.Statement.{statement}
 use Rattle.big_endian.proofs.put_four.Tie as tie
 
 returns : tie.Need-returns
-returns c =
-    let a = c.before.before.before.before.before.before.before.before.before.args in
-    rw (c.before.before.put_two-2.ensures, c.before.before.before.before.before.before.put_two.ensures)
-    (four-stored a.bytes-1.now a.at a.n)
+returns c = rw (c.put_two-2.ensures, c.put_two.ensures) (four-stored c.args.bytes.now c.args.at c.args.n)
 
 pub put_four_spec : {M : Type 1} → statement M
 put_four_spec = tie.close (tie.spec (λ c κs. search rules) (λ c. search rules) (λ c κs. search rules) (λ c. search rules) returns)

@@ -4,58 +4,46 @@ use borrow.Author.Rules.{rules}
 use Rattle.closing.proofs.store_rule.Statement.{statement}
 use Rattle.closing.proofs.store_rule.Tie as tie
 
-abbrev entry : tie.After-head-head → tie.Start
-entry c = c.before.before.before.before.before
-
 head-below : (c : tie.After-head-head) → c.head-head.result < 65536
 head-below c =
-    let k = entry c in
-    let l = k.requires.tops k.args.book.start (omega (arith, c.before.struct_known-1.given)) in
-    rw (c.head-head.ensures, c.before.before.stamp-stamp.ensures) (omega (arith, l, k.requires.short))
+    let l = c.requires.tops c.args.book.start (omega (arith, c.before.struct_known-1.given)) in
+    rw (c.head-head.ensures, c.stamp-stamp.ensures) (omega (arith, l, c.requires.short))
 
 mul-start : tie.Need-overflow_mul-start
 mul-start c = omega (arith, head-below c)
 
 first-bytes-requires : tie.Need-first_bytes-requires
 first-bytes-requires c κs =
-    let k = c.before in
-    rw (k.head-head.ensures, k.before.before.stamp-stamp.ensures)
-    ((entry k).requires.chains (entry k).args.book.start (omega (arith, k.before.struct_known-1.given)))
+    rw (c.head-head.ensures, c.stamp-stamp.ensures)
+    (c.requires.chains c.args.book.start (omega (arith, c.struct_known-1.given)))
 
 add_start : tie.Need-overflow_add-start
-add_start c = omega (arith, head-below c.before.before, c.first_bytes.ensures.0)
+add_start c = omega (arith, head-below c.before, c.first_bytes.ensures.0)
 
 put-body-requires : tie.Need-put_body-requires
-put-body-requires c κs =
-    let k = c.before.before.before.before.before.before.before.before.before in
-    let k₁ = entry k.before.before in (
-      search rules,
-      (
-        omega (arith, head-below k.before.before, k.first_bytes.ensures.0),
-        omega (arith, k₁.requires.order, k₁.requires.short),
-        k₁.requires.short,
-      ),
-    )
+put-body-requires c κs = (
+  search rules,
+  (
+    omega (arith, head-below c.before.before.before.before.before.before.before.before.before.before, c.first_bytes.ensures.0),
+    omega (arith, c.requires.order, c.requires.short),
+    c.requires.short,
+  ),
+)
 
 returns : tie.Need-returns
 returns c =
-    let k = c.before.before.before.before.before.before in
-    let k₁ = k.before.before.before.before in
-    let k₂ = k₁.before.before.before.before in
-    let k₃ = k₂.before.before in
-    let k₄ = k₃.before.before in
     record {
-      bytes = k₃.first_bytes.result;
-      small = k₃.first_bytes.ensures.0;
-      reach = rw (k₄.head-head.ensures, k₄.before.before.stamp-stamp.ensures) at k₃.first_bytes.ensures.1;
-      middle = k₂.settle.new.0;
-      settles = rw (← k₄.before.before.stamp-stamp.ensures) k₂.settle.ensures;
+      bytes = c.first_bytes.result;
+      small = c.first_bytes.ensures.0;
+      reach = rw (c.head-head.ensures, c.stamp-stamp.ensures) at c.first_bytes.ensures.1;
+      middle = c.settle.new.table;
+      settles = rw (← c.stamp-stamp.ensures) c.settle.ensures;
       stored = rw (
-        c.before.before.put_count.ensures,
-        k.put_body.ensures,
-        k₁.put_name.ensures,
-        k₄.head-head.ensures,
-        k₄.before.before.stamp-stamp.ensures,
+        c.put_count.ensures,
+        c.put_body.ensures,
+        c.put_name.ensures,
+        c.head-head.ensures,
+        c.stamp-stamp.ensures,
       );
     }
 

@@ -10,17 +10,17 @@ use Rattle.command.proofs.command_of.Tie as tie
 other : tie.Need-returns-in_default
 unfolding decode
 other c = rw (
-  ne_eqb _ _ c.in_default.rest.0.0.0.0.0.0.0.0.0.0.1,
-  ne_eqb _ _ c.in_default.rest.0.0.0.0.0.0.0.0.0.1,
-  ne_eqb _ _ c.in_default.rest.0.0.0.0.0.0.0.0.1,
-  ne_eqb _ _ c.in_default.rest.0.0.0.0.0.0.0.1,
-  ne_eqb _ _ c.in_default.rest.0.0.0.0.0.0.1,
-  ne_eqb _ _ c.in_default.rest.0.0.0.0.0.1,
-  ne_eqb _ _ c.in_default.rest.0.0.0.0.1,
-  ne_eqb _ _ c.in_default.rest.0.0.0.1,
-  ne_eqb _ _ c.in_default.rest.0.0.1,
-  ne_eqb _ _ c.in_default.rest.0.1,
-  ne_eqb _ _ c.in_default.rest.1,
+  ne_eqb _ _ c.in_default.in_default-own.rest.0.0.0.0.0.0.0.0.0.0.1,
+  ne_eqb _ _ c.in_default.in_default-own.rest.0.0.0.0.0.0.0.0.0.1,
+  ne_eqb _ _ c.in_default.in_default-own.rest.0.0.0.0.0.0.0.0.1,
+  ne_eqb _ _ c.in_default.in_default-own.rest.0.0.0.0.0.0.0.1,
+  ne_eqb _ _ c.in_default.in_default-own.rest.0.0.0.0.0.0.1,
+  ne_eqb _ _ c.in_default.in_default-own.rest.0.0.0.0.0.1,
+  ne_eqb _ _ c.in_default.in_default-own.rest.0.0.0.0.1,
+  ne_eqb _ _ c.in_default.in_default-own.rest.0.0.0.1,
+  ne_eqb _ _ c.in_default.in_default-own.rest.0.0.1,
+  ne_eqb _ _ c.in_default.in_default-own.rest.0.1,
+  ne_eqb _ _ c.in_default.in_default-own.rest.1,
 )
 
 -- the bytes that are read, then what is returned, each by the arm of the command

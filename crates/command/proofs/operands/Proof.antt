@@ -7,16 +7,16 @@ use Rattle.command.proofs.operands.Tie as tie
 other : tie.Need-returns-in_default
 unfolding operands_of
 other c = rw (
-  ne_eqb _ _ c.in_default.rest.0.0.0.0.0.0.0.0.0.1,
-  ne_eqb _ _ c.in_default.rest.0.0.0.0.0.0.0.0.1,
-  ne_eqb _ _ c.in_default.rest.0.0.0.0.0.0.0.1,
-  ne_eqb _ _ c.in_default.rest.0.0.0.0.0.0.1,
-  ne_eqb _ _ c.in_default.rest.0.0.0.0.0.1,
-  ne_eqb _ _ c.in_default.rest.0.0.0.0.1,
-  ne_eqb _ _ c.in_default.rest.0.0.0.1,
-  ne_eqb _ _ c.in_default.rest.0.0.1,
-  ne_eqb _ _ c.in_default.rest.0.1,
-  ne_eqb _ _ c.in_default.rest.1,
+  ne_eqb _ _ c.in_default.in_default-own.rest.0.0.0.0.0.0.0.0.0.1,
+  ne_eqb _ _ c.in_default.in_default-own.rest.0.0.0.0.0.0.0.0.1,
+  ne_eqb _ _ c.in_default.in_default-own.rest.0.0.0.0.0.0.0.1,
+  ne_eqb _ _ c.in_default.in_default-own.rest.0.0.0.0.0.0.1,
+  ne_eqb _ _ c.in_default.in_default-own.rest.0.0.0.0.0.1,
+  ne_eqb _ _ c.in_default.in_default-own.rest.0.0.0.0.1,
+  ne_eqb _ _ c.in_default.in_default-own.rest.0.0.0.1,
+  ne_eqb _ _ c.in_default.in_default-own.rest.0.0.1,
+  ne_eqb _ _ c.in_default.in_default-own.rest.0.1,
+  ne_eqb _ _ c.in_default.in_default-own.rest.1,
 )
 
 pub operands_spec : {M : Type 1} → statement M

@@ -8,28 +8,28 @@ use Rattle.output.proofs.put_both.Statement.{statement}
 use Rattle.output.proofs.put_both.Tie as tie
 
 put-token-requires : tie.Need-put_token-requires
-put-token-requires c κs = (c.before.before.before.requires.1.0, c.before.before.before.requires.1.1)
+put-token-requires c κs = (c.requires.1.0, c.requires.1.1)
 
 put-token-requires-2 : tie.Need-put_token-requires-in-At
 put-token-requires-2 c κs = (
-  c.before.before.before.before.before.before.before.before.before.before.requires.0,
-  (c.before.before.before.before.before.before.put_token.ensures.at _ c.before.before.in-At.is).within,
+  c.requires.0,
+  (c.put_token.ensures.at _ c.in-At.is).within,
 )
 
 returns : tie.Need-returns-in-At
 returns c =
-    let start' = c.before.before.before.before.before.before.before.before.before.before.before.before.before in
-    both_put (bytes_in start'.args.pool.now start'.args.token)
-    (bytes_in start'.args.pool.now start'.args.separator ++ drop start'.args.at start'.args.scratch.now)
-    (c.before.before.before.before.before.before.before.before.before.put_token.ensures.at _
-    c.before.before.before.before.before.in-At.is) c.before.before.put_token-in-At.ensures
+    let a = c.args in
+    both_put (bytes_in a.pool.now a.token)
+    (bytes_in a.pool.now a.separator ++ drop a.at a.scratch.now)
+    (c.put_token.ensures.at _
+    c.in-At.is) c.put_token-in-At.ensures
 
 returns-2 : tie.Need-returns-in-Full
 returns-2 c =
-    let start = c.before.before.before.before.before.before.before.before in
-    both_full (bytes_in start.args.pool.now start.args.token) (bytes_in start.args.pool.now start.args.separator)
-    (drop start.args.at start.args.scratch.now) c.in-Full.is
-    c.before.before.before.before.put_token.ensures
+    let a = c.args in
+    both_full (bytes_in a.pool.now a.token) (bytes_in a.pool.now a.separator)
+    (drop a.at a.scratch.now) c.in-Full.is
+    c.put_token.ensures
 
 pub put_both_spec : {M : Type 1} → statement M
 put_both_spec =

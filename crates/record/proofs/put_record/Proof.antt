@@ -7,14 +7,9 @@ use Rattle.record.proofs.put_record.Tie as tie
 
 returns : tie.Need-returns
 returns c =
-    let first = c.before.before.before.before.before.before.before.before.before.before in
-    let a = first.before.before.before.args in
-    rw (
-      c.before.before.put_two.ensures,
-      c.before.before.before.before.before.before.put_four-2.ensures,
-      first.put_four.ensures,
-    )
-    (record_stored a.records-1.now (10 * a.k) a.tag a.place a.len first.before.before.before.requires)
+    let a = c.args in
+    rw (c.put_two.ensures, c.put_four-2.ensures, c.put_four.ensures)
+    (record_stored a.records.now (10 * a.k) a.tag a.place a.len c.requires)
 
 pub put_record_spec : {M : Type 1} → statement M
 put_record_spec =

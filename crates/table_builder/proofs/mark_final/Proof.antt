@@ -6,13 +6,11 @@ use Rattle.table_builder.proofs.mark_final.Tie as tie
 
 add-rows : tie.Need-overflow_add-rows
 add-rows c =
-    let k = c.before.before.before in
-    omega (arith, c.cell-old.ensures, cell_small k.args.rows.now k.args.stamp k.args.s, k.requires)
+    omega (arith, c.cell-old.ensures, cell_small c.args.rows.now c.args.stamp c.args.s, c.requires)
 
 add-rows-2 : tie.Need-overflow_add-rows-2
 add-rows-2 c =
-    let k = c.before.before.before in
-    omega (arith, c.cell-old.ensures, cell_small k.args.rows.now k.args.stamp k.args.s, k.requires)
+    omega (arith, c.cell-old.ensures, cell_small c.args.rows.now c.args.stamp c.args.s, c.requires)
 
 returns : tie.Need-returns
 returns c = rw c.cell-old.ensures

@@ -1,5 +1,5 @@
 use mathlib.Core.Path.{refl}
-use mathlib.Core.Logic.{◌⊎◌, inl, inr, ⊎_elim}
+use mathlib.Core.Logic.{◌⊎◌, inl, inr}
 use Prim.Native.Nat.{◌<◌}
 use native.Mathlib.Omega.{arith}
 use borrow.Author.Rules.{rules}
@@ -9,6 +9,7 @@ use Rattle.automaton.proofs.Chains.{At, Along, along_start, along_at, along_next
 use Rattle.table_builder.specs.Layers.{shares}
 use Rattle.table_builder.proofs.Spanning.{share_hit, share_miss}
 use Rattle.table_builder.proofs.shares_byte.Statement.{statement}
+use Rattle.table_builder.proofs.shares_byte.Lts.{then-first-high+else-low-last, else-first-high}
 use Rattle.table_builder.proofs.shares_byte.Tie as tie
 
 abbrev invariant-loop : tie.invariant-loop-h
@@ -45,10 +46,11 @@ loop-again : tie.Need-loop-h-preserved invariant-loop decreases-loop
 loop-again c =
     let k = c.before.before.before.before.before in
     let k₁ = k.before.before in
-    let m = ⊎_elim {C = (high_of (edge_at k₁.args.table.now k.loop-h.h) < k₁.args.low) ⊎
-    (k₁.args.high < low_of (edge_at k₁.args.table.now k.loop-h.h))}
-    (λ w. inr (omega (arith, w.2.left, w.1.ensures))) (λ w. inl (omega (arith, w.left, c.before.before.high.ensures)))
-    c.before.if-first-high.branch in
+    let m : (high_of (edge_at k₁.args.table.now k.loop-h.h) < k₁.args.low) ⊎ (k₁.args.high < low_of (edge_at k₁.args.table.now k.loop-h.h)) =
+    elim c.before.if-first-high.branch [
+      | then-first-high+else-low-last w ↦ inr (omega (arith, w.if-low-last.false, w.low.ensures))
+      | else-first-high w ↦ inl (omega (arith, w.if-first-high.false, c.before.before.high.ensures))
+    ] in
     along_next k.loop-h.invariant (omega arith) (λ t us l. share_miss _ _ us l m) c.next-h.ensures
 
 returns-2 : tie.Need-returns invariant-loop decreases-loop

@@ -3,7 +3,6 @@ use mathlib.Core.List.{List}
 use Prim.Native.Nat.{ℕ, ◌-◌, ◌<◌}
 use native.Mathlib.Omega.{arith}
 use lib.ListN.{length, get_or}
-use borrow.Author.Tests.{not-true}
 use borrow.Author.Rules.{rules}
 use Rattle.automaton.specs.Rule.{Transition, Rule}
 use Rattle.automaton.specs.Layers.{head_of, is_final, first_of, end_of, body_at, leaving, Chain, Chained, Table}
@@ -42,9 +41,9 @@ chained c =
     }
 
 found : (c : tie.After-find-link invariant-loop decreases-loop) (first : ℕ) (ts : List Transition)
-    → Chain (entry (turn c)).args.table.now first (head_of (turn c).loop.spot-spot) ts
-    → Finds (entry (turn c)).args.table.now first (head_of (turn c).loop.spot-spot) ts
-    (get_or (entry (turn c)).args.text.now (turn c).loop.i 0) c.find-link.result
+    → Chain (entry (turn c)).args.table.now first (head_of (turn c).loop-i.spot) ts
+    → Finds (entry (turn c)).args.table.now first (head_of (turn c).loop-i.spot) ts
+    (get_or (entry (turn c)).args.text.now (turn c).loop-i.i 0) c.find-link.result
 found c first ts k = rw (← c.before.before.head.ensures) (c.find-link.ensures first ts (rw c.before.before.head.ensures k))
 
 below : (c : tie.Else-link-eq0 invariant-loop decreases-loop)
@@ -67,7 +66,7 @@ cast-covers c = omega (arith, c.shared_slice_known-3-1.given 0)
 returns-2 : tie.Need-returns-then-not-covers invariant-loop decreases-loop
 returns-2 c =
     let k = c.before.before.before in
-    let outside = sym c.before.covers.ensures ∙ not-true _ c.if-not-covers.true in (
+    let outside = sym c.before.covers.ensures ∙ c.if-not-covers.true in (
       λ m t. walk_dismissed t _ k.before.start_of-spot.ensures (omega (arith, k.if-text-eq0.false)) outside,
       λ m t. further_one m _ _ (omega arith) (goes_dismissed t _ k.before.start_of-spot.ensures outside),
     )
@@ -84,7 +83,7 @@ find-requires c κs = rw c.before.head.ensures (chained c.before.before)
 went-to-requires : tie.Need-went_to-went-requires invariant-loop decreases-loop
 went-to-requires c κs =
     let k = c.before.before.before.before in
-    ((entry k.before).requires.0, omega (arith, k.loop-i-test.true, (entry k.before).good))
+    ((entry k.before).requires.0, omega (arith, k.loop-i-test.true, (entry k.before).well_formed))
 
 returns-3 : tie.Need-returns-then-link-eq0 invariant-loop decreases-loop
 returns-3 c =
@@ -102,7 +101,7 @@ returns-3 c =
 mul-spot : tie.Need-offset_bounds-table-link invariant-loop decreases-loop
 mul-spot c =
     let k = entry (turn c.before) in
-    omega (arith, below c, k.requires.0.table.body.room, k.good.0.1)
+    omega (arith, below c, k.requires.0.table.body.room, k.well_formed.0.1)
 
 shared-slice-read-spot : tie.Need-bounds-table-link invariant-loop decreases-loop
 shared-slice-read-spot c =
@@ -137,7 +136,7 @@ loop-again-2 c = λ m t.
 went-to-requires-2 : tie.Need-went_to-went-requires-2 invariant-loop decreases-loop
 went-to-requires-2 c κs =
     let k = entry c.before in
-    (k.requires.0, omega (arith, (c.before.loop-i.invariant k.requires.0.rule k.requires.0.table).within, k.good))
+    (k.requires.0, omega (arith, (c.before.loop-i.invariant k.requires.0.rule k.requires.0.table).within, k.well_formed))
 
 returns-4 : tie.Need-returns invariant-loop decreases-loop
 returns-4 c = let k = c.before in (

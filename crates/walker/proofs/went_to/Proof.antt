@@ -28,14 +28,14 @@ returns-3 : tie.Need-returns-then-state-error_of
 returns-3 c = λ m t.
     let asked = c.before.before in
     let e = sym asked.before.state.ensures ∙ c.before.if-state-error_of.true ∙ asked.error_of.ensures m t in
-    rw (le-ltb _ _ (bare (other asked).before), ne_eqb _ 0 (other asked).if2.false, eq-eqb _ _ e) c.further-then-state-error_of.ensures
+    rw (le-ltb _ _ (bare (other asked).before), ne_eqb _ 0 (other asked).if-i-eq0.false, eq-eqb _ _ e) c.further-then-state-error_of.ensures
 
 returns-4 : tie.Need-returns
 returns-4 c = λ m t.
     let asked = c.before.before in
     rw (
       le-ltb _ _ (bare (other asked).before),
-      ne_eqb _ 0 (other asked).if2.false,
+      ne_eqb _ 0 (other asked).if-i-eq0.false,
       ne_eqb _ _ (λ z. c.before.if-state-error_of.false (asked.before.state.ensures ∙ z ∙ sym (asked.error_of.ensures m t))),
     ) c.further-2.ensures
 

@@ -15,46 +15,34 @@ returns-2 c = λ d h i.
     let k = c.before.before in
     rw c.refused-then-is_out_of_range.ensures (move_outside h i _ _ _ _ _ _ k.before.if-end-book-ge-TRANSITIONS.false k.is_out_of_range.ensures c.before.if-is_out_of_range.true)
 
-abbrev start : tie.Else-is_out_of_range → tie.Start
-start c = c.before.before.before.before.before.before
-
-from_below : (c : tie.Else-is_out_of_range) → (start c).args.step.from < state_count
+from_below : (c : tie.Else-is_out_of_range) → c.args.step.from < state_count
 from_below c =
-    let t = (start c).args.step in (move_below t.from t.low t.high t.to c.before.is_out_of_range.ensures c.if-is_out_of_range.false).0
+    let t = c.args.step in (move_below t.from t.low t.high t.to c.is_out_of_range.ensures c.if-is_out_of_range.false).0
 
 returns-3 : tie.Need-returns-then-rows-from
 returns-3 c = λ d h i. (refl, refl, omega (arith, from_below c.before.before, c.if-rows-from.true))
 
 abbrev there : tie.After-head-head → tie.Else-is_out_of_range
-there c = c.before.before.before.before.before
+there c = c.before.before.before.before
 
 overlaps-too-requires : tie.Need-overlaps_too-requires
 overlaps-too-requires c κs =
-    let k = c.before in
-    let k₁ = start (there k) in
-    rw (k.head-head.ensures, k.before.before.stamp-stamp.ensures) (k₁.requires.0.chains k₁.args.step.from (from_below (there k)))
+    rw (c.head-head.ensures, c.stamp-stamp.ensures) (c.requires.0.chains c.args.step.from (from_below (there c)))
 
 put-edge-requires : tie.Need-put_edge-requires
-put-edge-requires c κs =
-    let k = c.before.before.before in
-    let k₁ = start (there k) in (
-      k₁.requires.1.0,
-      rw (k.head-head.ensures, k.before.before.stamp-stamp.ensures)
-          (omega (arith, k₁.requires.0.tops k₁.args.step.from (from_below (there k)), k₁.requires.0.short)),
-    )
+put-edge-requires c κs = (
+  c.requires.1.0,
+  rw (c.head-head.ensures, c.stamp-stamp.ensures)
+      (omega (arith, c.requires.0.tops c.args.step.from (from_below (there c.before.before)), c.requires.0.short)),
+)
 
 returns-4 : tie.Need-returns
 returns-4 c = λ d h i.
-    let k = c.before.before.before.before.before.before in
-    let k₁ = k.before.before in
-    let k₂ = k₁.before.before in
-    let k₃ = there k₂ in
-    let k₄ = start k₃ in
-    let e = k₂.before.before.stamp-stamp.ensures in
-    move_added h i _ _ _ _ _ _ k₃.before.before.if-end-book-ge-TRANSITIONS.left k₃.before.is_out_of_range.ensures k₃.if-is_out_of_range.left
-    (omega (arith, k₂.before.before.before.before.struct_known-2-1.given)) (omega (arith, k₂.before.before.before.if-rows-from.false))
-    k₄.requires.1.0 k₄.requires.1.1 (omega arith) (rw (k₂.head-head.ensures, e) at k₁.overlaps_too.ensures)
-    (rw (k₂.head-head.ensures, e) at k.put_edge.ensures) (rw e at c.before.before.link_state.ensures)
+    let e = c.stamp-stamp.ensures in
+    move_added h i _ _ _ _ _ _ c.if-end-book-ge-TRANSITIONS.false c.is_out_of_range.ensures c.if-is_out_of_range.false
+    (omega arith) (omega (arith, c.if-rows-from.false))
+    c.requires.1.0 c.requires.1.1 (omega arith) (rw (c.head-head.ensures, e) at c.overlaps_too.ensures)
+    (rw (c.head-head.ensures, e) at c.put_edge.ensures) (rw e at c.link_state.ensures)
 
 pub add_transition_spec : {M : Type 1} → statement M
 add_transition_spec =

@@ -33,8 +33,8 @@ loop-again : tie.Need-loop-b-preserved invariant-loop decreases-loop
 loop-again c =
     let k = c.before.before.before in (
       omega arith,
-      some_next (λ (x : ℕ). mark c.before.before.before.before.args.t1 x && mark
-          c.before.before.before.before.args.t2 x)
+      some_next (λ (x : ℕ). mark c.before.before.before.before.args.self x && mark
+          c.before.before.before.before.args.other x)
           k.loop-b.b k.loop-b.invariant.1,
     )
 
