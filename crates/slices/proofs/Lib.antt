@@ -1,5 +1,4 @@
--- What walks by hand over a slice share (Tests, Arrays, Table, Locals), and the loops of lexing (Opening, Starting, Storing) and of
--- printing (Passes, Staging).
+-- The loops of lexing (Opening, Starting, Storing) and of printing (Passes, Staging).
 pub mod Opening
 pub mod Starting
 pub mod Storing

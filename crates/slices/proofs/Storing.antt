@@ -170,23 +170,26 @@ module _ {book text entry masks-entry tb : List ℕ} where
 
     -- what is pending is as far from the end as `turns` says
     pub going_turns : (turns text t ≤ left) × Going book text entry masks-entry tb records masks (turns text t) t
-    going_turns = (least t.more refl, record {
-      idle = g.idle;
-      refuses = g.refuses;
-      stands = λ p. let w = g.stands p in (
-        w.0,
-        record {
-          accepts = w.1.accepts;
-          holds = w.1.holds;
-          short = w.1.short;
-          enough = w.1.enough;
-          at = w.1.at;
-          filling = w.1.filling;
-          pending = w.1.pending;
-          further = λ m. enough m;
-        },
-      );
-    })
+    going_turns = (
+      least t.more refl,
+      record {
+        idle = g.idle;
+        refuses = g.refuses;
+        stands = λ p. let w = g.stands p in (
+          w.0,
+          record {
+            accepts = w.1.accepts;
+            holds = w.1.holds;
+            short = w.1.short;
+            enough = w.1.enough;
+            at = w.1.at;
+            filling = w.1.filling;
+            pending = w.1.pending;
+            further = λ m. enough m;
+          },
+        );
+      },
+    )
       where
         enough : t.more ≡ true → length text < t.next + turns text t
         enough m = rw m (omega arith)

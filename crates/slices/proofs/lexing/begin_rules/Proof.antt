@@ -22,8 +22,9 @@ fits : (c : tie.Joined-room-text) (rs : List Rule) → Holds (call c).args.table
     → length (lex rs (call c).args.text.now).tokens ≤ (call c).args.room
 fits c rs h =
     elim c.if-room-text.branch [
-    | then-room-text+else-room-needed w ↦ omega (arith, (w.count-needed.ensures rs h).tokens_are, w.if-room-needed.false)
-    | else-room-text w ↦ omega (arith, w.if-room-text.false, lex_few rs (call c).args.text.now) ]
+      | then-room-text+else-room-needed w ↦ omega (arith, (w.count-needed.ensures rs h).tokens_are, w.if-room-needed.false)
+      | else-room-text w ↦ omega (arith, w.if-room-text.false, lex_few rs (call c).args.text.now)
+    ]
 
 returns : tie.Need-returns-then-text-gt-TEXT
 returns c = λ rs h. opens_long c.before.if-text-gt-TEXT.true c.refuse.ensures
