@@ -1,2 +1,0 @@
--- An array of tokens that a walk by hand lends.
-pub mod Tokens
