@@ -55,7 +55,7 @@ while read -r path lines; do
     [ "$(wc -l <"$path")" -eq "$lines" ] || say "docs/ASSUMPTIONS.md: $path has $(wc -l <"$path") lines"
 done <"$tmp/lines"
 for path in crates/*/specs/*.antt; do
-    case $path in */Contracts.antt | */Lib.antt | */Valid.antt) continue ;; esac
+    case $path in */Layers.antt | */Lib.antt | */Valid.antt) continue ;; esac
     grep -q "^$path " "$tmp/lines" || say "docs/ASSUMPTIONS.md: no row names $path"
 done
 

@@ -13,7 +13,7 @@ use Rattle.automaton.specs.Choice.{if}
 use Rattle.automaton.proofs.Tests.{and_true, and_false_right, or_true}
 use Rattle.expression.specs.Expression.{Position, byte, period, Expression, position, takes}
 use Rattle.expression.specs.Reading.{Parsed, faulty}
-use Rattle.positions.specs.Positions.{size, depth, nullable, first, last, follows}
+use Rattle.positions.specs.Positions.{size, depth, nullable, follows}
 use Rattle.positions.proofs.Numbers.{set_none}
 use Rattle.position_reader.specs.Layers.{from, within, place_of, part_of, read_of, Taken, Followed, Noted, Reads}
 use Rattle.position_reader.specs.Steps.{only, Marked, Positioned, ReadPosition}

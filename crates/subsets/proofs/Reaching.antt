@@ -112,7 +112,8 @@ number_more {known} {final} a set l = go (eqb set 0) refl
 pub discover-append : (known row more : List ℕ) → discover known (row ++ more) ≡ discover (discover known row) more
 unfolding discover
 discover-append known [] more = refl
-discover-append known (set ∷ row) more = discover-append _ row more
+discover-append known (set ∷ row) more =
+    discover-append (if (eqb set 0 || among set known) known (known ++ (set ∷ []))) row more
 
 pub discover_begins : (known row : List ℕ) → Begins known (discover known row)
 unfolding discover

@@ -19,9 +19,14 @@ lower_trans (here l) (there m) = here l
 lower_trans (there l) (here m) = here m
 lower_trans (there l) (there m) = there (lower_trans l m)
 
+lower_other : {v w : List ℕ} → Lower v w → v ≡ w → ⊥
+lower_other (here {b} {c} l) e =
+    let q : b ≡ c = cc in
+    omega arith
+lower_other (there {b} {v} {w} l) e = lower_other l cc
+
 lower_self : {w : List ℕ} → Lower w w → ⊥
-lower_self (here l) = absurd (omega arith)
-lower_self (there l) = lower_self l
+lower_self l = lower_other l refl
 
 lower_more : {v w : List ℕ} (b c : ℕ) → Lower v w → Lower (v ++ (b ∷ [])) (w ++ (c ∷ []))
 lower_more b c (here l) = here l

@@ -10,24 +10,22 @@ use Rattle.position_reader.proofs.list_step.Tie as tie
 
 after-item-requires : tie.Need-after_item-requires
 after-item-requires c κs =
-    let k = c.before.before.before.before.before in let a = k.before.before.before.before.before.args in
-    let f = as_found (item_at (drop a.at a.text.now)) a.text.now (a.at + 1) k.in-Item.is
-    k.before.before.read_item.ensures in
+    let a = c.args in
+    let f = as_found (item_at (drop a.at a.text.now)) a.text.now (a.at + 1) c.in-Item.is c.read_item.ensures in
     f.inside
 
 returns : tie.Need-returns-in-Item
 returns c =
-    let k = c.before.before.before.before.before.before in let a = k.before.before.before.before.before.args in
-    list_step a.text.now a.at _ _ _ a.added a.takers-1.now _
-    (as_found (item_at (drop a.at a.text.now)) a.text.now (a.at + 1) k.in-Item.is k.before.before.read_item.ensures)
-    c.before.before.before.mark.ensures c.after_item.result c.after_item.ensures
+    let a = c.args in
+    list_step a.text.now a.at _ _ _ a.added a.takers.now _
+    (as_found (item_at (drop a.at a.text.now)) a.text.now (a.at + 1) c.in-Item.is c.read_item.ensures)
+    c.mark.ensures c.after_item.result c.after_item.ensures
 
 returns-2 : tie.Need-returns-in-Fault
 returns-2 c =
-    let k = c.before in let a = k.before.before.before.before.before.args in
-    list_fault a.text.now a.at _ a.added a.takers-1.now
-    (as_fault (item_at (drop a.at a.text.now)) a.text.now (a.at + 1) k.in-Fault.is
-    k.before.before.read_item.ensures)
+    let a = c.args in
+    list_fault a.text.now a.at _ a.added a.takers.now
+    (as_fault (item_at (drop a.at a.text.now)) a.text.now (a.at + 1) c.in-Fault.is c.read_item.ensures)
 
 pub list_step_spec : {M : Type 1} → statement M
 list_step_spec =

@@ -8,27 +8,22 @@ use Rattle.position_reader.proofs.read_bracket.Tie as tie
 
 position-part-requires : tie.Need-position_part-requires
 position-part-requires c κs =
-    let l = c.before.before.before.before.before.before in
-    let k = l.before.before.before.before.before.before in
-    let a = k.args in
-    let f = as_closed a.text.now a.at _ _ _ c.before.before.in-Closed.is l.read_list.ensures in
-    (omega (arith, list_behind f k.requires.0, k.requires.1), k.requires.2.positions)
+    let a = c.args in
+    let f = as_closed a.text.now a.at _ _ _ c.in-Closed.is c.read_list.ensures in
+    (omega (arith, list_behind f c.requires.0, c.requires.1), c.requires.2.positions)
 
 returns : tie.Need-returns-in-Closed
 returns c =
-    let n = c.before.before.before.before.before in
-    let l = n.before.before.before.before in
-    let a = l.before.before.before.before.before.before.args in
-    let p = c.before.before.position_part in
-    let f = as_closed a.text.now a.at _ _ _ n.in-Closed.is l.read_list.ensures in
-    bracket-found a.text.now a.at _ a.base _ p.result a.takers-1.now _ a.follow-1.now _
-    l.before.before.bit.ensures f p.ensures
+    let a = c.args in
+    let p = c.position_part in
+    let f = as_closed a.text.now a.at _ _ _ c.in-Closed.is c.read_list.ensures in
+    bracket-found a.text.now a.at _ a.base _ p.result a.takers.now _ a.follow.now _ c.bit.ensures f p.ensures
 
 returns-2 : tie.Need-returns-in-Fault
 returns-2 c =
-    let l = c.before.before.before.before.before in let a = l.before.before.before.before.before.before.args in
-    bracket_fault a.text.now a.at _ a.base a.takers-1.now _ a.follow-1.now
-    (as_unclosed a.text.now a.at _ a.takers-1.now _ c.before.in-Fault.is l.read_list.ensures)
+    let a = c.args in
+    bracket_fault a.text.now a.at _ a.base a.takers.now _ a.follow.now
+    (as_unclosed a.text.now a.at _ a.takers.now _ c.in-Fault.is c.read_list.ensures)
 
 pub read_bracket_spec : {M : Type 1} → statement M
 read_bracket_spec =

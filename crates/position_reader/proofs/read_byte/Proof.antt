@@ -7,11 +7,9 @@ use Rattle.position_reader.proofs.read_byte.Tie as tie
 
 returns : tie.Need-returns
 returns c =
-    let k = c.before.before.before.before.before.before in
-    let a = k.before.before.before.before.before.args in
-    let p = c.before.before.position_part in
-    position_read (byte a.b) a.at a.base p.result _ a.follow-1.now _ a.takers-1.now _ _
-    k.before.bit.ensures p.ensures k.mark.ensures (λ x l. byte-takes a.b x)
+    let a = c.args in let p = c.position_part in
+    position_read (byte a.b) a.at a.base p.result _ a.follow.now _ a.takers.now _ _
+    c.bit.ensures p.ensures c.mark.ensures (λ x l. byte-takes a.b x)
 
 pub read_byte_spec : {M : Type 1} → statement M
 read_byte_spec =

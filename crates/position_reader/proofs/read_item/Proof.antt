@@ -3,7 +3,6 @@ use mathlib.Core.Path.{◌∙◌}
 use Prim.Native.Nat.{◌+◌}
 use native.Mathlib.Omega.{arith}
 use borrow.Author.Rules.{rules}
-use borrow.Author.Tests.{not-true, not-false}
 use Rattle.position_reader.specs.Steps.{ItemReads}
 use Rattle.position_reader.proofs.Places.{item_none, item_byte, item_later}
 use Rattle.position_reader.proofs.read_item.Statement.{statement}
@@ -18,15 +17,15 @@ returns c =
 returns-2 : tie.Need-returns-then-not-is_listed
 unfolding ItemReads
 returns-2 c =
-    let k = c.before.before.before.before.before.args in
-    let e = not-true c.before.is_listed.result c.if-not-is_listed.true in
+    let k = c.args in
+    let e = c.if-not-is_listed.true in
     let f = c.before.is_listed.ensures in
     record { fault = item_byte k.text.now k.at (omega arith) ∙ rw (← f, e); inside = omega arith }
 
 returns-3 : tie.Need-returns
 returns-3 c =
-    let k = c.before.before.before.before.before.before.args in
-    let e = not-false c.before.before.is_listed.result c.before.if-not-is_listed.false in
+    let k = c.args in
+    let e = c.if-not-is_listed.false in
     let f = c.before.before.is_listed.ensures in
     item_later _ _ _ (k.at + 1) (k.at + 1) c.read_low_end.result (item_byte k.text.now k.at (omega arith) ∙ rw (← f, e))
     (omega arith) c.read_low_end.ensures

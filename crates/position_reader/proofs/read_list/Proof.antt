@@ -22,23 +22,22 @@ list-step-requires c κs = (c.before.loop-next.invariant.inside, c.before.loop-n
 
 loop-less : tie.Need-loop-next-smaller invariant-loop decreases-loop
 loop-less c =
-    let k = c.before.before.before.before.before in let w = k.before.before.loop-next in
-    let o = as_more _ w.at _ w.takers-1 _ c.before.in-More.is k.list_step.ensures in omega (arith, o.behind, o.inside)
+    let w = c.loop-next in
+    let o = as_more _ w.at _ w.takers _ c.in-More.is c.list_step.ensures in omega (arith, o.behind, o.inside)
 
 loop-again : tie.Need-loop-next-preserved invariant-loop decreases-loop
 loop-again c =
-    let k = c.before.before.before.before.before in let w = k.before.before.loop-next in
-    listing_next w.invariant (as_more _ w.at _ w.takers-1 _ c.before.in-More.is k.list_step.ensures)
+    let w = c.loop-next in
+    listing_next w.invariant (as_more _ w.at _ w.takers _ c.in-More.is c.list_step.ensures)
 
 same_length : tie.Need-shape_of-takers-in-Done invariant-loop decreases-loop
 same_length c =
-    let k = c.before.before.before.before.before in
-    k.list_step.auto.1.1.1.0 ∙ k.before.before.loop-next.invariant.full ∙ sym k.before.before.before.before.before.requires.1
+    c.list_step.auto.takers ∙ c.loop-next.invariant.full ∙ sym c.requires.1
 
 returns : tie.Need-returns-in-Done invariant-loop decreases-loop
 returns c =
-    let k = c.before.before.before.before.before in let w = k.before.before.loop-next in
-    w.invariant.answer _ _ (as_done _ w.at _ w.takers-1 _ _ c.before.in-Done.is k.list_step.ensures)
+    let w = c.loop-next in
+    w.invariant.answer _ _ (as_done _ w.at _ w.takers _ _ c.in-Done.is c.list_step.ensures)
 
 pub read_list_spec : {M : Type 1} → statement M
 read_list_spec =

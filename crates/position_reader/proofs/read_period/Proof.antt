@@ -8,12 +8,9 @@ use Rattle.position_reader.proofs.read_period.Tie as tie
 
 returns : tie.Need-returns
 returns c =
-    let k = c.before.before.before.before.before.before in
-    let m = k.before.before.before.before in
-    let a = m.before.before.before.before.before.args in
-    let p = c.before.before.position_part in
-    position_read period a.at a.base p.result _ a.follow-1.now _ a.takers-1.now _ _
-    m.before.before.bit-set.ensures p.ensures (marked_or m.mark.ensures k.mark-2.ensures) period_takes
+    let a = c.args in let p = c.position_part in
+    position_read period a.at a.base p.result _ a.follow.now _ a.takers.now _ _
+    c.bit-set.ensures p.ensures (marked_or c.mark.ensures c.mark-2.ensures) period_takes
 
 pub read_period_spec : {M : Type 1} → statement M
 read_period_spec =

@@ -13,20 +13,20 @@ write-from-requires : tie.Need-write_from-requires
 write-from-requires c κs =
     (
       ((c.put_list.ensures c.requires.0.held.rules c.requires.0.held.holds).at _
-          c.at-1.given.1).within,
-      omega (arith, c.put_list.auto.1.1.1.1.1.0, c.requires.1.short),
+          c.in-At.is).within,
+      omega (arith, c.put_list.auto.scratch, c.requires.1.short),
     )
 
 returns : tie.Need-returns-in-At
 returns c =
     λ rs h. answered_at
     (spelled rs c.args.separator c.args.mode c.args.records.now c.args.pool.now)
-    c.args.out.now (c.put_list.ensures rs h) c.at-1.given.1
+    c.args.out.now (c.put_list.ensures rs h) c.in-At.is
     c.write_from.ensures
 
 returns-2 : tie.Need-returns-in-Full
 returns-2 c =
-    λ rs h. answered_full c.requires.1 rs c.args.out.now c.put_list.auto.1.1.1.1.1.0
+    λ rs h. answered_full c.requires.1 rs c.args.out.now c.put_list.auto.scratch
     (c.put_list.ensures rs h) c.in-Full.is c.refused.ensures
 
 pub print_passed_spec : {M : Type 1} → statement M

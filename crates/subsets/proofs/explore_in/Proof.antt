@@ -12,74 +12,59 @@ invariant-loop first follow takers sets₀ targets₀ count₀ k₀ sets targets
 abbrev decreases-loop : tie.decreases-loop-k
 decreases-loop first follow takers sets₀ targets₀ count₀ k₀ sets targets count k = 255 - k
 
-abbrev S : tie.At-loop-k invariant-loop decreases-loop → tie.Start invariant-loop decreases-loop
-S c = c.before.before.before.before
-
--- the place where the turn of a place began
-abbrev K : tie.After-slice_known-in-loop-k-2-1 invariant-loop decreases-loop → tie.In-loop-k invariant-loop decreases-loop
-K c = c.before.before.before.before.before.before.before.before.before
-
 loop-holds : tie.Need-loop-k-init invariant-loop decreases-loop
 loop-holds c =
-    let p = c.before.before.before.requires in
+    let p = c.requires in
     exploring_start _ _ _ _ _ p.1 p.2
 
 ahead-of-requires : tie.Need-ahead_of-ahead-requires invariant-loop decreases-loop
 ahead-of-requires c κs =
-    let k = c.before in
-    omega (arith, k.loop-k-test.true, k.before.loop-k.invariant.size, k.before.loop-k.invariant.few)
+    omega (arith, c.loop-k-test.true, c.loop-k.invariant.size, c.loop-k.invariant.few)
 
 mul-fill-row : tie.Need-overflow_mul-k invariant-loop decreases-loop
 mul-fill-row c =
-    let k = c.before.before.before.before in
-    omega (arith, k.loop-k-test.true, k.before.loop-k.invariant.few)
+    omega (arith, c.loop-k-test.true, c.loop-k.invariant.few)
 
 fill-row-requires : tie.Need-fill_row-count-requires invariant-loop decreases-loop
 fill-row-requires c κs =
-    let k = c.before.before.before.before in
-    let w = k.before.loop-k.invariant in
-    (w.few, (S k.before).requires.0, w.size, omega (arith, k.loop-k-test.true, w.few, w.room))
+    let w = c.loop-k.invariant in
+    (w.few, c.requires.0, w.size, omega (arith, c.loop-k-test.true, w.few, w.room))
 
 add-k : tie.Need-overflow_add-k invariant-loop decreases-loop
-add-k c = omega (arith, (K c).loop-test.true, (K c).before.loop-k.invariant.few)
+add-k c = omega (arith, c.loop-k-test.true, c.loop-k.invariant.few)
 
 same_length : tie.Need-shape_of-sets-then-count-gt254 invariant-loop decreases-loop
 same_length c =
-    let k = (K c.before).before in
-    c.before.before.before.before.before.fill_row-count.ensures.same ∙ k.loop-k.inv.size ∙ sym (S k).requires.1
+    c.fill_row-count.ensures.same ∙ c.loop-k.invariant.size ∙ sym c.requires.1
 
 same-length-2 : tie.Need-shape_of-targets-then-count-gt254 invariant-loop decreases-loop
 same-length-2 c =
-    let k = (K c.before).before in
-    c.before.before.before.before.before.fill_row-count.ensures.size ∙ k.loop-k.inv.room ∙ sym (S k).requires.2
+    c.fill_row-count.ensures.size ∙ c.loop-k.invariant.room ∙ sym c.requires.2
 
 returns : tie.Need-returns-then-count-gt254 invariant-loop decreases-loop
 returns c =
-    let k = K c.before in
-    exploring_many k.before.loop-k.inv k.loop-k-test.taken
-    c.before.before.before.before.before.before.before.before.ahead_of-ahead.ensures
-    c.before.before.before.before.before.fill_row-count.ensures (omega (arith, c.if-count-gt254.true))
+    exploring_many c.loop-k.invariant c.loop-k-test.true
+    c.ahead_of-ahead.ensures
+    c.fill_row-count.ensures (omega (arith, c.if-count-gt254.true))
 
 loop-less : tie.Need-loop-k-smaller invariant-loop decreases-loop
 loop-less c =
-    let k = K c.before in
-    omega (arith, k.loop-k-test.taken, k.before.loop-k.inv.few)
+    omega (arith, c.loop-k-test.true, c.loop-k.invariant.few)
 
 loop-again : tie.Need-loop-k-preserved invariant-loop decreases-loop
 loop-again c =
-    let k = K c.before in
-    exploring_next k.before.loop-k.inv k.loop-k-test.taken
-    c.before.before.before.before.before.before.before.before.ahead_of-ahead.ensures
-    c.before.before.before.before.before.fill_row-count.ensures (omega (arith, c.if-count-gt254.false))
+    exploring_next c.loop-k.invariant c.loop-k-test.true
+    c.ahead_of-ahead.ensures
+    c.fill_row-count.ensures (omega (arith, c.if-count-gt254.false))
 
 same-length-3 : tie.Need-shape_of-sets invariant-loop decreases-loop
-same-length-3 c = c.before.loop-k.invariant.size ∙ sym (S c.before).requires.1
+same-length-3 c = c.loop-k.invariant.size ∙ sym c.requires.1
 
 same-length-4 : tie.Need-shape_of-targets invariant-loop decreases-loop
-same-length-4 c = c.before.loop-k.invariant.room ∙ sym (S c.before).requires.2
+same-length-4 c = c.loop-k.invariant.room ∙ sym c.requires.2
 
 returns-2 : tie.Need-returns invariant-loop decreases-loop
-returns-2 c = exploring_end c.before.loop-k.invariant c.loop-k-test.false
+returns-2 c = exploring_end c.loop-k.invariant c.loop-k-test.false
 
 pub explore_in_spec : {M : Type 1} → statement M
 explore_in_spec =

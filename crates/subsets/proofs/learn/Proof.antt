@@ -7,18 +7,15 @@ use Rattle.subsets.proofs.learn.Tie as tie
 
 returns : tie.Need-returns-then-set-last
 returns c =
-    let k = c.before.before.before in
-    learns_known _ _ _ k.requires.1 k.requires.2 _ refl (sym c.if-set-last.true) k.requires.0
+    learns_known _ _ _ c.requires.1 c.requires.2 _ refl (sym c.if-set-last.true) c.requires.0
 
 returns-2 : tie.Need-returns-then-number-count
 returns-2 c =
-    let k = c.before.before.before.before.before.before in
-    learns_known _ _ _ k.requires.1 k.requires.2 _ refl refl (record { within = c.if-number-count.true; number = c.before.number_of-number.ensures })
+    learns_known _ _ _ c.requires.1 c.requires.2 _ refl refl (record { within = c.if-number-count.true; number = c.number_of-number.ensures })
 
 returns-3 : tie.Need-returns
 returns-3 c =
-    let k = c.before.before.before.before.before.before in
-    learns_new _ _ _ k.requires.1 k.requires.2 _ c.before.number_of-number.ensures c.if-number-count.false
+    learns_new _ _ _ c.requires.1 c.requires.2 _ c.number_of-number.ensures c.if-number-count.false
 
 pub learn_spec : {M : Type 1} → statement M
 learn_spec =

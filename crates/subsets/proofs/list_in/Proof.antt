@@ -12,56 +12,48 @@ invariant-loop last empty sets count finals₀ n₀ k₀ finals n k = Listing la
 abbrev decreases-loop : tie.decreases-loop-k
 decreases-loop last empty sets count finals₀ n₀ k₀ finals n k = count - k
 
-abbrev S : tie.At-loop-k invariant-loop decreases-loop → tie.Start invariant-loop decreases-loop
-S c = c.before.before.before.before.before.before.before
-
 put-if-requires : tie.Need-put_if-n-requires invariant-loop decreases-loop
-put-if-requires c κs = omega (arith, c.before.before.before.requires)
+put-if-requires c κs = omega (arith, c.requires)
 
 loop-holds : tie.Need-loop-k-init invariant-loop decreases-loop
 loop-holds c =
-    let k = c.before.before in
-    listing_start _ _ _ _ k.before.before.before.before.requires.2 k.put_if-n.ensures
+    listing_start _ _ _ _ c.requires.2 c.put_if-n.ensures
 
 mul-put-if : tie.Need-offset_bounds-sets-k invariant-loop decreases-loop
-mul-put-if c = omega (arith, c.loop-k-test.true, (S c.before).requires)
+mul-put-if c = omega (arith, c.loop-k-test.true, c.requires)
 
 shared-slice-read-put-if : tie.Need-bounds-sets-k invariant-loop decreases-loop
-shared-slice-read-put-if c = omega (arith, c.before.loop-k-test.true, (S c.before.before).requires)
+shared-slice-read-put-if c = omega (arith, c.loop-k-test.true, c.requires)
 
 add-put-if : tie.Need-overflow_add-k invariant-loop decreases-loop
-add-put-if c = omega (arith, c.before.before.loop-k-test.true, (S c.before.before.before).requires)
+add-put-if c = omega (arith, c.loop-k-test.true, c.requires)
 
 cast-put-if : tie.Need-overflow_cast-k invariant-loop decreases-loop
-cast-put-if c = omega (arith, c.before.before.loop-k-test.true, (S c.before.before.before).requires)
+cast-put-if c = omega (arith, c.loop-k-test.true, c.requires)
 
 put-if-requires-2 : tie.Need-put_if-n-requires-in-loop-k invariant-loop decreases-loop
 put-if-requires-2 c κs =
-    let k = c.before.before in
-    omega (arith, k.loop-k-test.true, (S k.before).requires, k.before.loop-k.invariant.few, k.before.loop-k.invariant.size)
+    omega (arith, c.loop-k-test.true, c.requires, c.loop-k.invariant.few, c.loop-k.invariant.size)
 
 add-k : tie.Need-overflow_add-k-in-loop-k invariant-loop decreases-loop
 add-k c =
-    let k = c.before.before.before.before.before in
-    omega (arith, k.loop-k-test.true, (S k.before).requires)
+    omega (arith, c.loop-k-test.true, c.requires)
 
 loop-less : tie.Need-loop-k-smaller invariant-loop decreases-loop
 loop-less c =
-    let k = c.before.before.before.before.before in
-    omega (arith, k.loop-k-test.true)
+    omega (arith, c.loop-k-test.true)
 
 loop-again : tie.Need-loop-k-preserved invariant-loop decreases-loop
 loop-again c =
-    let k = c.before.before.before.before.before in
-    listing_next k.before.loop-k.invariant k.loop-k-test.true c.before.before.put_if-n-in-loop-k.ensures
+    listing_next c.loop-k.invariant c.loop-k-test.true c.put_if-n-in-loop-k.ensures
 
 same_length : tie.Need-shape_of-finals invariant-loop decreases-loop
-same_length c = c.before.loop-k.invariant.size ∙ sym (S c.before).requires.2
+same_length c = c.loop-k.invariant.size ∙ sym c.requires.2
 
 returns : tie.Need-returns invariant-loop decreases-loop
 returns c =
-    let w = c.before.loop-k.invariant in
-    let p = (S c.before).requires in
+    let w = c.loop-k.invariant in
+    let p = c.requires in
     (omega (arith, w.few, w.within), listing-end w p.0 p.1 c.loop-k-test.false)
 
 pub list_in_spec : {M : Type 1} → statement M

@@ -7,26 +7,26 @@ use Rattle.used_bytes.proofs.used_by.Tie as tie
 
 sweep-requires : tie.Need-sweep-requires
 sweep-requires c κs =
-    let a = c.before.before.before.before.before.before.before.before.before.before.before.before.before.before.before.before.before.before.before.before.before.requires in
+    let a = c.requires in
     record {
       bound = a.0;
       edges = a.1;
       number = _;
       fitted = a.2;
       seen = _;
-      reaches = c.before.before.before.before.before.before.before.before.before.before.before.reach-states.ensures a.0
+      reaches = c.reach-states.ensures a.0
           a.3.unseen a.2.rule a.2.table;
       storage = a.3.storage;
       stamp_below = omega (arith, a.2.table.number);
       size = search rules;
-      clear = c.before.before.before.before.before.before.empty-set.ensures;
+      clear = c.empty-set.ensures;
     }
 
 returns : tie.Need-returns
 returns c =
-    let a = c.before.before.before.before.before.before.before.before.before.before.before.before.before.before.before.before.before.before.before.before.before.before.before.before.before.before.before.before.before.before.requires in
-    let d = c.before.before.before.before.before.before.before.before.sweep in
-    let k = c.before.before.before.before.before.before.before.before.before.before.before.before.before.before.before.before.before.before.before.before.reach-states in (
+    let a = c.requires in
+    let d = c.sweep in
+    let k = c.reach-states in (
       λ bound edges o. reaches-room _ (k.ensures bound o.unseen a.2.rule a.2.table) (d.ensures.0 bound edges o.storage),
       λ m t. d.ensures.1 a.0 _ m t _ (k.ensures a.0 a.3.unseen m t),
     )

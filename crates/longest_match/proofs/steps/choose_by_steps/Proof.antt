@@ -7,13 +7,13 @@ use Rattle.longest_match.proofs.steps.choose_by_steps.Tie as tie
 
 choose-from-requires : tie.Need-choose_from-requires
 choose-from-requires c κs =
-    let held = c.before.before.before.before.before.before.before.before.requires.0 in
-    rw (c.before.before.before.longest_prefixes.ensures held.rules held.holds, prefixes-length) held.holds.few
+    let held = c.requires.0 in
+    rw (c.longest_prefixes.ensures held.rules held.holds, prefixes-length) held.holds.few
 
 returns : tie.Need-returns
 returns c =
     let picks = c.choose_from.ensures in
-    let prefixes-are = c.before.before.before.before.longest_prefixes.ensures in (
+    let prefixes-are = c.longest_prefixes.ensures in (
       λ rs h. steps_chosen (prefixes-are rs h) picks,
       λ rs h. steps-agreed (prefixes-are rs h) picks,
     )

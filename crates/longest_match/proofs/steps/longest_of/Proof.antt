@@ -1,5 +1,5 @@
 -- `longest_of`: from the last to the first; what is found is the greatest of those passed, with their mask. Assumes nothing.
-use mathlib.Core.Path.{◌≡◌, refl, sym}
+use mathlib.Core.Path.{◌≡◌, refl, sym, subst}
 use mathlib.Core.List.{List}
 use Prim.Native.Nat.{ℕ, zero, suc, ◌+◌, ◌-◌, ◌*◌, ◌^◌, ◌<◌, ◌≤◌, max}
 use native.Mathlib.Nat.{le_refl, pow-le-pow_right}
@@ -98,9 +98,14 @@ module _ (c : tie.In-loop-k invariant-loop decreases-loop) where
   as_long : c.before.loop-k.len ≡ here → (here ≡ 0 → ⊥)
       → MaskOf (drop place lengths) c.before.loop-k.len (c.before.loop-k.mask * 2 + 1)
   as_long e z = let m = c.before.loop-k.invariant.2 in
-      rw e (record {
+      subst (λ (n : ℕ). MaskOf (drop place lengths) n (c.before.loop-k.mask * 2 + 1)) (sym e)
+      (record {
         zero = λ q. absurd (z q);
-        those = λ p. omega (arith, same, rw e at (m.those (omega arith)));
+        those = λ p.
+            let t = m.those (omega arith) in
+            let k : c.before.loop-k.mask ≡ mask_of here (drop c.before.loop-k.k lengths) =
+            subst (λ (n : ℕ). c.before.loop-k.mask ≡ mask_of n (drop c.before.loop-k.k lengths)) e t in
+            omega (arith, same, k);
       })
 
 mul-mask : tie.Need-overflow_mul-mask invariant-loop decreases-loop

@@ -11,7 +11,7 @@ returns c = λ rs h. answered_many rs _ _ _ c.if-records-gt-TOKENS.true c.refuse
 write-requires : tie.Need-write-requires
 write-requires c κs =
     let start = c.requires in
-    let clean = (c.rehearse.ensures start.0.rules start.0.holds).clean _ c.total-1.given.1 in
+    let clean = (c.rehearse.ensures start.0.rules start.0.holds).clean _ c.in-Clean.is in
     omega (arith, start.1.room _ clean.spanned, c.rehearse.auto)
 
 find-refusal-requires : tie.Need-find_refusal-requires
@@ -23,7 +23,7 @@ returns-2 : tie.Need-returns-in-Clean
 returns-2 c = λ rs h. clean_written rs _ _ _
     c.if-records-gt-TOKENS.false
     ((c.rehearse.ensures rs h).clean _
-    c.total-1.given.1) c.write.ensures
+    c.in-Clean.is) c.write.ensures
 
 returns-3 : tie.Need-returns-in-Wrong
 returns-3 c = λ rs h. answered_troubled rs _ _ _ c.if-records-gt-TOKENS.false

@@ -17,7 +17,7 @@ is-due-requires : tie.Need-is_due-requires
 is-due-requires c κs = (
   c.requires.0,
   (c.put_token.ensures.at _
-      c.start-1.given.1).within,
+      c.in-At.is).within,
 )
 
 put-both-requires : tie.Need-put_both-requires
@@ -27,11 +27,11 @@ put-both-requires c κs =
 returns : tie.Need-returns-then-is_due
 returns c =
     λ rs h a us e l. let s = c.put_token.ensures.at _
-    c.start-1.given.1 in token_both rs
+    c.in-At.is in token_both rs
     c.args.mode c.args.pool.now c.args.token c.args.separator us
-    (drop c.args.at c.put_token.new.1.1.0)
+    (drop c.args.at c.put_token.new.scratch)
     (behind c.args.at (bytes_in c.args.pool.now c.args.token) c.args.scratch.now s
-    c.put_token.auto.1.1.0 c.requires.1.1.1 ∙ e)
+    c.put_token.auto.scratch c.requires.1.1.1 ∙ e)
     (sym c.if-is_due.true
     ∙ c.is_due.ensures rs h _ us
     (token-ahead rs c.args.mode c.args.pool.now c.args.token c.args.separator us
@@ -39,12 +39,12 @@ returns c =
 
 returns-2 : tie.Need-returns-else-is_due
 returns-2 c =
-    λ rs h a us e l. let s = c.put_token.ensures.at _ c.start-1.given.1 in token_alone rs c.args.mode
+    λ rs h a us e l. let s = c.put_token.ensures.at _ c.in-At.is in token_alone rs c.args.mode
     c.args.pool.now c.args.token c.args.separator us
     (drop c.args.at c.args.scratch.now) e
     (sym c.if-is_due.false ∙ c.is_due.ensures rs h _ us
     (token-ahead rs c.args.mode c.args.pool.now c.args.token c.args.separator us
-    (drop c.args.at c.args.scratch.now) e a c.requires.1.0 l s.laid)) c.start-1.given.1
+    (drop c.args.at c.args.scratch.now) e a c.requires.1.0 l s.laid)) c.in-At.is
     c.put_token.ensures
 
 returns-3 : tie.Need-returns-in-Full

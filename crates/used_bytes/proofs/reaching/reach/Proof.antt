@@ -31,7 +31,7 @@ loop-holds : tie.Need-loop-next-init invariant-loop decreases-loop
 loop-holds c = λ bound e m t.
     let k = c.before.before.before.before in
     let a = k.before.before.before.before.before.before.before.requires in
-    let q : a.0 ≡ bound = sym (k.note-n.auto.0 ∙ a.3.cells) ∙ e in
+    let q : a.0 ≡ bound = sym (k.note-n.auto.marks ∙ a.3.cells) ∙ e in
     reaching_start t (k.before.start_spot.ensures m t) (k.note-n.ensures bound [] (unmarked_worklist _ (rw q at a.3) (a.4 ∙ q)))
 
 abbrev Loop : Type 0
@@ -45,10 +45,10 @@ entry c = (noted c).before.before.before.before.before.before.before
 
 -- of the rule that is known to be there
 known : (c : Loop) → Reaching (entry c).requires.0 (entry c).args.table.now (entry c).args.rule (entry c).requires.2.rule
-    (entry c).args.stamp c.loop-next.marks-1 c.loop-next.queue-1 c.loop-next.n c.loop-next.next
+    (entry c).args.stamp c.loop-next.marks c.loop-next.queue c.loop-next.n c.loop-next.next
 known c =
     let a = (entry c).requires in
-    c.loop-next.invariant a.0 ((noted c).note.auto.0 ∙ a.3.cells) a.2.rule a.2.table
+    c.loop-next.invariant a.0 ((noted c).note-n.auto.marks ∙ a.3.cells) a.2.rule a.2.table
 
 room : (c : tie.In-loop-next invariant-loop decreases-loop) → c.before.loop-next.next < length c.before.loop-next.queue
 room c = omega (arith, c.loop-next-test.true, (worklist_most (known c.before).worklist).0)
@@ -93,7 +93,7 @@ same-length-2 c = (known c.before).worklist.slots ∙ sym (entry c.before).requi
 returns : tie.Need-returns invariant-loop decreases-loop
 returns c = λ bound u m t.
     let k = c.before in
-    reaching_end t (k.loop-next.invariant bound ((noted k).note.auto.0 ∙ u.cells) m t) c.loop-next-test.false
+    reaching_end t (k.loop-next.invariant bound ((noted k).note-n.auto.marks ∙ u.cells) m t) c.loop-next-test.false
 
 pub reach_spec : {M : Type 1} → statement M
 reach_spec =

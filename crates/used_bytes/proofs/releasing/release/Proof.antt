@@ -47,18 +47,18 @@ opened : (c : Opened) (bound : ℕ) (base : List ℕ)
     → Worklist bound (entry c).args.good.now (entry c).args.stamp (entry c).args.queue.now 0 base
     → (end : ℕ) (us : List Transition)
     → Built (entry c).args.waiting.now (entry c).args.rows.now (entry c).args.stamp edge_start end [] us
-    → Lets bound (entry c).args.waiting.now edge_start (headed c).head.result (leaving (entry c).args.s us) (entry c).args.stamp
-    base (entry c).args.queue.now 0 (entry c).args.set.now (call c).let_go.new.1.1.0 (call c).let_go.new.1.1.1.1.0
-    (call c).let_go.result (call c).let_go.new.1.1.1.1.1.1.0
+    → Lets bound (entry c).args.waiting.now edge_start (headed c).head-head.result (leaving (entry c).args.s us) (entry c).args.stamp
+    base (entry c).args.queue.now 0 (entry c).args.set.now (call c).let_go-n.new.good (call c).let_go-n.new.queue
+    (call c).let_go-n.result (call c).let_go-n.new.set
 opened c bound base w end us k =
-    (call c).let_go.ensures bound base w edge_start (leaving (entry c).args.s us)
-    (waits_chain k (omega (arith, (entry c).requires.2, (entry c).requires.1.within)) (headed c).head.ensures)
+    (call c).let_go-n.ensures bound base w edge_start (leaving (entry c).args.s us)
+    (waits_chain k (omega (arith, (entry c).requires.2, (entry c).requires.1.within)) (headed c).head-head.ensures)
 
 -- of the states and the transitions that are known to be there
-first : (c : Opened) → Lets (entry c).requires.0 (entry c).args.waiting.now edge_start (headed c).head.result
+first : (c : Opened) → Lets (entry c).requires.0 (entry c).args.waiting.now edge_start (headed c).head-head.result
     (leaving (entry c).args.s (entry c).requires.1.transitions) (entry c).args.stamp (entry c).requires.3.base
-    (entry c).args.queue.now 0 (entry c).args.set.now (call c).let_go.new.1.1.0 (call c).let_go.new.1.1.1.1.0
-    (call c).let_go.result (call c).let_go.new.1.1.1.1.1.1.0
+    (entry c).args.queue.now 0 (entry c).args.set.now (call c).let_go-n.new.good (call c).let_go-n.new.queue
+    (call c).let_go-n.result (call c).let_go-n.new.set
 first c =
     let a = (entry c).requires in
     opened c a.0 a.3.base a.3.worklist a.1.end a.1.transitions a.1.built
@@ -77,14 +77,14 @@ start c = c.before.before
 -- of the states and the transitions that are known to be there
 known : (c : Turn) → Releasing (entry (start c)).requires.0 (entry (start c)).requires.1.transitions (entry (start c)).args.stamp
     (entry (start c)).requires.3.base
-    (queued (call (start c)).let_go.last.1.1.1.1.0 (call (start c)).let_go.result (entry (start c)).requires.3.base)
-    (call (start c)).let_go.last.1.1.1.1.1.1.0 c.before.loop-next.good-1 c.before.loop-next.queue-1 c.before.loop-next.set
+    (queued (call (start c)).let_go-n.new.queue (call (start c)).let_go-n.result (entry (start c)).requires.3.base)
+    (call (start c)).let_go-n.new.set c.before.loop-next.good c.before.loop-next.queue c.before.loop-next.set
     c.before.loop-next.n c.before.loop-next.next
 known c =
     let a = (entry (start c)).requires in
     c.before.loop-next.invariant a.0 a.3.base (first (start c)).follows.worklist a.1.end a.1.transitions a.1.built
 
-inside : (c : Turn) → c.before.loop-next.next < length c.before.loop-next.queue-1
+inside : (c : Turn) → c.before.loop-next.next < length c.before.loop-next.queue
 inside c = omega (arith, (worklist_most (known c).worklist).0)
 
 few : (c : Turn) → c.before.loop-next.next < state_count
@@ -104,7 +104,7 @@ turn c = c.before.before
 
 -- the next state
 below : (c : tie.After-state-x invariant-loop decreases-loop) → c.state-x.result < (entry (start (turn c))).requires.0
-below c = omega (arith, c.state-x.ensures, releasing_below (known (turn c)) (turn c).loop-test.true)
+below c = omega (arith, c.state-x.ensures, releasing_below (known (turn c)) (turn c).loop-next-test.true)
 
 let-go-requires-2 : tie.Need-let_go-n-requires-in-loop-next invariant-loop decreases-loop
 let-go-requires-2 c κs =
@@ -124,7 +124,7 @@ loop-again : tie.Need-loop-next-preserved invariant-loop decreases-loop
 loop-again c = λ bound base w end us k.
     let q = c.before.before.before.before.before.before.before.before.before in
     let v = (turn q).before.loop-next.invariant bound base w end us k in
-    releasing_next v (turn q).loop-test.true q.state-x.ensures
+    releasing_next v (turn q).loop-next-test.true q.state-x.ensures
     (c.before.before.before.before.let_go-n-in-loop-next.ensures bound base v.worklist edge_start (leaving q.state-x.result us)
     (waits_chain k (omega (arith, below q, (entry (start (turn q))).requires.1.within))
     c.before.before.before.before.before.before.before.before.head-first.ensures))

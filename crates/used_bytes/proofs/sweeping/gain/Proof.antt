@@ -31,8 +31,7 @@ release-requires c κs =
 
 same_length : tie.Need-shape_of-good-then-head-ne0
 same_length c =
-    let a = (entry c.before.before.before.before.before.before.before.before.before.before).args in
-    c.before.before.before.before.release.auto.1.1.1.0 ∙ length-set a.good-1.now a.s a.stamp
+    c.release.auto.good ∙ length-set c.args.good.now c.args.s c.args.stamp
 
 returns : tie.Need-returns-then-head-ne0
 returns c = λ bound m end gs us w e.

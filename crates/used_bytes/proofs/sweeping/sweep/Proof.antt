@@ -34,8 +34,8 @@ entry c = c.before.before.before.before.before.before.before
 
 -- of the rule that is known to be there
 known : (c : Loop) → Over (entry c).requires.bound (entry c).args.table.now (entry c).requires.number
-    (entry c).requires.fitted.rule (entry c).args.stamp (entry c).args.spots.now (entry c).args.n c.loop-k.good-1 c.loop-k.queue-1
-    c.loop-k.waiting-1 c.loop-k.rows-1 c.loop-k.end c.loop-k.set c.loop-k.k
+    (entry c).requires.fitted.rule (entry c).args.stamp (entry c).args.spots.now (entry c).args.n c.loop-k.good c.loop-k.queue
+    c.loop-k.waiting c.loop-k.rows c.loop-k.end c.loop-k.set c.loop-k.k
 known c =
     let a = (entry c).requires in
     c.loop-k.invariant.1 a.bound a.edges a.storage a.number a.fitted.rule
@@ -84,7 +84,7 @@ loop-again c =
     let x = c.before.before.before.before.before.before.before.before.before.before.before.before.before.before.before in
     let k = x.before in
     let d = c.before.before.before.before.before.before.before.before in (
-      d.sweep_state-end.auto.1.1.1.1.1.0 ∙ k.loop-k.invariant.0,
+      d.sweep_state-end.auto.waiting ∙ k.loop-k.invariant.0,
       λ bound edges o number m t seen q.
           let w = k.loop-k.invariant.1 bound edges o number m t seen q in
           over_next t q w x.loop-k-test.true
@@ -101,7 +101,7 @@ same-length-3 : tie.Need-shape_of-waiting invariant-loop decreases-loop
 same-length-3 c = c.before.loop-k.invariant.0
 
 same-length-4 : tie.Need-shape_of-rows invariant-loop decreases-loop
-same-length-4 c = (known c.before).sweeping.waiting-1.cells ∙ sym (entry c.before).requires.storage.unstamped.cells
+same-length-4 c = (known c.before).sweeping.waiting.cells ∙ sym (entry c.before).requires.storage.unstamped.cells
 
 returns : tie.Need-returns invariant-loop decreases-loop
 returns c =

@@ -43,7 +43,7 @@ known : (c : tie.In-loop-h invariant-loop decreases-loop) → Going c.before.bef
 known c =
     let a = c.before.before.before.before.before.before.requires.0 in
     c.before.loop-h.invariant.1 a.bound a.leading.first a.leading.transitions a.transitions a.states a.leading.chain
-    a.froms a.waiting-1 a.same
+    a.froms a.waiting a.same
 
 here : (c : tie.In-loop-h invariant-loop decreases-loop) → Standing c.before.before.before.before.before.before.requires.0.bound
     c.before.before.before.before.before.before.args.table.now c.before.loop-h.h
@@ -110,7 +110,7 @@ loop-again-2 : tie.Need-loop-h-preserved invariant-loop decreases-loop
 loop-again-2 c =
     let x = c.before.before.before.before.before.before.before.before.before.before.before.before.before in
     let k = c.before.before.before.before.before.before.before in (
-      c.before.before.before.before.wait.auto.0 ∙ x.before.loop-h.invariant.0,
+      c.wait.auto.waiting ∙ x.before.loop-h.invariant.0,
       λ bound first ts us gs q f w e.
           going_wait (x.before.loop-h.invariant.1 bound first ts us gs q f w e) (omega arith) k.before.before.before.before.next-h.ensures
           (good_out x.before.before.before.before.before.before.args.good.now gs e (k.before.before.state.ensures ∙ ap state_of
@@ -124,7 +124,7 @@ same-length-2 : tie.Need-shape_of-rows invariant-loop decreases-loop
 same-length-2 c =
     let a = c.before.before.before.before.before.before.requires.0 in
     (c.before.loop-h.invariant.1 a.bound a.leading.first a.leading.transitions a.transitions a.states a.leading.chain
-    a.froms a.waiting-1 a.same).waiting.cells ∙ sym a.waiting-1.cells
+    a.froms a.waiting a.same).waiting.cells ∙ sym a.waiting.cells
 
 returns : tie.Need-returns invariant-loop decreases-loop
 returns c = λ bound first ts us gs q f w e. going_end (c.before.loop-h.invariant.1 bound first ts us gs q f w e) c.loop-h-test.false
