@@ -19,7 +19,7 @@ put-line-requires : tie.Need-enum_known-answer-in-Refused-1
 unfolding rest_line
 put-line-requires c κs =
     let f = fit_lexed c.answer-1.given.1 _ _ c.requires in
-    room_second c.put_records-at.ensures c.put_records-at.auto.0 f.2
+    room_second c.put_records-at.ensures c.put_records-at.auto.out f.2
 
 put-line-requires-2 : tie.Need-returns-in-Lexed
 unfolding refused_line

@@ -36,7 +36,7 @@ pub +put_decimal_spec : {M : Type 1} → statement M
     (λ c. record { fits = omega arith })
     (λ c. record { fits = omega arith })
     (λ c κs. room-digit c.if-n-lt10.true c.requires.1)
-    (λ c. c.put_byte.auto.0)
+    (λ c. c.put_byte.auto.out)
     (λ c. puts-digit c.if-n-lt10.true c.put_byte.ensures)
     -- one more digit
     (λ c κs.
@@ -46,7 +46,7 @@ pub +put_decimal_spec : {M : Type 1} → statement M
     (λ c. record { fits = omega arith })
     (λ c. record { fits = omega arith })
     (λ c κs.
-    room-last c.if-n-lt10.false c.requires.1 c.put_decimal-last.ensures c.put_decimal-last.auto.0)
-    (λ c. c.put_byte-2.auto.0 ∙ c.put_decimal-last.auto.0)
+    room-last c.if-n-lt10.false c.requires.1 c.put_decimal-last.ensures c.put_decimal-last.auto.out)
+    (λ c. c.put_byte-2.auto.out ∙ c.put_decimal-last.auto.out)
     (λ c.
     puts-last c.if-n-lt10.false c.requires.1 c.put_decimal-last.ensures c.put_byte-2.ensures)
