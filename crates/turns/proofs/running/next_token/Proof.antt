@@ -35,21 +35,20 @@ returns-2 c = λ rs h.
     let w = second.before.before in
     let k = w.before.before.before in
     next_past c.too_large-then-window-ahead.ensures ((entry k).requires.1.0 rs h) (omega (arith, k.least-window.ensures, second.if-window-ahead.true))
-    (simp length-drop second.if-window-ahead.true) (w.walk_with-went.ensures rs _ h (part_bytes _ _ _)) second.before.if-window-went.true
+    (simp length-drop second.if-window-ahead.true) (c.walk_with-went.ensures rs _ h (part_bytes _ _ _)) second.before.if-window-went.true
 
 returns-3 : tie.Need-returns
 returns-3 c = λ rs h.
-    let joined = c.before.before.before in
-    let w = joined.before in
-    let k = w.before.before in
+    let w = c.before.before.before in
+    let k = w.before.before.before in
     rw c.least.ensures
     (next_fits state_count (held_sound h) ((entry k).requires.1.0 rs h) (ahead k) (omega (arith, k.least-window.ensures))
-    (w.walk_with-went.ensures rs _ h (part_bytes _ _ _))
-    (elim joined.if-window-went.branch [
+    (c.walk_with-went.ensures rs _ h (part_bytes _ _ _))
+    (elim c.if-window-went.branch [
       | then-window-went+else-window-ahead v ↦ λ f. simp length-drop (omega (arith, k.least-window.ensures, v.if-window-ahead.false))
       | else-window-went v ↦ λ f. absurd (omega (arith, v.if-window-went.false))
     ])
-    (c.before.choose_walked-c.ensures rs h))
+    (c.choose_walked-c.ensures rs h))
 
 pub next_token_spec : {M : Type 1} → statement M
 next_token_spec =
