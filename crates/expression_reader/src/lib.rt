@@ -34,7 +34,7 @@ fn finish(text: &[u8], part: Part) -> Read
 }
 
 // Alternatives: a sequence, and where a bar stands behind it, alternatives again.
-#[cycle(read_alternatives_read_piece_read_sequence)]
+#[cycle(reading)]
 fn read_alternatives(
     text: &[u8],
     at: usize,
@@ -62,7 +62,7 @@ fn read_alternatives(
 }
 
 // A sequence: a piece, and where it does not end behind it, a sequence again.
-#[cycle(read_alternatives_read_piece_read_sequence)]
+#[cycle(reading)]
 fn read_sequence(
     text: &[u8],
     at: usize,
@@ -90,7 +90,7 @@ fn read_sequence(
 }
 
 // A piece: an atom, which may be alternatives in parentheses, and what it carries.
-#[cycle(read_alternatives_read_piece_read_sequence)]
+#[cycle(reading)]
 fn read_piece(
     text: &[u8],
     at: usize,

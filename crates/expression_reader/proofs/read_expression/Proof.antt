@@ -10,10 +10,10 @@ read-alternatives-requires c κs = ready_start _
 returns : tie.Need-returns-in-Right
 returns c =
     rw c.finish.ensures
-    (whole-right c.before.before.before.before.read_alternatives.ensures _ c.before.before.in-Right.is)
+    (whole-right c.read_alternatives.ensures _ c.in-Right.is)
 
 returns-2 : tie.Need-returns-in-Wrong
-returns-2 c = whole_wrong c.before.before.before.read_alternatives.ensures _ c.before.in-Wrong.is
+returns-2 c = whole_wrong c.read_alternatives.ensures _ c.in-Wrong.is
 
 pub read_expression_spec : {M : Type 1} → statement M
 read_expression_spec =

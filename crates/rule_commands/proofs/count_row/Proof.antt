@@ -32,8 +32,8 @@ abbrev head : tie.After-ending-count invariant-loop decreases-loop → tie.At-lo
 head c = c.before.before
 
 kept : (c : tie.After-ending-count invariant-loop decreases-loop) → CountingRow (head c).before.before.args.from (row (head c).before.before)
-    ((head c).loop.count + c.ending-count.result) ((head c).loop.b + 1)
-kept c = counting_row_next (head c).loop.invariant (wide (head c).before.before) c.before.loop-b-test.true c.ending-count.ensures
+    ((head c).loop-b.count + c.ending-count.result) ((head c).loop-b.b + 1)
+kept c = counting_row_next (head c).loop-b.invariant (wide (head c).before.before) c.before.loop-b-test.true c.ending-count.ensures
 
 add-count : tie.Need-overflow_add-count invariant-loop decreases-loop
 add-count c = let k = kept c in omega (arith, k.few, k.within)

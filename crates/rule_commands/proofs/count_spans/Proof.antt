@@ -23,8 +23,8 @@ head c = c.before.before
 
 kept : (c : tie.After-count_row-count invariant-loop decreases-loop)
     → Counting (head c).before.before.args.targets.now (head c).before.before.args.rows
-    ((head c).loop.count + c.count_row-count.result) ((head c).loop.k + 1)
-kept c = counting_next (head c).loop.invariant c.before.loop-k-test.true c.count_row-count.ensures
+    ((head c).loop-k.count + c.count_row-count.result) ((head c).loop-k.k + 1)
+kept c = counting_next (head c).loop-k.invariant c.before.loop-k-test.true c.count_row-count.ensures
 
 add-count : tie.Need-overflow_add-count invariant-loop decreases-loop
 add-count c = let w = kept c in omega (arith, w.few, w.within, (head c).before.before.requires.0)

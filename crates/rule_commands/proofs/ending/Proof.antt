@@ -1,7 +1,6 @@
 -- `ending`: a run ends there, and not at the error state. Assumes nothing.
 use mathlib.Core.Path.{sym, ◌∙◌}
 use borrow.Author.Rules.{rules}
-use borrow.Author.Tests.{not-true, not-false}
 use Rattle.rule_commands.specs.Layers.{row_at}
 use Rattle.rule_commands.proofs.Measuring.{row_at_lem, closes_run, closes_error, closes_span}
 use Rattle.rule_commands.proofs.ending.Statement.{statement}
@@ -9,22 +8,19 @@ use Rattle.rule_commands.proofs.ending.Tie as tie
 
 returns : tie.Need-returns-then-not-run_ends
 returns c =
-    let k = c.before.before.before in
-    rw (closes_run (row_at k.args.targets.now k.args.from) k.args.b
-    (sym c.before.run_ends.ensures ∙ not-true _ c.if-not-run_ends.true))
+    rw (closes_run (row_at c.args.targets.now c.args.from) c.args.b
+    (sym c.run_ends.ensures ∙ c.if-not-run_ends.true))
 
 returns-2 : tie.Need-returns-then-targets-from-eq0
 returns-2 c =
-    let k = c.before.before.before.before.before in
-    rw (closes_error (row_at k.args.targets.now k.args.from) k.args.b
-    (row_at_lem k.args.targets.now k.args.from k.args.b k.requires.1 ∙ c.if-targets-from-eq0.true))
+    rw (closes_error (row_at c.args.targets.now c.args.from) c.args.b
+    (row_at_lem c.args.targets.now c.args.from c.args.b c.requires.1 ∙ c.if-targets-from-eq0.true))
 
 returns-3 : tie.Need-returns
 returns-3 c =
-    let k = c.before.before.before.before.before in
-    rw (closes_span (row_at k.args.targets.now k.args.from) k.args.b
-    (sym c.before.before.before.run_ends.ensures ∙ not-false _ c.before.before.if-not-run_ends.false)
-    (λ e. c.if-targets-from-eq0.false (sym (row_at_lem k.args.targets.now k.args.from k.args.b k.requires.1) ∙ e)))
+    rw (closes_span (row_at c.args.targets.now c.args.from) c.args.b
+    (sym c.run_ends.ensures ∙ c.if-not-run_ends.false)
+    (λ e. c.if-targets-from-eq0.false (sym (row_at_lem c.args.targets.now c.args.from c.args.b c.requires.1) ∙ e)))
 
 pub ending_spec : {M : Type 1} → statement M
 ending_spec =

@@ -53,7 +53,7 @@ write-finals-requires c κs =
       k.requires.0.marks,
       omega (
         arith,
-        finals_room k.args.tag k.args.kind (states k) (rows k) k.requires.1 (first c).write-head.ensures,
+        finals_room k.args.tag k.args.kind (states k) (rows k) k.requires.1 (first c).write_head-finals_at.ensures,
         finals_length (states k),
         many k,
       ),
@@ -64,7 +64,7 @@ write-spans-requires c κs =
     let h = first (second c).before in
     let k = start h in (
       (k.requires.0.few_rows, k.requires.0.room),
-      spans_room k.args.tag k.args.kind (states k) (rows k) k.requires.1 h.write_head-finals_at.ensures (second c).write-finals.ensures,
+      spans_room k.args.tag k.args.kind (states k) (rows k) k.requires.1 h.write_head-finals_at.ensures (second c).write_finals-spans_at.ensures,
     )
 
 write-close-requires : tie.Need-write_close-requires
@@ -73,7 +73,7 @@ write-close-requires c κs =
     let h = first f.before in
     let k = start h in
     close_room k.args.tag k.args.kind (states k) (rows k) k.requires.1 h.write_head-finals_at.ensures f.write_finals-spans_at.ensures
-    (third c).write-spans.ensures
+    (third c).write_spans-close_at.ensures
 
 returns : tie.Need-returns
 returns c =

@@ -54,16 +54,16 @@ abbrev test : tie.After-slice_known-in-loop-i-1 invariant-loop decreases-loop â†
 test c = c.before.before.before.before.before
 
 add-i : tie.Need-overflow_add-i invariant-loop decreases-loop
-add-i c = omega (arith, (test c).loop-test.true, (start (test c).before).fits.count)
+add-i c = omega (arith, (test c).loop-i-test.true, (start (test c).before).ranges.count.fits)
 
 loop-less : tie.Need-loop-i-smaller invariant-loop decreases-loop
-loop-less c = omega (arith, (test c).loop-test.true)
+loop-less c = omega (arith, (test c).loop-i-test.true)
 
 loop-again : tie.Need-loop-i-preserved invariant-loop decreases-loop
 loop-again c =
     let h = (test c).before in
-    writing_finals_next h.loop-i.inv (more (test c))
-    (get_or-take (start h).args.count (start h).args.finals.now h.loop-i.i 0 (test c).loop-test.true)
+    writing_finals_next h.loop-i.invariant (more (test c))
+    (get_or-take (start h).args.count (start h).args.finals.now h.loop-i.i 0 (test c).loop-i-test.true)
     c.before.before.write_final-at.ensures
 
 same_length : tie.Need-shape_of-out invariant-loop decreases-loop

@@ -47,17 +47,17 @@ test c = c.before.before.before.before.before
 
 kept : (c : tie.After-next_low-low invariant-loop decreases-loop)
     → WritingRow (start (test c).before).args.from (row (start (test c).before)) (start (test c).before).args.out.now
-    c.before.before.before.write_ended-at.new.1.1.1.1.0 (start (test c).before).args.to
+    c.before.before.before.write_ended-at.new.out (start (test c).before).args.to
     c.before.before.before.write_ended-at.result c.next_low-low.result ((test c).before.loop-b.b + 1)
 kept c =
-    writing-row_next (test c).before.loop-b.invariant (wide (start (test c).before)) (test c).loop-test.true
+    writing-row_next (test c).before.loop-b.invariant (wide (start (test c).before)) (test c).loop-b-test.true
     c.before.before.before.write_ended-at.ensures c.next_low-low.ensures
 
 add-b : tie.Need-overflow_add-b invariant-loop decreases-loop
 add-b c = omega (arith, (kept c).within)
 
 loop-less : tie.Need-loop-b-smaller invariant-loop decreases-loop
-loop-less c = omega (arith, (test c).loop-test.true)
+loop-less c = omega (arith, (test c).loop-b-test.true)
 
 loop-again : tie.Need-loop-b-preserved invariant-loop decreases-loop
 loop-again c = kept c

@@ -30,13 +30,13 @@ abbrev test : tie.After-slice_known-in-loop-k-1 invariant-loop decreases-loop â†
 test c = c.before.before.before.before
 
 add-k : tie.Need-overflow_add-k invariant-loop decreases-loop
-add-k c = omega (arith, (test c).loop-test.true, (start (test c).before).requires.0.0)
+add-k c = omega (arith, (test c).loop-k-test.true, (start (test c).before).requires.0.0)
 
 loop-less : tie.Need-loop-k-smaller invariant-loop decreases-loop
-loop-less c = omega (arith, (test c).loop-test.true)
+loop-less c = omega (arith, (test c).loop-k-test.true)
 
 loop-again : tie.Need-loop-k-preserved invariant-loop decreases-loop
-loop-again c = writing_rows_next (test c).before.loop-k.invariant (test c).loop-test.true c.before.before.write_row-at.ensures
+loop-again c = writing_rows_next (test c).before.loop-k.invariant (test c).loop-k-test.true c.before.before.write_row-at.ensures
 
 same_length : tie.Need-shape_of-out invariant-loop decreases-loop
 same_length c = c.before.loop-k.invariant.filling.same

@@ -8,20 +8,19 @@ use Rattle.expression_reader.proofs.joining.carry_part.Tie as tie
 
 returns : tie.Need-returns-then-stands
 returns c =
-    let h = sym c.before.before.stands.ensures ∙ c.before.if-stands.true in
+    let h = sym c.stands.ensures ∙ c.if-stands.true in
     let k = carried_question _ _ h in
     carries_plain (ap read.Right c.make.ensures ∙ sym k.0) k.1
 
 returns-2 : tie.Need-returns-then-loops_back
 returns-2 c =
-    let k = c.before.before.before.before.before in
-    let h = sym k.before.before.before.loops_back.ensures ∙ k.before.before.if-loops_back.true in
-    carries_loop (ap read.Right c.make-then-loops_back.ensures ∙ sym (carried_loop _ _ _ h c.before.before.stands-star.ensures)) h k.link.ensures
+    let h = sym c.loops_back.ensures ∙ c.if-loops_back.true in
+    carries_loop (ap read.Right c.make-then-loops_back.ensures ∙ sym (carried_loop _ _ _ h c.stands-star.ensures)) h c.link.ensures
 
 returns-3 : tie.Need-returns
 returns-3 c =
-    let h = sym c.before.loops_back.ensures ∙ c.if-loops_back.false in
-    let i = sym c.before.before.before.stands.ensures ∙ c.before.before.if-stands.false in
+    let h = sym c.loops_back.ensures ∙ c.if-loops_back.false in
+    let i = sym c.stands.ensures ∙ c.if-stands.false in
     carries_plain (sym (carried_none _ _ i h)) h
 
 pub carry_part_spec : {M : Type 1} → statement M

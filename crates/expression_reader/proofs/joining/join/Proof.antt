@@ -8,11 +8,11 @@ use Rattle.expression_reader.proofs.joining.join.Tie as tie
 
 returns : tie.Need-returns-in-Right
 returns c =
-    rw c.before.before.before.before.in-Right.is
-    (joins_right (ap read.Right c.concat.ensures) c.before.link.ensures)
+    rw c.in-Right.is
+    (joins_right (ap read.Right c.concat.ensures) c.link.ensures)
 
 returns-2 : tie.Need-returns-in-Wrong
-returns-2 c = rw c.before.in-Wrong.is joins_wrong
+returns-2 c = rw c.in-Wrong.is joins_wrong
 
 pub join_spec : {M : Type 1} → statement M
 join_spec =

@@ -3,7 +3,6 @@ use mathlib.Core.Path.{◌≡◌, refl, ◌∙◌}
 use mathlib.Core.Logic.{◌⊎◌, inl, inr}
 use Prim.Native.Nat.{◌≤◌, ◌-◌}
 use native.Mathlib.Omega.{arith}
-use borrow.Author.Tests.{ltb-true, ltb-false}
 use lib.ListN.{length}
 use Rattle.expression_reader.specs.Layers.{Linked}
 use Rattle.expression_reader.proofs.Linking.{link_none, link_more, link_all}
@@ -22,7 +21,7 @@ loop-holds c = (refl, (omega arith, (inl refl, link_none _)))
 
 link-one-requires : tie.Need-link_one-requires invariant-loop decreases-loop
 link-one-requires c κs =
-    (ltb-true _ 64 c.before.if-p-lt64.true, c.before.before.before.loop-p.invariant.0 ∙ c.before.before.before.before.before.requires)
+    (c.if-p-lt64.true, c.loop-p.invariant.0 ∙ c.requires)
 
 add-p : tie.Need-overflow_add-p invariant-loop decreases-loop
 add-p c = omega arith
@@ -32,25 +31,25 @@ loop-less c = omega arith
 
 loop-again : tie.Need-loop-p-preserved invariant-loop decreases-loop
 loop-again c =
-    let k = c.before.before.before.before.before.before.loop-p.invariant in (
-      c.before.before.link_one.auto.0 ∙ k.0,
+    let k = c.loop-p.invariant in (
+      c.link_one.auto.follow ∙ k.0,
       (
         omega arith,
-        (inr (omega arith), link_more k.1.0 k.1.1.1 c.before.before.link_one.ensures),
+        (inr (omega arith), link_more k.1.0 k.1.1.1 c.link_one.ensures),
       ),
     )
 
 same_length : tie.Need-shape_of-follow-else-p-lt64 invariant-loop decreases-loop
-same_length c = c.before.before.loop-p.invariant.0
+same_length c = c.loop-p.invariant.0
 
 returns : tie.Need-returns-else-p-lt64 invariant-loop decreases-loop
-returns c = let k = c.before.before.loop-p.invariant in link_all k.1.1.0 (inr (ltb-false _ 64 c.if-p-lt64.false)) k.1.1.1
+returns c = let k = c.loop-p.invariant in link_all k.1.1.0 (inr c.if-p-lt64.false) k.1.1.1
 
 same-length-2 : tie.Need-shape_of-follow-after-loop-p invariant-loop decreases-loop
-same-length-2 c = c.before.loop-p.invariant.0
+same-length-2 c = c.loop-p.invariant.0
 
 returns-2 : tie.Need-returns-after-loop-p invariant-loop decreases-loop
-returns-2 c = let k = c.before.loop-p.invariant in link_all k.1.1.0 (inl c.loop-p-test.false) k.1.1.1
+returns-2 c = let k = c.loop-p.invariant in link_all k.1.1.0 (inl c.loop-p-test.false) k.1.1.1
 
 pub link_spec : {M : Type 1} → statement M
 link_spec =
