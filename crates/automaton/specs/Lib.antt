@@ -1,4 +1,4 @@
--- `Rule`: what a rule is and matches; `Choice`: the choices that it is written in; `Contracts`: how a table holds rules.
+-- `Rule`: what a rule is and matches; `Choice`: the choices that it is written in; `Layers`: how a table holds rules.
 pub mod Choice
 pub mod Rule
 pub mod Layers

@@ -256,11 +256,15 @@ fn answer(rt: &HostRuntime, room: &[u8], from: usize, to: usize) -> io::Result<(
 
 fn print(rt: &HostRuntime, answer: BookAnswer) -> io::Result<()> {
     match answer {
-        BookAnswer::Accepted(rules) => println!(rt; ": accepted {rules}"),
+        BookAnswer::Accepted(rules) => print_number(rt, ": accepted ", rules as u64)?,
         BookAnswer::Refused(refusal) => {
-            let number = refusal.number;
-            let place = refusal.place;
-            println!(rt; ": refused {number} {place}")
+            print_number(rt, ": refused ", refusal.number as u64)?;
+            print_number(rt, " ", refusal.place as u64)?;
         }
     }
+    println!(rt; "")
+}
+
+fn print_number(rt: &HostRuntime, before: &str, n: u64) -> io::Result<()> {
+    print!(rt; "{before}{n}")
 }

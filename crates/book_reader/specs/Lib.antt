@@ -1,3 +1,3 @@
--- `Rules`: what is said of one rule of a book; `Contracts`: what is read off a book.
+-- `Rules`: what is said of one rule of a book; `Layers`: what is read off a book.
 pub mod Rules
 pub mod Layers

@@ -1,3 +1,3 @@
--- `Lowest`: the lowest byte of which something holds; `Contracts`: what the marks of a set say.
+-- `Lowest`: the lowest byte of which something holds; `Layers`: what the marks of a set say.
 pub mod Lowest
 pub mod Layers

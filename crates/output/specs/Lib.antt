@@ -1,3 +1,3 @@
--- `Outcome`: what a call that writes bytes answers and leaves; `Contracts`: what putting bytes leaves.
+-- `Outcome`: what a call that writes bytes answers and leaves; `Layers`: what putting bytes leaves.
 pub mod Outcome
 pub mod Layers

@@ -1,3 +1,3 @@
--- `Contracts`: what reading answers, and what it notes of positions; `Steps`: the steps of reading a position.
+-- `Layers`: what reading answers, and what it notes of positions; `Steps`: the steps of reading a position.
 pub mod Layers
 pub mod Steps

@@ -1,3 +1,3 @@
--- What printing answers and leaves behind (Outcome), and what the layers of the code say of it (Contracts).
+-- What printing answers and leaves behind (Outcome), and what the layers of the code say of it (Layers).
 pub mod Outcome
 pub mod Layers

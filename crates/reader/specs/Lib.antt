@@ -1,3 +1,3 @@
--- `Reading`: what reading a book comes to; `Contracts`: what reading leaves in the table.
+-- `Reading`: what reading a book comes to; `Layers`: what reading leaves in the table.
 pub mod Reading
 pub mod Layers

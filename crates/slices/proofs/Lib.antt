@@ -1,9 +1,4 @@
--- What walks by hand over a slice share (Tests, Arrays, Table, Locals), and the loops of lexing (Opening, Starting, Storing) and of
--- printing (Passes, Staging).
-pub mod Tests
-pub mod Arrays
-pub mod Table
-pub mod Locals
+-- The loops of lexing (Opening, Starting, Storing) and of printing (Passes, Staging).
 pub mod Opening
 pub mod Starting
 pub mod Storing

@@ -108,6 +108,10 @@ pub data Going (book tb records pool scratch : List ℕ) (left : ℕ) (s : Stage
   stands : (rules : List Rule) → read_book book ≡ accepted rules → Holds tb rules → record_count records ≤ max_tokens
       → Phase rules records pool scratch left s → Going book tb records pool scratch left s
 
+-- so many turns are left at most
+abbrev pub turns : ℕ → Stage → ℕ
+turns count s = if s.more ((3 - s.pass) * count - s.index) 0
+
 -- the three passes, by a book's rules that the table holds
 module _ (book tb records pool : List ℕ) (rules : List Rule) (accepts : read_book book ≡ accepted rules)
     (holds : Holds tb rules) (few : record_count records ≤ max_tokens) where
@@ -213,6 +217,9 @@ halts m e f = clash m (ap (λ (z : Stage). z.more) e ∙ f)
 goes : {A : Type 0} {s s₁ : Stage} → s.more ≡ false → s ≡ s₁ → s₁.more ≡ true → A
 goes m e f = clash (ap (λ (z : Stage). z.more) e ∙ f) m
 
+at_turns : (count : ℕ) {s s₁ : Stage} (A : ℕ → Type 0) → s ≡ s₁ → A (turns count s₁) → A (turns count s)
+at_turns count A e a = subst (λ (z : Stage). A (turns count z)) (sym e) a
+
 module _ {book tb records pool : List ℕ} where
   pub going_start : {count : ℕ} {r : Stage} (scratch : List ℕ) → Begins book count tb r → record_count records ≡ count
       → Going book tb records pool scratch (3 * record_count records) r
@@ -240,6 +247,29 @@ module _ {book tb records pool : List ℕ} where
           first w.0 w.1.0 w.1.1.0 (omega (arith, q, w.1.1.1.0)) (eqb count 0) refl w.1.1.1.1
 
   module _ {scratch : List ℕ} {left : ℕ} {s : Stage} where
+    -- a stage is as far from the end as `turns` says
+    pub going_turns : Going book tb records pool scratch left s
+        → (turns (record_count records) s ≤ left) × Going book tb records pool scratch (turns (record_count records) s) s
+    going_turns (refuses number place e f) = (at_turns (record_count records) (λ (n : ℕ). n ≤ left) e (omega arith), refuses number place e f)
+    going_turns (stands rules a h m (checking k at e l b w)) = (
+      at_turns (record_count records) (λ (n : ℕ). n ≤ left) e (omega arith),
+      stands rules a h m (checking k at e l (at_turns (record_count records) (λ (n : ℕ). 3 * record_count records ≤ n + k) e (omega arith)) w),
+    )
+    going_turns (stands rules a h m (joining k at total entry e l b c d w)) = (
+      at_turns (record_count records) (λ (n : ℕ). n ≤ left) e (omega arith),
+      stands rules a h m
+          (joining k at total entry e l (at_turns (record_count records) (λ (n : ℕ). 2 * record_count records ≤ n + k) e (omega arith)) c d w),
+    )
+    going_turns (stands rules a h m (reading k at total e l b c y w)) = (
+      at_turns (record_count records) (λ (n : ℕ). n ≤ left) e (omega arith),
+      stands rules a h m
+          (reading k at total e l (at_turns (record_count records) (λ (n : ℕ). record_count records ≤ n + k) e (omega arith)) c y w),
+    )
+    going_turns (stands rules a h m (over total e c)) = (
+      at_turns (record_count records) (λ (n : ℕ). n ≤ left) e (omega arith),
+      stands rules a h m (over total e c),
+    )
+
     pub going_index : Going book tb records pool scratch left s → s.more ≡ true → (s.index < record_count records) × (0 < left)
     going_index (refuses number place e f) m = halts m e refl
     going_index (stands rules a h few (checking k at e l b w)) m = let i = ap (λ (z : Stage). z.index) e in (omega arith, omega arith)
@@ -337,3 +367,14 @@ module _ {book tb records pool : List ℕ} where
     going_finish {out} {exit} {r} (stands rules a h few (over total e c)) m fin =
         let g = (subst (λ (z : Stage). Finishes scratch z out r exit) e fin).writes refl in
         outcome book tb records pool rules a h few out exit r (clean_written rules records pool out few c g)
+
+  -- the turn is nearer to the end
+  pub going_turned : {scratch after : List ℕ} {left count : ℕ} {s r : Stage} {t : TokenRecord} → length scratch ≡ max_text → Fits t
+      → Going book tb records pool scratch left s → s.more ≡ true → t ≡ record_at records s.index → record_count records ≡ count
+      → Stepped tb scratch after pool s t count r
+      → (turns (record_count records) r < left)
+      × (Going book tb records pool after (turns (record_count records) r) r × (length after ≡ max_text))
+  going_turned {scratch} {after} {left} {count} {s} {r} {t} sized small g m e q st =
+      let n = going_next sized small g m e (subst (λ (k : ℕ). Stepped tb scratch after pool s t k r) (sym q) st) in
+      let w = going_turns n.0 in
+      (omega (arith, (going_index g m).1, w.0), (w.1, n.1))

@@ -7,6 +7,7 @@ use mathlib.Core.List.{List, ◌++◌}
 use Prim.Native.Nat.{ℕ, ◌+◌, ◌-◌, ◌*◌, ◌%◌, ◌<◌, ◌≤◌}
 use native.Mathlib.Omega.{arith}
 use lib.ListN.{length, take, drop}
+use Rattle.automaton.specs.Choice.{if}
 use Rattle.automaton.specs.Rule.{Rule}
 use Rattle.automaton.specs.Layers.{rule_at, Holds}
 use Rattle.automaton.proofs.Tests.{clash}
@@ -41,6 +42,10 @@ pub record Going (book text entry masks-entry tb records masks : List ℕ) (left
   pub refuses : t.refused ≡ true → LexAnswered (masked_outcome book text entry masks-entry) (answer.Refused (pending_refusal t)) records
       masks
   pub stands : t.refused ≡ false → (rules : List Rule) × Standing book text entry masks-entry tb records masks left t rules
+
+-- so many turns are left at most
+abbrev pub turns : List ℕ → Pending → ℕ
+turns text t = if t.more (length text + 1 - t.next) 0
 
 module _ {book text entry masks-entry tb : List ℕ} where
   pub going_start : {room : ℕ} {t : Pending} → Begun book text room tb t → room_in entry masks-entry ≡ room
@@ -162,3 +167,44 @@ module _ {book text entry masks-entry tb : List ℕ} where
               subst (Filling rules text entry after masks-entry masks-after t.next) (sym u.stored)
               (subst (λ (n : ℕ). Filling rules text entry after masks-entry masks-after n (t.index + 1)) (sym c.next)
               (filling_next s.filling c.chooses c.some refl c.agrees stored m'))
+
+    -- what is pending is as far from the end as `turns` says
+    pub going_turns : (turns text t ≤ left) × Going book text entry masks-entry tb records masks (turns text t) t
+    going_turns = (
+      least t.more refl,
+      record {
+        idle = g.idle;
+        refuses = g.refuses;
+        stands = λ p. let w = g.stands p in (
+          w.0,
+          record {
+            accepts = w.1.accepts;
+            holds = w.1.holds;
+            short = w.1.short;
+            enough = w.1.enough;
+            at = w.1.at;
+            filling = w.1.filling;
+            pending = w.1.pending;
+            further = λ m. enough m;
+          },
+        );
+      },
+    )
+      where
+        enough : t.more ≡ true → length text < t.next + turns text t
+        enough m = rw m (omega arith)
+
+        least : (b : Bool) → t.more ≡ b → turns text t ≤ left
+        least true m = rw m (omega (arith, (s m).further m))
+        least false m = rw m (omega arith)
+
+  -- the turn is nearer to the end
+  pub going_turned : {records masks : List ℕ} {left : ℕ} {t : Pending} (g : Going book text entry masks-entry tb records masks left t)
+      (m : t.more ≡ true) {after masks-after : List ℕ} {r : Pending}
+      → after ≡ take (10 * t.index) records ++ ten_bytes t.token ++ drop (10 * t.index + 10) records
+      → masks-after ≡ take (4 * t.index) masks ++ four t.mask ++ drop (4 * t.index + 4) masks
+      → ((rs : List Rule) → Holds tb rs → PendingAt rs text (t.index + 1) t.next r)
+      → (turns text r < left) × Going book text entry masks-entry tb after masks-after (turns text r) r
+  going_turned g m e m' f =
+      let w = going_turns (going_next g m e m' f) in
+      (omega (arith, going-left g m, w.0), w.1)

@@ -57,7 +57,8 @@ pub fn print_tokens(book: &[u8], tokens: &[TokenRecord], pool: &[u8], out: &mut 
     let t = &table;
     while stage.more {
         let index = stage.index;
-        stage = crate::printing::step(t, &mut scratch, pool, stage, tokens[index], count);
+        let token = crate::printing::fitting(tokens[index]);
+        stage = crate::printing::step(t, &mut scratch, pool, stage, token, count);
     }
     crate::printing::finish(&scratch, stage, out)
 }

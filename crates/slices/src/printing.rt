@@ -6,6 +6,7 @@ ghost use Rattle.automaton.specs.Rule.{Rule};
 ghost use Rattle.automaton.specs.Layers.{Holds, Held};
 ghost use Rattle.book.specs.Limits.{max_text, max_tokens};
 ghost use Rattle.reader.specs.Layers.{Lent};
+ghost use Rattle.record.specs.Encoding.{Fits};
 ghost use Rattle.token_list.specs.Faults.{fault_of};
 ghost use Rattle.slices.specs.Layers.{going, done, refused_stage, moved_on, checked, Reads, Steps, Stepped};
 ghost use Rattle.slices.specs.Layers.{begun, Begins, Finishes};
@@ -143,6 +144,14 @@ fn read_on(table: &[u64], scratch: &[u8], stage: Stage, len: usize, count: usize
         return refuse(Refusal::READ_ON, stage.index);
     }
     move_on(stage, len, count)
+}
+
+// The token as it is, whose fields fit their types.
+pub fn fitting(token: TokenRecord) -> TokenRecord
+    ensures same { result ≡ token }
+    ensures fits { Fits result }
+{
+    token
 }
 
 // The stage after token number `stage.index` of `count`.

@@ -1,2 +1,2 @@
--- `Contracts`: what the cells of an open rule hold, and how its words are settled.
+-- `Layers`: what the cells of an open rule hold, and how its words are settled.
 pub mod Layers

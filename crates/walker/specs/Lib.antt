@@ -1,2 +1,2 @@
--- `Contracts`: where a step leads, and how far a walk goes.
+-- `Layers`: where a step leads, and how far a walk goes.
 pub mod Layers

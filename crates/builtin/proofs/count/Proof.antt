@@ -24,12 +24,12 @@ head c = c.before.before.before.before.before
 
 module _ (c : tie.After-struct_known-in-loop-at-1 invariant-loop decreases-loop) where
   -- the token that is found at this place
-  token : Picked builtin_rules (drop (head c).loop.at (call (head c)).args.text.now)
+  token : Picked builtin_rules (drop (head c).loop-at.at (call (head c)).args.text.now)
       (tag_at c.before.before.before.scan_at-m.result.state) c.before.before.before.scan_at-m.result.len
   token = picked c.before.before.before.scan_at-m.ensures
 
-  more : (head c).loop.at + c.before.before.before.scan_at-m.result.len ≤ length (call (head c)).args.text.now
-  more = cutting_within (head c).loop.invariant token.chooses (omega arith)
+  more : (head c).loop-at.at + c.before.before.before.scan_at-m.result.len ≤ length (call (head c)).args.text.now
+  more = cutting_within (head c).loop-at.invariant token.chooses (omega arith)
 
 ended : (c : tie.After-loop-at invariant-loop decreases-loop) → length (call c.before).args.text.now ≤ c.before.loop-at.at
 ended c = omega arith
@@ -55,7 +55,7 @@ loop-less : tie.Need-loop-at-smaller invariant-loop decreases-loop
 loop-less c = omega (arith, more c)
 
 loop-again : tie.Need-loop-at-preserved invariant-loop decreases-loop
-loop-again c = cutting_next (head c).loop.invariant (token c).chooses (omega arith)
+loop-again c = cutting_next (head c).loop-at.invariant (token c).chooses (omega arith)
 
 returns-2 : tie.Need-returns invariant-loop decreases-loop
 returns-2 c = cutting_stop c.before.loop-at.invariant (lex-end builtin_rules _ _ (ended c))

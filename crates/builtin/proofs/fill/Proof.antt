@@ -34,22 +34,22 @@ module _ (c : tie.Else-m-eq0 invariant-loop decreases-loop) where
   state = c.before.before.scan_at-m.result.state
 
   -- the token that is found at this place, and the rules that agree on it
-  token : Picked builtin_rules (drop (head c).loop.place (call (head c)).args.text.now) (tag_at state)
+  token : Picked builtin_rules (drop (head c).loop-place.place (call (head c)).args.text.now) (tag_at state)
       c.before.before.scan_at-m.result.len
   token = picked c.before.before.scan_at-m.ensures
 
-  agreed : Agrees builtin_rules (drop (head c).loop.place (call (head c)).args.text.now) c.before.before.scan_at-m.result.len
+  agreed : Agrees builtin_rules (drop (head c).loop-place.place (call (head c)).args.text.now) c.before.before.scan_at-m.result.len
       (mask_of_state state)
   agreed = agrees c.before.before.scan_at-m.ensures (omega arith)
 
-  more : (head c).loop.place + c.before.before.scan_at-m.result.len ≤ length (call (head c)).args.text.now
-  more = cutting_within (head c).loop.invariant.cut token.chooses (omega arith)
+  more : (head c).loop-place.place + c.before.before.scan_at-m.result.len ≤ length (call (head c)).args.text.now
+  more = cutting_within (head c).loop-place.invariant.cut token.chooses (omega arith)
 
-  room : 10 * (head c).loop.tokens + 10 ≤ length (head c).loop.records-1
-  room = filling_room (head c).loop.invariant token.chooses (omega arith)
+  room : 10 * (head c).loop-place.tokens + 10 ≤ length (head c).loop-place.records
+  room = filling_room (head c).loop-place.invariant token.chooses (omega arith)
 
-  mask-room : 4 * (head c).loop.tokens + 4 ≤ length (head c).loop.masks-1
-  mask-room = filling_mask_room (head c).loop.invariant token.chooses (omega arith) agreed
+  mask-room : 4 * (head c).loop-place.tokens + 4 ≤ length (head c).loop-place.masks
+  mask-room = filling_mask_room (head c).loop-place.invariant token.chooses (omega arith) agreed
 
 ended : (c : tie.After-loop-place invariant-loop decreases-loop) → length (call c.before).args.text.now ≤ c.before.loop-place.place
 ended c = omega arith
@@ -87,7 +87,7 @@ abbrev turn : tie.After-slice_known-in-loop-place-2-1 invariant-loop decreases-l
 turn c = c.before.before.before.before.before.before.before.before.before.before
 
 add-tokens : tie.Need-overflow_add-tokens invariant-loop decreases-loop
-add-tokens c = let w = (head (turn c)).loop.inv.cut in omega (arith, more (turn c), w.few, w.within)
+add-tokens c = let w = (head (turn c)).loop-place.invariant.cut in omega (arith, more (turn c), w.few, w.within)
 
 add-place : tie.Need-overflow_add-place invariant-loop decreases-loop
 add-place c = omega (arith, more (turn c))
@@ -104,7 +104,7 @@ loop-again c =
     ∙ ap (λ (t : List ℕ). get_or t (state (turn c) / 16) 0) told.tags_are in
     let mask : c.before.before.before.before.mask_of-mask.result ≡ mask_of_state (state (turn c)) =
     c.before.before.before.before.mask_of-mask.ensures ∙ ap (λ (t : List ℕ). get_or t (state (turn c) / 16) 0) told.masks_are in
-    filling_next (head (turn c)).loop.inv t.chooses (omega arith) (tag ∙ t.names (omega arith))
+    filling_next (head (turn c)).loop-place.invariant t.chooses (omega arith) (tag ∙ t.names (omega arith))
     (subst (Agrees builtin_rules _ _) (sym mask) (agreed (turn c))) put.put_record.ensures c.before.before.put_mask.ensures
 
 same-length-3 : tie.Need-shape_of-records invariant-loop decreases-loop

@@ -9,9 +9,9 @@ returns c =
     let lexed = c.before.before.before.before in
     let tables = lexed.before.before.before.before.before.before.before in
     let a = tables.before.before.before.before.before.before.before.args in
-    let e = builtin_outcome a.text.now a.records-1.now a.masks-mask_table.now in
+    let e = builtin_outcome a.text.now a.records.now a.masks.now in
     let r = lexed.lex_lent.ensures in
-    (rw e r.answer, (rw e r.records-1, rw e r.masks-mask_table))
+    (rw e r.answer, (rw e r.records, rw e r.masks))
 
 pub lex_builtin_spec : {M : Type 1} → statement M
 lex_builtin_spec =

@@ -12,7 +12,7 @@ copy-requires c κs =
 
 put-last-two-requires : tie.Need-put_last_two-requires
 put-last-two-requires c κs =
-    room_second (puts_copied _ c.args.at c.args.word.now c.copy.ensures) c.copy.auto.1.1.1.0 c.requires
+    room_second (puts_copied _ c.args.at c.args.word.now c.copy.ensures) c.copy.auto.to c.requires
 
 returns : tie.Need-returns
 returns c =

@@ -22,7 +22,7 @@ put-record-requires c κs =
 
 loop-again : tie.Need-loop-k-preserved invariant-loop decreases-loop
 loop-again c =
-    going_next c.loop-k.invariant c.requires.1 c.loop-k-test.true c.put_record-at.auto.0 c.put_record-at.ensures
+    going_next c.loop-k.invariant c.requires.1 c.loop-k-test.true c.put_record-at.auto.out c.put_record-at.ensures
 
 same_length : tie.Need-shape_of-out invariant-loop decreases-loop
 same_length c = c.loop-k.invariant.same

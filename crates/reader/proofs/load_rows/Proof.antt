@@ -7,20 +7,13 @@ returns : tie.Need-returns-then-book-gt-BYTES
 returns c = loaded_refused (read_too_long _ _ c.before.if-book-gt-BYTES.true) c.refused.ensures
 
 read-on-requires : tie.Need-read_on-requires
-read-on-requires c κs =
-    let k = c.before.before.before.before in
-    let k₁ = k.before.before.before.before in
-    going_start k₁.requires.0 k₁.requires.1 k.if-book-gt-BYTES.false c.new-2.ensures c.before.new.ensures
+read-on-requires c κs = going_start c.requires.0 c.requires.1 c.if-book-gt-BYTES.false c.new-2.ensures c.new.ensures
 
 load-wide-requires : tie.Need-load_wide-requires
-load-wide-requires c κs =
-    let k = c.before.before.before in
-    rw k.cursor-1.given.1 at k.before.before.before.before.before.before.read_on.ensures
+load-wide-requires c κs = rw c.in-Narrow.is at c.read_on.ensures
 
 returns-2 : tie.Need-returns-in-Answered
-returns-2 c =
-    let k = c.before in
-    rw k.in-Answered.is at k.before.before.before.before.before.before.read_on.ensures
+returns-2 c = rw c.in-Answered.is at c.read_on.ensures
 
 pub load_rows_spec : {M : Type 1} → statement M
 load_rows_spec =

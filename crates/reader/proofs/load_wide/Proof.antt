@@ -9,21 +9,16 @@ use Rattle.reader.proofs.load_wide.Statement.{statement}
 use Rattle.reader.proofs.load_wide.Tie as tie
 
 read-on-requires : tie.Need-read_on-requires
-read-on-requires c κs =
-    let k = c.before.before.before in
-    going_wide state_count k.before.before.before.before.before.requires.0 k.copy_cells.ensures
+read-on-requires c κs = going_wide state_count c.requires.0 c.copy_cells.ensures
 
 returns : tie.Need-returns-in-Answered
-returns c =
-    let k = c.before in
-    rw k.in-Answered.is at k.before.before.before.before.before.read_on.ensures
+returns c = rw c.in-Answered.is at c.read_on.ensures
 
 returns-2 : tie.Need-returns-in-Narrow
 returns-2 c =
-    let k = c.before.before.before.before.before in
-    let h = rw c.in-Narrow.is at k.read_on.ensures in
-    let wide = k.before.before.before.before.copy_cells.ensures.size ∙ length-replicate {A = ℕ} state_count 0 in
-    absurd (omega (arith, h.1, k.read_on.auto.1.1.1.0 ∙ wide))
+    let h = rw c.in-Narrow.is at c.read_on.ensures in
+    let wide = c.copy_cells.ensures.size ∙ length-replicate {A = ℕ} state_count 0 in
+    absurd (omega (arith, h.1, c.read_on.auto.rows ∙ wide))
 
 pub load_wide_spec : {M : Type 1} → statement M
 load_wide_spec =

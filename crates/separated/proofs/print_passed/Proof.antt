@@ -14,7 +14,7 @@ write-from-requires c κs =
     (
       ((c.put_list.ensures c.requires.0.held.rules c.requires.0.held.holds).at _
           c.in-At.is).within,
-      omega (arith, c.put_list.auto.1.1.1.1.1.0, c.requires.1.short),
+      omega (arith, c.put_list.auto.scratch, c.requires.1.short),
     )
 
 returns : tie.Need-returns-in-At
@@ -26,7 +26,7 @@ returns c =
 
 returns-2 : tie.Need-returns-in-Full
 returns-2 c =
-    λ rs h. answered_full c.requires.1 rs c.args.out.now c.put_list.auto.1.1.1.1.1.0
+    λ rs h. answered_full c.requires.1 rs c.args.out.now c.put_list.auto.scratch
     (c.put_list.ensures rs h) c.in-Full.is c.refused.ensures
 
 pub print_passed_spec : {M : Type 1} → statement M

@@ -32,7 +32,7 @@ sub_at : tie.Need-overflow_sub-at invariant-loop decreases-loop
 sub_at c = omega arith
 
 mul-e : tie.Need-offset_bounds-table-at invariant-loop decreases-loop
-mul-e c = omega (arith, room c, (entry c.before).good.0.1)
+mul-e c = omega (arith, room c, (entry c.before).well_formed.0.1)
 
 shared-slice-read-e : tie.Need-bounds-table-at invariant-loop decreases-loop
 shared-slice-read-e c = room c.before

@@ -43,7 +43,7 @@ sub_at : tie.Need-overflow_sub-at invariant-loop decreases-loop
 sub_at c = omega arith
 
 mul-spot : tie.Need-offset_bounds-table-at invariant-loop decreases-loop
-mul-spot c = omega (arith, room c, (entry c.before).good.0.1)
+mul-spot c = omega (arith, room c, (entry c.before).well_formed.0.1)
 
 shared-slice-read-spot : tie.Need-bounds-table-at invariant-loop decreases-loop
 shared-slice-read-spot c = room c.before

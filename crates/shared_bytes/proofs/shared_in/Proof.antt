@@ -52,8 +52,8 @@ fitted c l =
     record { rule = _; table = f.holds.each c.loop-next.next m; fits = f.each c.loop-next.next m }
 
 -- and room for it
-room : (c : Loop) → Room (entry c).requires.0 (entry c).requires.1 (c.loop-next.next + 1) c.loop-next.seen-1 c.loop-next.spots-1 c.loop-next.good-1
-    c.loop-next.queue-1 c.loop-next.waiting-1 c.loop-next.rows-1
+room : (c : Loop) → Room (entry c).requires.0 (entry c).requires.1 (c.loop-next.next + 1) c.loop-next.seen c.loop-next.spots c.loop-next.good c.loop-next.queue
+    c.loop-next.waiting c.loop-next.rows
 room c = c.loop-next.invariant.0 _ _ (entry c).requires.3
 
 count-of-requires : tie.Need-count_of-rules-requires invariant-loop decreases-loop
@@ -72,7 +72,7 @@ used-by-requires c κs =
 kind-of-requires : tie.Need-kind_of-kind-requires invariant-loop decreases-loop
 kind-of-requires c κs =
     let x = c.before.before.before.before.before.before.before.before.before.before.before.before.before.before.before.before.before.before.before in
-    let f = fitted x.before x.loop-next-test.taken in
+    let f = fitted x.before x.loop-next-test.true in
     record { rule = f.rule; table = f.table }
 
 loop-less : tie.Need-loop-next-smaller invariant-loop decreases-loop
@@ -84,14 +84,14 @@ loop-again c =
     let l = c.before.before.before.before.before.before.before.before.before.before.before.before.before.before.before.before.before.before.before.before.before.before.loop-next-test.true in
     let d = c.before.before.before.before.before.before.before.before.before.before.before.before.before.before.before.used_by-set in
     let e : k.loop-next.next + 2 ≡ k.loop-next.next + 1 + 1 = omega arith in (
-      λ bound edges o. rw e at (d.ensures.0 bound edges (k.loop-next.inv.0 bound edges o)),
-      d.kept.1.1.1.1.1.1.0 ∙ k.loop-next.inv.1,
+      λ bound edges o. rw e at (d.ensures.0 bound edges (k.loop-next.invariant.0 bound edges o)),
+      d.auto.waiting ∙ k.loop-next.invariant.1,
       λ rs h.
           let m = more k l rs h in
           let t = h.each k.loop-next.next m in (
-            kinds_next (k.loop-next.inv.2 rs h).0 m _ (c.before.before.kind_of-kind.ensures _ t)
+            kinds_next (k.loop-next.invariant.2 rs h).0 m _ (c.before.before.kind_of-kind.ensures _ t)
                 (λ b p. c.before.joined_where-plain.ensures b p ∙ rw (d.ensures.1 _ t b p)),
-            kinds_next (k.loop-next.inv.2 rs h).1 m _ (c.before.before.kind_of-kind.ensures _ t)
+            kinds_next (k.loop-next.invariant.2 rs h).1 m _ (c.before.before.kind_of-kind.ensures _ t)
                 (λ b p. c.joined_where-separators.ensures b p ∙ rw (d.ensures.1 _ t b p)),
           ),
     )

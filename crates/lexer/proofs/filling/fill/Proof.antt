@@ -36,27 +36,27 @@ some c = c.loop-place.invariant (call c).requires.held.rules (call c).requires.h
 
 module _ (c : tie.After-struct_known-1 invariant-loop decreases-loop) where
   chosen : (rs : List Rule) → Holds (call (head c)).args.table.now rs
-      → Chooses rs (drop (head c).loop.place (call (head c)).args.text.now) c.before.choose_with-c.result.rule
+      → Chooses rs (drop (head c).loop-place.place (call (head c)).args.text.now) c.before.choose_with-c.result.rule
       c.before.choose_with-c.result.len
   chosen rs h = c.before.choose_with-c.ensures.0 rs _ h (part_end _ _)
 
   agreed : (rs : List Rule) → Holds (call (head c)).args.table.now rs
-      → Agrees rs (drop (head c).loop.place (call (head c)).args.text.now) c.before.choose_with-c.result.len
+      → Agrees rs (drop (head c).loop-place.place (call (head c)).args.text.now) c.before.choose_with-c.result.len
       c.before.choose_with-c.result.mask
   agreed rs h = c.before.choose_with-c.ensures.1 rs _ h (part_end _ _)
 
-  one : Chooses (call (head c)).requires.held.rules (drop (head c).loop.place (call (head c)).args.text.now)
+  one : Chooses (call (head c)).requires.held.rules (drop (head c).loop-place.place (call (head c)).args.text.now)
       c.before.choose_with-c.result.rule c.before.choose_with-c.result.len
   one = chosen (call (head c)).requires.held.rules (call (head c)).requires.held.holds
 
 module _ (e : tie.Else-c-eq0 invariant-loop decreases-loop) where
-  more : (head e.before).loop.place + e.before.before.choose_with-c.result.len ≤ length (call (head e.before)).args.text.now
+  more : (head e.before).loop-place.place + e.before.before.choose_with-c.result.len ≤ length (call (head e.before)).args.text.now
   more = cutting_within (some (head e.before)).cut (one e.before) (omega arith)
 
-  room : 10 * (head e.before).loop.tokens + 10 ≤ length (head e.before).loop.records-1
+  room : 10 * (head e.before).loop-place.tokens + 10 ≤ length (head e.before).loop-place.records
   room = filling_room (some (head e.before)) (one e.before) (omega arith)
 
-  mask-room : 4 * (head e.before).loop.tokens + 4 ≤ length (head e.before).loop.masks-1
+  mask-room : 4 * (head e.before).loop-place.tokens + 4 ≤ length (head e.before).loop-place.masks
   mask-room =
       let held = (call (head e.before)).requires.held in
       filling_mask_room (some (head e.before)) (one e.before) (omega arith) (agreed e.before held.rules held.holds)
@@ -78,7 +78,7 @@ same-length-2 c = (some c.before.before.before.before.before).masked.same
 
 returns : tie.Need-returns-then-c-eq0 invariant-loop decreases-loop
 returns c =
-    let inv = (head c.before).loop.inv in (
+    let inv = (head c.before).loop-place.invariant in (
       λ rs h. cutting_stop (inv rs h).cut (lex_stop rs _ ((chosen c.before rs h).nothing c.if-c-eq0.true)),
       λ rs h. filling_stop (inv rs h) (lex_stop rs _ ((chosen c.before rs h).nothing c.if-c-eq0.true)),
     )
@@ -112,7 +112,7 @@ loop-again c = λ rs h.
     let here = (turn c).before in
     let put = c.before.before.before.before.before.before in
     let chooses = chosen here rs h in
-    filling_next ((head here).loop.inv rs h) chooses (omega arith)
+    filling_next ((head here).loop-place.invariant rs h) chooses (omega arith)
     (put.before.before.tag_of-tag.ensures _ (h.each _ (chooses.known (omega arith)))) (agreed here rs h) put.put_record.ensures
     c.before.before.put_mask.ensures
 

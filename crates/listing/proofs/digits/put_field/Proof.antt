@@ -9,7 +9,7 @@ put-decimal-requires c κs = room-first _ c.requires
 
 put-byte-requires : tie.Need-put_byte-requires
 put-byte-requires c κs =
-    room_second c.put_decimal-end.ensures c.put_decimal-end.auto.0 c.requires
+    room_second c.put_decimal-end.ensures c.put_decimal-end.auto.out c.requires
 
 returns : tie.Need-returns
 returns c =

@@ -12,7 +12,7 @@ put-field-requires c κs = room-first _ c.requires
 put-field-requires-2 : tie.Need-put_field-requires
 unfolding last_two
 put-field-requires-2 c κs =
-    room_second c.put_field-next.ensures c.put_field-next.auto.0 c.requires
+    room_second c.put_field-next.ensures c.put_field-next.auto.out c.requires
 
 returns : tie.Need-returns
 unfolding last_two

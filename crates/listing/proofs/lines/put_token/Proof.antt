@@ -13,14 +13,14 @@ put-field-requires c κs = room-first _ (room-first _ c.requires)
 put-field-requires-2 : tie.Need-put_field-third-requires
 unfolding token_line
 put-field-requires-2 c κs =
-    room_second c.put_field-second.ensures c.put_field-second.auto.0 (room-first _ c.requires)
+    room_second c.put_field-second.ensures c.put_field-second.auto.out (room-first _ c.requires)
 
 put-last-two-requires : tie.Need-put_last_two-requires
 unfolding token_line
 put-last-two-requires c κs =
     let r = c.requires in
     room_second (puts_then c.put_field-second.ensures c.put_field-third.ensures (room-first _ (room-first _ r)))
-    (c.put_field-third.auto.0 ∙ c.put_field-second.auto.0) r
+    (c.put_field-third.auto.out ∙ c.put_field-second.auto.out) r
 
 returns : tie.Need-returns
 unfolding token_line

@@ -7,15 +7,14 @@ use Rattle.slices.proofs.lexing.begin.Tie as tie
 
 begin-rules-requires : tie.Need-begin_rules-requires
 begin-rules-requires c κs =
-    loaded_held c.before.before.before.before.before.load.ensures c.before.before.before.in-Accepted.is
+    loaded_held c.load.ensures c.in-Accepted.is
 
 returns : tie.Need-returns-in-Accepted
 returns c =
-    begun_book c.before.before.before.before.before.before.load.ensures c.before.before.before.before.in-Accepted.is
-    c.before.least.ensures c.begin_rules.ensures
+    begun_book c.load.ensures c.in-Accepted.is c.least.ensures c.begin_rules.ensures
 
 returns-2 : tie.Need-returns-in-Refused
-returns-2 c = begun_refused c.before.before.before.before.load.ensures c.before.before.in-Refused.is c.refuse.ensures
+returns-2 c = begun_refused c.load.ensures c.in-Refused.is c.refuse.ensures
 
 pub begin_spec : {M : Type 1} → statement M
 begin_spec =

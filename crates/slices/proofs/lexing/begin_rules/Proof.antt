@@ -1,6 +1,5 @@
 -- `begin_rules`: each return is one case of `Opens`. Assumes nothing.
 use mathlib.Core.List.{List}
-use mathlib.Core.Logic.{⊎_elim}
 use Prim.Native.Nat.{◌≤◌}
 use native.Mathlib.Omega.{arith}
 use lib.ListN.{length}
@@ -12,6 +11,7 @@ use Rattle.longest_match.proofs.Lexing.{lex_few}
 use Rattle.slices.proofs.Opening.{opens_long, opens_few, opens_pending}
 use Rattle.slices.proofs.lexing.begin_rules.Statement.{statement}
 use Rattle.slices.proofs.lexing.begin_rules.Tie as tie
+use Rattle.slices.proofs.lexing.begin_rules.Lts.{then-room-text+else-room-needed, else-room-text}
 
 -- the call, from where there is room
 abbrev call : tie.Joined-room-text → tie.Start
@@ -21,9 +21,10 @@ call c = c.before.before.before.before
 fits : (c : tie.Joined-room-text) (rs : List Rule) → Holds (call c).args.table.now rs
     → length (lex rs (call c).args.text.now).tokens ≤ (call c).args.room
 fits c rs h =
-    ⊎_elim (λ w. omega (arith, (w.1.ensures rs h).tokens_are, w.3.left))
-    (λ w. omega (arith, w.left, lex_few rs (call c).args.text.now))
-    c.if-room-text.branch
+    elim c.if-room-text.branch [
+      | then-room-text+else-room-needed w ↦ omega (arith, (w.count-needed.ensures rs h).tokens_are, w.if-room-needed.false)
+      | else-room-text w ↦ omega (arith, w.if-room-text.false, lex_few rs (call c).args.text.now)
+    ]
 
 returns : tie.Need-returns-then-text-gt-TEXT
 returns c = λ rs h. opens_long c.before.if-text-gt-TEXT.true c.refuse.ensures

@@ -5,10 +5,10 @@ use Rattle.slices.proofs.printing.begin.Statement.{statement}
 use Rattle.slices.proofs.printing.begin.Tie as tie
 
 returns : tie.Need-returns-in-Accepted
-returns c = begins_book c.before.before.before.load.ensures c.before.in-Accepted.is c.begin_count.ensures
+returns c = begins_book c.load.ensures c.in-Accepted.is c.begin_count.ensures
 
 returns-2 : tie.Need-returns-in-Refused
-returns-2 c = begins_refused c.before.before.before.before.load.ensures c.before.before.in-Refused.is c.refuse.ensures
+returns-2 c = begins_refused c.load.ensures c.in-Refused.is c.refuse.ensures
 
 pub begin_spec : {M : Type 1} → statement M
 begin_spec =

@@ -8,15 +8,13 @@ use Rattle.slices.proofs.printing.check.Tie as tie
 
 returns : tie.Need-returns-in-By
 returns c = λ rs h.
-    let a = c.before.before.before.before.before.before.before.before.args in
-    c.refuse.ensures ∙ rw (by_number (fault_of rs a.pool.now a.token)
-    (sym c.before.before.in-By.is ∙ c.before.before.before.before.token_fault.ensures rs h))
+    c.refuse.ensures ∙ rw (by_number (fault_of rs c.args.pool.now c.args.token)
+    (sym c.in-By.is ∙ c.token_fault.ensures rs h))
 
 returns-2 : tie.Need-returns-in-Nothing
 returns-2 c = λ rs h.
-    let a = c.before.before.before.before.before.before.before.args in
-    c.move_on.ensures ∙ rw (by_none (fault_of rs a.pool.now a.token)
-    (sym c.before.in-Nothing.is ∙ c.before.before.before.token_fault.ensures rs h))
+    c.move_on.ensures ∙ rw (by_none (fault_of rs c.args.pool.now c.args.token)
+    (sym c.in-Nothing.is ∙ c.token_fault.ensures rs h))
 
 pub check_spec : {M : Type 1} → statement M
 check_spec =

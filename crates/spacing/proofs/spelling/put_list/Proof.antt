@@ -54,7 +54,7 @@ loop-less c = omega (arith, c.loop-k-test.true)
 loop-again : tie.Need-loop-k-preserved invariant-loop decreases-loop
 loop-again c =
     (
-      c.put_token.auto.1.1.1.1.1.1.0
+      c.put_token.auto.scratch
           ∙ c.loop-k.invariant.0,
       λ rs h. putting_next rs c.args.separator c.args.mode c.args.records.now
           c.args.pool.now (c.loop-k.invariant.1 rs h) c.loop-k-test.true c.read_record-token.ensures
@@ -66,7 +66,7 @@ loop-again c =
     )
 
 same_length : tie.Need-shape_of-scratch-in-Full invariant-loop decreases-loop
-same_length c = c.put_token.auto.1.1.1.1.1.1.0
+same_length c = c.put_token.auto.scratch
     ∙ c.loop-k.invariant.0
 
 returns : tie.Need-returns-in-Full invariant-loop decreases-loop

@@ -29,9 +29,9 @@ returns c =
     λ rs h a us e l. let s = c.put_token.ensures.at _
     c.in-At.is in token_both rs
     c.args.mode c.args.pool.now c.args.token c.args.separator us
-    (drop c.args.at c.put_token.new.1.1.0)
+    (drop c.args.at c.put_token.new.scratch)
     (behind c.args.at (bytes_in c.args.pool.now c.args.token) c.args.scratch.now s
-    c.put_token.auto.1.1.0 c.requires.1.1.1 ∙ e)
+    c.put_token.auto.scratch c.requires.1.1.1 ∙ e)
     (sym c.if-is_due.true
     ∙ c.is_due.ensures rs h _ us
     (token-ahead rs c.args.mode c.args.pool.now c.args.token c.args.separator us

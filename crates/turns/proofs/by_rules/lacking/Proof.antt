@@ -14,7 +14,7 @@ use Rattle.turns.proofs.by_rules.lacking.Tie as tie
 
 -- the call, from where the tokens may have to be counted
 abbrev entry : tie.After-least → tie.Start
-entry c = c.before.before.before.before.before.before.before.before
+entry c = c.before.before.before.before.before.before
 
 -- where they are
 abbrev asked : tie.After-run-turn → tie.After-least

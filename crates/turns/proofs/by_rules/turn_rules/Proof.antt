@@ -35,7 +35,7 @@ returns-3 c = λ rs h.
     let l = c.before.before.before.before.before.before in
     let same = l.lacking-lacking.ensures.1 in
     answered_same same.0 same.1
-    (rw c.refused-then-lacking-ne0.ensures (answered_few rs _ _ _ _ _ (text-fits l) (inside l).if2.false (l.lacking-lacking.ensures.0 rs h)
+    (rw c.refused-then-lacking-ne0.ensures (answered_few rs _ _ _ _ _ (text-fits l) (inside l).if-text-place.false (l.lacking-lacking.ensures.0 rs h)
     (omega (arith, c.before.if-lacking-ne0.true))))
 
 run-requires : tie.Need-run-turn-requires
@@ -44,7 +44,7 @@ run-requires c κs =
     let same = l.lacking-lacking.ensures.1 in
     record {
       held = (entry (inside l)).requires;
-      inside = (inside l).if2.false;
+      inside = (inside l).if-text-place.false;
       room = λ e rs h. room_same same.0 same.1 rs _ _ _ ((l.lacking-lacking.ensures.0 rs h).enough c.before.before.if-lacking-ne0.false);
     }
 
@@ -53,7 +53,7 @@ returns-4 c = λ rs h.
     let run = c.before.before.before.before in
     let l = run.before.before.before.before.before.before.before.before in
     let same = l.lacking-lacking.ensures.1 in
-    answered_turned rs _ _ _ _ _ (text-fits l) (inside l).if2.false
+    answered_turned rs _ _ _ _ _ (text-fits l) (inside l).if-text-place.false
     ((l.lacking-lacking.ensures.0 rs h).enough run.before.before.before.if-lacking-ne0.false) (run.run-turn.ensures.0 rs h)
     (stores_same same.0 same.1 (run.run-turn.ensures.1 rs h))
 

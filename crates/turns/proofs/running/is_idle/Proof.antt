@@ -38,7 +38,7 @@ starts-in-error-requires c κs =
 returns : tie.Need-returns-then-not-starts_in_error invariant-loop decreases-loop
 unfolding walk
 returns c = λ rs h.
-    let e = sym (c.before.starts_in_error.ensures _ (here c.before.before rs h)) ∙ not-true _ c.if-not-starts_in_error.true in
+    let e = sym (c.before.starts_in_error.ensures _ (here c.before.before rs h)) ∙ c.if-not-starts_in_error.true in
     sym (one_goes rs [] _ (known c.before.before rs h) (eqb-false _ _ e))
 
 loop-less : tie.Need-loop-k-smaller invariant-loop decreases-loop
@@ -47,7 +47,7 @@ loop-less c = omega arith
 loop-again : tie.Need-loop-k-preserved invariant-loop decreases-loop
 loop-again c = λ rs h.
     below_more (λ j. (rule_at rs j).start ≡ (rule_at rs j).error) _ (c.before.before.before.loop-k.invariant rs h)
-    (eqb-true _ _ (sym (c.before.starts_in_error.ensures _ (here c.before.before rs h)) ∙ not-false _ c.if-not-starts_in_error.false))
+    (eqb-true _ _ (sym (c.before.starts_in_error.ensures _ (here c.before.before rs h)) ∙ c.if-not-starts_in_error.false))
 
 returns-2 : tie.Need-returns invariant-loop decreases-loop
 unfolding walk

@@ -1,5 +1,4 @@
 -- `next_token`: what the walks over the bytes that are left say of the rest of the text. Assumes nothing.
-use mathlib.Core.Logic.{⊎_elim}
 use Prim.Native.Nat.{◌-◌, ◌≤◌}
 use native.Mathlib.Omega.{arith}
 use lib.ListN.{length, drop, length-drop}
@@ -10,6 +9,7 @@ use Rattle.longest_match.proofs.Parts.{part_bytes}
 use Rattle.turns.proofs.Taking.{next_none, next_past, next_fits}
 use Rattle.turns.proofs.running.next_token.Statement.{statement}
 use Rattle.turns.proofs.running.next_token.Tie as tie
+use Rattle.turns.proofs.running.next_token.Lts.{then-window-went+else-window-ahead, else-window-went}
 
 abbrev entry : tie.After-least-window → tie.Start
 entry c = c.before.before.before
@@ -35,19 +35,20 @@ returns-2 c = λ rs h.
     let w = second.before.before in
     let k = w.before.before.before in
     next_past c.too_large-then-window-ahead.ensures ((entry k).requires.1.0 rs h) (omega (arith, k.least-window.ensures, second.if-window-ahead.true))
-    (simp length-drop second.if-window-ahead.true) (w.walk_with-went.ensures rs _ h (part_bytes _ _ _)) second.before.if-window-went.true
+    (simp length-drop second.if-window-ahead.true) (c.walk_with-went.ensures rs _ h (part_bytes _ _ _)) second.before.if-window-went.true
 
 returns-3 : tie.Need-returns
 returns-3 c = λ rs h.
-    let joined = c.before.before.before in
-    let w = joined.before in
+    let w = c.before.before.before in
     let k = w.before.before.before in
     rw c.least.ensures
     (next_fits state_count (held_sound h) ((entry k).requires.1.0 rs h) (ahead k) (omega (arith, k.least-window.ensures))
-    (w.walk_with-went.ensures rs _ h (part_bytes _ _ _))
-    (⊎_elim (λ v f. simp length-drop (omega (arith, k.least-window.ensures, v.1.left))) (λ v f. absurd (omega (arith, v.left)))
-    joined.if-window-went.branch)
-    (c.before.choose_walked-c.ensures rs h))
+    (c.walk_with-went.ensures rs _ h (part_bytes _ _ _))
+    (elim c.if-window-went.branch [
+      | then-window-went+else-window-ahead v ↦ λ f. simp length-drop (omega (arith, k.least-window.ensures, v.if-window-ahead.false))
+      | else-window-went v ↦ λ f. absurd (omega (arith, v.if-window-went.false))
+    ])
+    (c.choose_walked-c.ensures rs h))
 
 pub next_token_spec : {M : Type 1} → statement M
 next_token_spec =

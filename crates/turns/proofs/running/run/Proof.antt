@@ -47,7 +47,7 @@ module _ (e : tie.Else-not-n invariant-loop decreases-loop) where
       → Next rs (drop here.loop-at.at (call here).args.text.now) here.loop-at.left e.before.before.next_token-n.result.rule
       e.before.before.next_token-n.result.len e.before.before.next_token-n.result.mask
       e.before.before.next_token-n.result.paid true
-  next rs h = next_true (not-false _ e.if-not-n.left) (e.before.before.next_token-n.ensures rs h)
+  next rs h = next_true (not-false _ e.if-not-n.false) (e.before.before.next_token-n.ensures rs h)
 
   one : Next (call here).requires.held.rules (drop here.loop-at.at (call here).args.text.now) here.loop-at.left
       e.before.before.next_token-n.result.rule e.before.before.next_token-n.result.len
@@ -94,7 +94,7 @@ same-length-2 c = running_masks_same (some (head c.before))
 
 returns-2 : tie.Need-returns-then-not-n invariant-loop decreases-loop
 returns-2 c =
-    let inv = (head c.before).loop.inv in
+    let inv = (head c.before).loop-at.invariant in
     let no = not-true _ c.if-not-n.true in (
       λ rs h. running_stop (inv rs h) (turn-spent rs _ _ ((c.before.before.next_token-n.ensures rs h).larger no)) (omega arith),
       λ rs h. running_stores (inv rs h) (turn-spent rs _ _ ((c.before.before.next_token-n.ensures rs h).larger no)),
@@ -115,9 +115,9 @@ same-length-4 c = running_masks_same (some (here c.before.before.before))
 returns-3 : tie.Need-returns-then-n-eq0 invariant-loop decreases-loop
 returns-3 c =
     let e = c.before.before.before in
-    let inv = (here e).loop.invariant in
+    let inv = (here e).loop-at.invariant in
     let text = (call (here e)).args.text.now in
-    let at = (here e).loop.at in (
+    let at = (here e).loop-at.at in (
       λ rs h. running_stop (inv rs h) (turn_stops text at (next e rs h) c.if-n-eq0.true)
           (omega (arith, (one e).within refl, (some (here e)).pays.affords)),
       λ rs h. running_stores (inv rs h) (turn_stops text at (next e rs h) c.if-n-eq0.true),
@@ -128,7 +128,7 @@ abbrev fitting : tie.Else-n-eq0 invariant-loop decreases-loop → tie.Else-not-n
 fitting c = c.before.before.before
 
 more : (c : tie.Else-n-eq0 invariant-loop decreases-loop)
-    → (here (fitting c)).loop.at + (fitting c).before.before.next_token-n.result.len ≤ length (call (here (fitting c))).args.text.now
+    → (here (fitting c)).loop-at.at + (fitting c).before.before.next_token-n.result.len ≤ length (call (here (fitting c))).args.text.now
 more c = running_within (some (here (fitting c))) (one (fitting c)) (omega arith)
 
 tag-of-requires : tie.Need-tag_of-tag-requires invariant-loop decreases-loop
@@ -148,10 +148,10 @@ chosen c = c.before.before.before.before.before.before.before.before
 add-tokens : tie.Need-overflow_add-tokens invariant-loop decreases-loop
 add-tokens c =
     let l = here (fitting (chosen c)) in
-    omega (arith, more (chosen c), (some l).pays.few, (some l).pays.within, (call l).good)
+    omega (arith, more (chosen c), (some l).pays.few, (some l).pays.within, (call l).well_formed)
 
 add_at : tie.Need-overflow_add-at invariant-loop decreases-loop
-add_at c = omega (arith, more (chosen c), (call (here (fitting (chosen c)))).good)
+add_at c = omega (arith, more (chosen c), (call (here (fitting (chosen c)))).well_formed)
 
 loop-less : tie.Need-loop-at-smaller invariant-loop decreases-loop
 loop-less c = omega (arith, more (chosen c))
@@ -160,7 +160,7 @@ loop-again : tie.Need-loop-at-preserved invariant-loop decreases-loop
 loop-again c = λ rs h.
     let e = fitting (chosen c) in
     let kept = c.before.before.before.before in
-    running_next ((here e).loop.inv rs h) (next e rs h) (omega arith)
+    running_next ((here e).loop-at.invariant rs h) (next e rs h) (omega arith)
     (kept.before.before.before.tag_of-tag.ensures _ (h.each _ (((next e rs h).chooses refl).known (omega arith)))) kept.keep.ensures
 
 sub-t26 : tie.Need-overflow_sub-result-2 invariant-loop decreases-loop

@@ -7,11 +7,10 @@ use Rattle.used_bytes.proofs.sweeping.wait.Statement.{statement}
 use Rattle.used_bytes.proofs.sweeping.wait.Tie as tie
 
 put-edge-requires : tie.Need-put_edge-requires
-put-edge-requires c κs =
-    (
-      c.requires.2,
-      waits_short c.requires.1 _ _ c.requires.5 (c.state-to.ensures ∙ ap state_of c.spot.ensures) c.head-head.ensures,
-    )
+put-edge-requires c κs = (
+  c.requires.2,
+  waits_short c.requires.1 _ _ c.requires.5 (c.state-to.ensures ∙ ap state_of c.spot.ensures) c.head-head.ensures,
+)
 
 returns : tie.Need-returns
 returns c = λ bound us w.
