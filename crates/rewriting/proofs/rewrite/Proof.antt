@@ -6,23 +6,17 @@ use Rattle.rewriting.proofs.rewrite.Statement.{statement}
 use Rattle.rewriting.proofs.rewrite.Tie as tie
 
 rewrite-accepted-requires : tie.Need-rewrite_accepted-requires
-rewrite-accepted-requires c κs =
-    accepted_readable _ (sym c.before.in-Accepted.is ∙ c.before.before.before.read.ensures)
+rewrite-accepted-requires c κs = accepted_readable _ (sym c.in-Accepted.is ∙ c.read.ensures)
 
 returns : tie.Need-returns-in-Accepted
 returns c =
-    let k = c.before.before.before in
-    let a = k.before.before.before.before.before.before.args in
-    let o = answered_accepted a.book.now (sym k.before.in-Accepted.is ∙ k.before.before.before.read.ensures)
-    a.out-1.now c.before.before.rewrite_accepted.ensures in
-    (o.answer, o.out-1)
+    let o = answered_accepted c.args.book.now (sym c.in-Accepted.is ∙ c.read.ensures) c.args.out.now c.rewrite_accepted.ensures in
+    (o.answer, o.out)
 
 returns-2 : tie.Need-returns-in-Refused
 returns-2 c =
-    let a = c.before.before.before.before.before.before.args in
-    let o = answered_refused a.book.now (sym c.before.in-Refused.is ∙ c.before.before.before.read.ensures)
-    a.out-1.now in
-    (o.answer, o.out-1)
+    let o = answered_refused c.args.book.now (sym c.in-Refused.is ∙ c.read.ensures) c.args.out.now in
+    (o.answer, o.out)
 
 pub rewrite_spec : {M : Type 1} → statement M
 rewrite_spec =

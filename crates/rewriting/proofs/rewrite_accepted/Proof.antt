@@ -9,32 +9,24 @@ use Rattle.rewriting.proofs.rewrite_accepted.Tie as tie
 
 returns : tie.Need-returns-then-total-gt-BYTES
 returns c =
-    let a = c.before.before.before.before.before.args in
-    up_to_long max_bytes 1 (rewritten a.book.now) a.out-1.now
-    (omega (arith, c.before.if-total-gt-BYTES.true, c.before.before.measure-total.ensures)) c.refused.ensures
+    up_to_long max_bytes 1 (rewritten c.args.book.now) c.args.out.now
+    (omega (arith, c.if-total-gt-BYTES.true, c.measure-total.ensures)) c.refused.ensures
 
 returns-2 : tie.Need-returns-then-out-total
 returns-2 c =
-    let a = c.before.before.before.before.before.before.args in
-    let e = c.before.before.before.measure-total.ensures in
-    up_to_fitting max_bytes 1 (rewritten a.book.now) a.out-1.now (omega (arith, c.before.before.if-total-gt-BYTES.false, e))
-    (written_short (rewritten a.book.now) a.out-1.now e c.before.if-out-total.true c.refused-then-out-total.ensures)
+    let e = c.measure-total.ensures in
+    up_to_fitting max_bytes 1 (rewritten c.args.book.now) c.args.out.now (omega (arith, c.if-total-gt-BYTES.false, e))
+    (written_short (rewritten c.args.book.now) c.args.out.now e c.if-out-total.true c.refused-then-out-total.ensures)
 
 write-commands-requires : tie.Need-write_commands-requires
 write-commands-requires c κs =
-    record {
-      readable = c.before.before.before.before.before.before.requires;
-      room = omega (arith, c.before.if-out-total.false, c.before.before.before.measure-total.ensures);
-    }
+    record { readable = c.requires; room = omega (arith, c.if-out-total.false, c.measure-total.ensures) }
 
 returns-3 : tie.Need-returns
 returns-3 c =
-    let a = c.before.before.before.before.before.before.before.before.before.args in
-    let e = c.before.before.before.before.before.before.measure-total.ensures in
-    up_to_fitting max_bytes 1 (rewritten a.book.now) a.out-1.now
-    (omega (arith, c.before.before.before.before.before.if-total-gt-BYTES.false, e))
-    (written-whole (rewritten a.book.now) a.out-1.now e c.before.before.before.before.if-out-total.false
-    (rw (← e) at c.before.before.write_commands.ensures))
+    let e = c.measure-total.ensures in
+    up_to_fitting max_bytes 1 (rewritten c.args.book.now) c.args.out.now (omega (arith, c.if-total-gt-BYTES.false, e))
+    (written-whole (rewritten c.args.book.now) c.args.out.now e c.if-out-total.false (rw (← e) at c.write_commands.ensures))
 
 pub rewrite_accepted_spec : {M : Type 1} → statement M
 rewrite_accepted_spec =
