@@ -1,6 +1,6 @@
 -- The rules of the built-in book match just the texts of its patterns. Assumes nothing.
 use mathlib.Core.Path.{◌≡◌, refl, sym, ◌∙◌, ap}
-use mathlib.Core.Bool.{Bool, true, false, ◌&&◌, ◌||◌, and_true, or_true, or_false}
+use mathlib.Core.Bool.{Bool, true, false, ◌&&◌, ◌||◌, and-true, or-true, or-false}
 use mathlib.Core.List.{List, [], ◌∷◌}
 use Prim.Native.Nat.{ℕ, suc, ◌≤◌}
 use native.Mathlib.Omega.{arith}
@@ -55,7 +55,7 @@ module _ (r : Rule) (stays : any (λ (t : Transition). eqb t.from r.error) r.tra
   module _ (f : ℕ → Bool) (q : ℕ) (final : among q r.finals ≡ true) (again : Leads r q f q) where
     loop-more : (s b : ℕ) (w : List ℕ) → Leads r s f q → accepts s (b ∷ w) ≡ one_or_more f (b ∷ w)
     unfolding walk one_or_more
-    loop-more s b [] l = accepts_more s q b [] (f b) (l b) ∙ rw (final, and_true)
+    loop-more s b [] l = accepts_more s q b [] (f b) (l b) ∙ rw (final, and-true)
     loop-more s b (c ∷ w) l = accepts_more s q b (c ∷ w) (f b) (l b) ∙ ap (f b &&◌) (loop-more q c w again)
 
     loop-repeats : (s : ℕ) → among s r.finals ≡ false → Leads r s f q → (w : List ℕ) → accepts s w ≡ one_or_more f w
@@ -75,8 +75,8 @@ within-one c b = go (leb c b) (leb b c) refl refl
 
 -- two sets that lead to one state
 either : (x y : Bool) (q error : ℕ) → if x q (if y q error) ≡ if (y || x) q error
-either true y q error = rw or_true
-either false y q error = rw or_false
+either true y q error = rw or-true
+either false y q error = rw or-false
 
 -- 21 to 7E without the brackets is three ranges
 word_ranges : (b : ℕ) → within 0x21 0x5A b || byte 0x5C b || within 0x5E 0x7E b || within 0x80 0xFF b ≡ word_byte b
@@ -89,10 +89,10 @@ word_ranges b = go (byte 0x5B b) (byte 0x5C b) (byte 0x5D b) (leb b 0x5A) refl r
     go false false true t p q r o = rw (eqb-true b 0x5D r)
     go false false false true p q r o =
         let l : b ≤ 0x5A = leb-true b 0x5A o in
-        simp (p, q, r, o, lt-leb 0x5E b (omega arith), le-leb b 0x7E (omega arith), or_false, and_true)
+        simp (p, q, r, o, lt-leb 0x5E b (omega arith), le-leb b 0x7E (omega arith), or-false, and-true)
     go false false false false p q r o =
         let l : 0x5E ≤ b = omega (arith, eqb-false b 0x5B p, eqb-false b 0x5C q, eqb-false b 0x5D r, leb-false b 0x5A o) in
-        simp (p, q, r, o, le-leb 0x5E b l, le-leb 0x21 b (omega arith), and_true)
+        simp (p, q, r, o, le-leb 0x5E b l, le-leb 0x21 b (omega arith), and-true)
 
 -- ---- the five rules
 

@@ -1,6 +1,5 @@
 -- `lex_lent`: each answer is a case of the outcome. Assumes nothing.
 use mathlib.Core.Path.{subst}
-use mathlib.Core.Logic.{⊎_elim}
 use Prim.Native.Nat.{ℕ, ◌≤◌}
 use native.Mathlib.Omega.{arith}
 use lib.ListN.{length}
@@ -10,32 +9,32 @@ use Rattle.lexer.proofs.ByRules.{room_in, answered_long, answered_few, answered_
 use Rattle.builtin.specs.Book.{builtin_rules}
 use Rattle.builtin.proofs.lex_lent.Statement.{statement}
 use Rattle.builtin.proofs.lex_lent.Tie as tie
+use Rattle.builtin.proofs.lex_lent.Lts.{then-room-text+else-room-needed, else-room-text}
 
 -- the call, from where there is room enough
 abbrev call : tie.Joined-room-text → tie.Start
-call c = c.before.before.before.before.before.before.before.before
+call c = c.before.before.before.before.before.before
 
 -- there is room enough, whichever way led here
 fits : (c : tie.Joined-room-text)
     → length (lex builtin_rules (call c).args.text.now).tokens ≤ room_in (call c).args.records.now (call c).args.masks.now
 fits c =
     let room = c.before.room-room.ensures in
-    ⊎_elim
-    (λ w. omega (arith, w.1.ensures.tokens_are, w.2.left, room))
-    (λ w. subst (λ (n : ℕ). length (lex builtin_rules (call c).args.text.now).tokens ≤ n) room
-    (enough builtin_rules (call c).args.text.now _ w.left))
-    c.if-room-text.branch
+    elim c.if-room-text.branch [
+      | then-room-text+else-room-needed w ↦ omega (arith, w.count-needed.ensures.tokens_are, w.if-room-needed.false, room)
+      | else-room-text w ↦
+          subst (λ (n : ℕ). length (lex builtin_rules (call c).args.text.now).tokens ≤ n) room
+          (enough builtin_rules (call c).args.text.now _ w.if-room-text.false)
+    ]
 
 returns : tie.Need-returns-then-text-gt-TEXT
 returns c = rw c.refused.ensures (answered_long builtin_rules _ _ _ c.before.if-text-gt-TEXT.true)
 
 returns-2 : tie.Need-returns-then-room-needed
 returns-2 c =
-    let counted = c.before.before in
-    let room = counted.before.before in
     rw c.refused-then-room-needed.ensures
-    (answered_few builtin_rules _ _ _ room.before.before.before.if-text-gt-TEXT.false counted.count-needed.ensures
-    (omega (arith, c.before.if-room-needed.true, room.room-room.ensures)))
+    (answered_few builtin_rules _ _ _ c.if-text-gt-TEXT.false c.count-needed.ensures
+    (omega (arith, c.if-room-needed.true, c.room-room.ensures)))
 
 fill-requires : tie.Need-fill-cut-requires
 fill-requires c κs =
@@ -44,10 +43,8 @@ fill-requires c κs =
 
 returns-3 : tie.Need-returns
 returns-3 c =
-    let filled = c.before.before.before.before in
-    let joined = filled.before.before.before in
-    answered_lexed builtin_rules _ _ _ joined.before.before.before.before.if-text-gt-TEXT.false (fits joined) filled.fill-cut.ensures.0
-    filled.fill-cut.ensures.1
+    let joined = c.before.before.before.before.before.before.before in
+    answered_lexed builtin_rules _ _ _ c.if-text-gt-TEXT.false (fits joined) c.fill-cut.ensures.0 c.fill-cut.ensures.1
 
 pub lex_lent_spec : {M : Type 1} → statement M
 lex_lent_spec =

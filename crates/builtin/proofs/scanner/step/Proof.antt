@@ -19,21 +19,21 @@ next_is : (c : tie.Start) → get_or c.args.next.now (c.args.s + get_or c.args.c
 next_is c = rw (c.requires.0, c.requires.1)
 
 cast-result : tie.Need-overflow_cast-result
-cast-result c = let h = class-small c.before in omega arith
+cast-result c = let h = class-small c.before.before in omega arith
 
 add-result : tie.Need-overflow_add-result
-add-result c = let h = class-small c.before in omega arith
+add-result c = let h = class-small c.before.before in omega arith
 
 element-copy-out-result : tie.Need-bounds-next-s
-element-copy-out-result c = let h = class-small c.before in omega arith
+element-copy-out-result c = let h = class-small c.before.before.before in omega arith
 
 cast-result-2 : tie.Need-overflow_cast-result-2
-cast-result-2 c = let h = joined.next_state_lem c.before.before.args.s c.before.before.args.byte c.before.before.requires.2
+cast-result-2 c = let h = joined.next_state_lem c.args.s c.args.byte c.requires.2
     (omega arith) in
-    rw (next_is c.before.before) (omega arith)
+    rw (next_is c.before.before.before.before) (omega arith)
 
 returns : tie.Need-returns
-returns c = next_is c.before.before
+returns c = next_is c.before.before.before.before
 
 pub step_spec : {M : Type 1} → statement M
 step_spec = tie.close (tie.spec (λ c. search rules) cast-result add-result element-copy-out-result cast-result-2 returns)
