@@ -1,15 +1,15 @@
 -- `put_numbers`: by the answer. Assumes nothing.
 use mathlib.Core.Path.{sym, ap}
 use borrow.Author.Rules.{rules}
-use Rattle.answer-1.specs.declared.TurnAnswer.{TurnAnswer}
+use Rattle.answer.specs.declared.TurnAnswer.{TurnAnswer}
 use Rattle.answer_word.specs.Words.{next_after, examined_after}
 use Rattle.answer_word.proofs.put_numbers.Statement.{statement}
 use Rattle.answer_word.proofs.put_numbers.Tie as tie
 
 returns : tie.Need-returns-in-Turned
 returns c =
-    let a = c.before.in-Turned.is in
-    let lent = c.before.before.before.args in (
+    let a = c.in-Turned.is in
+    let lent = c.args in (
       sym (ap (λ (x : TurnAnswer). next_after x lent.next.now) a),
       sym (ap (λ (x : TurnAnswer). examined_after x lent.examined.now) a),
     )
@@ -17,7 +17,7 @@ returns c =
 returns-2 : tie.Need-returns-in-Refused
 returns-2 c =
     let a = c.in-Refused.is in
-    let lent = c.before.before.args in (
+    let lent = c.args in (
       sym (ap (λ (x : TurnAnswer). next_after x lent.next.now) a),
       sym (ap (λ (x : TurnAnswer). examined_after x lent.examined.now) a),
     )
