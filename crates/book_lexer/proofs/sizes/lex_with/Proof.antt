@@ -7,17 +7,14 @@ use Rattle.book_lexer.proofs.sizes.lex_with.Tie as tie
 
 lex-rules-requires : tie.Need-lex_rules-requires
 lex-rules-requires c κs =
-    let told = c.before.before.before in
-    loaded_held told.before.before.before.before.load.ensures told.enum_told-1.given.1
+    loaded_held c.load.ensures c.in-Accepted.is
 
 returns : tie.Need-returns-in-Accepted
 returns c =
-    let lexed = c.before.before.before.before in
-    let told = lexed.before.before.before.before in
-    answered_book told.before.before.before.before.load.ensures told.enum_told-1.given.1 _ _ _ _ _ _ lexed.lex_rules.ensures
+    answered_book c.load.ensures c.in-Accepted.is _ _ _ _ _ _ c.lex_rules.ensures
 
 returns-2 : tie.Need-returns-in-Refused
-returns-2 c = answered_refused c.before.before.before.before.before.load.ensures c.before.in-Refused.is _ _ _
+returns-2 c = answered_refused c.load.ensures c.in-Refused.is _ _ _
 
 pub lex_with_spec : {M : Type 1} → statement M
 lex_with_spec =

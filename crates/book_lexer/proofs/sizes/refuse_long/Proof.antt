@@ -4,7 +4,7 @@ use Rattle.book_lexer.proofs.sizes.refuse_long.Statement.{statement}
 use Rattle.book_lexer.proofs.sizes.refuse_long.Tie as tie
 
 returns : tie.Need-returns
-returns c = rw c.refused.ensures (answered_too_long _ _ _ _ c.before.before.before.before.before.requires)
+returns c = rw c.refused.ensures (answered_too_long _ _ _ _ c.requires)
 
 pub refuse_long_spec : {M : Type 1} → statement M
 refuse_long_spec = tie.close (tie.spec (λ c κs. search rules) returns)

@@ -6,14 +6,13 @@ use Rattle.book_lexer.proofs.sizes.rest_with.Statement.{statement}
 use Rattle.book_lexer.proofs.sizes.rest_with.Tie as tie
 
 rest-rules-requires : tie.Need-rest_rules-requires
-rest-rules-requires c κs = loaded_held c.before.before.before.before.before.load.ensures c.before.enum_told-1.given.1
+rest-rules-requires c κs = loaded_held c.load.ensures c.in-Accepted.is
 
 returns : tie.Need-returns-in-Accepted
 returns c =
-    let k = c.before.before.before.before.before.before in
-    rest_book k.load.ensures c.before.before.enum_told-1.given.1 _ _ c.rest_rules.ensures
+    rest_book c.load.ensures c.in-Accepted.is _ _ c.rest_rules.ensures
 
 pub rest_with_spec : {M : Type 1} → statement M
 rest_with_spec =
     tie.close (tie.spec (λ c κs. search rules) (λ c. search rules) rest-rules-requires (λ c. search rules) (λ c. search rules) returns
-    (λ c. search rules) (λ c. rest_refused c.before.before.before.before.load.ensures c.in-Refused.is _))
+    (λ c. search rules) (λ c. rest_refused c.load.ensures c.in-Refused.is _))

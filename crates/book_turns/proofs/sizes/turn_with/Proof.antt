@@ -7,18 +7,15 @@ use Rattle.book_turns.proofs.sizes.turn_with.Tie as tie
 
 turn-rules-requires : tie.Need-turn_rules-requires
 turn-rules-requires c κs =
-    let told = c.before.before.before in
-    loaded_held told.before.before.before.before.load.ensures told.enum_told-1.given.1
+    loaded_held c.load.ensures c.in-Accepted.is
 
 returns : tie.Need-returns-in-Accepted
 returns c =
-    let taken = c.before.before.before.before in
-    let told = taken.before.before.before.before in
-    answered_book told.before.before.before.before.load.ensures told.enum_told-1.given.1 _ _ _ _ _ _ _ _
-    taken.turn_rules.ensures
+    answered_book c.load.ensures c.in-Accepted.is _ _ _ _ _ _ _ _
+    c.turn_rules.ensures
 
 returns-2 : tie.Need-returns-in-Refused
-returns-2 c = answered_refused c.before.before.before.before.before.load.ensures c.before.in-Refused.is _ _ _ _ _
+returns-2 c = answered_refused c.load.ensures c.in-Refused.is _ _ _ _ _
 
 pub turn_with_spec : {M : Type 1} → statement M
 turn_with_spec =
