@@ -10,12 +10,11 @@ put-list-requires : tie.Need-put_list-requires
 put-list-requires c κs = passed_spaceable c.requires.0
 
 write-from-requires : tie.Need-write_from-requires
-write-from-requires c κs =
-    (
-      ((c.put_list.ensures c.requires.0.held.rules c.requires.0.held.holds).at _
-          c.in-At.is).within,
-      omega (arith, c.put_list.auto.scratch, c.requires.1.short),
-    )
+write-from-requires c κs = (
+  ((c.put_list.ensures c.requires.0.held.rules c.requires.0.held.holds).at _
+      c.in-At.is).within,
+  omega (arith, c.put_list.auto.scratch, c.requires.1.short),
+)
 
 returns : tie.Need-returns-in-At
 returns c =

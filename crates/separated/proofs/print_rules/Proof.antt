@@ -6,16 +6,15 @@ use Rattle.separated.proofs.print_rules.Statement.{statement}
 use Rattle.separated.proofs.print_rules.Tie as tie
 
 print-passed-requires : tie.Need-print_passed-requires
-print-passed-requires c κs =
-    (
-      record {
-        held = c.requires.0;
-        unrefused = λ rs h. unrefused rs c.args.separator c.args.mode
-            c.args.records.now c.args.pool.now
-            (sym c.in-Passed.is ∙ c.check_call.ensures rs h);
-      },
-      c.requires.1,
-    )
+print-passed-requires c κs = (
+  record {
+    held = c.requires.0;
+    unrefused = λ rs h. unrefused rs c.args.separator c.args.mode
+        c.args.records.now c.args.pool.now
+        (sym c.in-Passed.is ∙ c.check_call.ensures rs h);
+  },
+  c.requires.1,
+)
 
 returns : tie.Need-returns-in-Passed
 returns c =

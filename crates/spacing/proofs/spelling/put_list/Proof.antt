@@ -19,12 +19,11 @@ abbrev decreases-loop : tie.decreases-loop-k
 decreases-loop table separator mode records pool scratch₀ count at₀ k₀ scratch at k = k
 
 loop-holds : tie.Need-loop-k-init invariant-loop decreases-loop
-loop-holds c =
-    (
-      refl,
-      λ rs h. putting_start rs c.args.separator c.args.mode c.args.records.now c.args.pool.now _
-          _ refl,
-    )
+loop-holds c = (
+  refl,
+  λ rs h. putting_start rs c.args.separator c.args.mode c.args.records.now c.args.pool.now _
+      _ refl,
+)
 
 sub-k : tie.Need-overflow_sub-k invariant-loop decreases-loop
 sub-k c = omega (arith, c.loop-k-test.true)
@@ -34,36 +33,34 @@ read-record-requires c κs =
     omega (arith, c.loop-k-test.true, (c.loop-k.invariant.1 c.requires.held.rules c.requires.held.holds).few)
 
 put-token-requires : tie.Need-put_token-requires invariant-loop decreases-loop
-put-token-requires c κs =
+put-token-requires c κs = (
+  c.requires.held,
+  (
+    spaced_inside c.requires (omega
+        (arith, (c.loop-k.invariant.1 c.requires.held.rules c.requires.held.holds).few, c.loop-k-test.true))
+        c.read_record-token.ensures,
     (
-      c.requires.held,
-      (
-        spaced_inside c.requires (omega
-            (arith, (c.loop-k.invariant.1 c.requires.held.rules c.requires.held.holds).few, c.loop-k-test.true))
-            c.read_record-token.ensures,
-        (
-          c.requires.separator,
-          (c.loop-k.invariant.1 c.requires.held.rules c.requires.held.holds).within,
-        ),
-      ),
-    )
+      c.requires.separator,
+      (c.loop-k.invariant.1 c.requires.held.rules c.requires.held.holds).within,
+    ),
+  ),
+)
 
 loop-less : tie.Need-loop-k-smaller invariant-loop decreases-loop
 loop-less c = omega (arith, c.loop-k-test.true)
 
 loop-again : tie.Need-loop-k-preserved invariant-loop decreases-loop
-loop-again c =
-    (
-      c.put_token.auto.scratch
-          ∙ c.loop-k.invariant.0,
-      λ rs h. putting_next rs c.args.separator c.args.mode c.args.records.now
-          c.args.pool.now (c.loop-k.invariant.1 rs h) c.loop-k-test.true c.read_record-token.ensures
-          (c.put_token.ensures rs h (spaced_alone c.requires
-          (omega (arith, (c.loop-k.invariant.1 rs h).few, c.loop-k-test.true)) c.read_record-token.ensures rs h)
-          (from rs c.args.separator c.args.mode c.args.records.now c.args.pool.now c.loop-k.k)
-          (c.loop-k.invariant.1 rs h).laid (from_last rs c.args.separator c.args.mode c.args.records.now
-          c.args.pool.now c.loop-k.k (c.loop-k.invariant.1 rs h).few)) c.in-At.is,
-    )
+loop-again c = (
+  c.put_token.auto.scratch
+      ∙ c.loop-k.invariant.0,
+  λ rs h. putting_next rs c.args.separator c.args.mode c.args.records.now
+      c.args.pool.now (c.loop-k.invariant.1 rs h) c.loop-k-test.true c.read_record-token.ensures
+      (c.put_token.ensures rs h (spaced_alone c.requires
+      (omega (arith, (c.loop-k.invariant.1 rs h).few, c.loop-k-test.true)) c.read_record-token.ensures rs h)
+      (from rs c.args.separator c.args.mode c.args.records.now c.args.pool.now c.loop-k.k)
+      (c.loop-k.invariant.1 rs h).laid (from_last rs c.args.separator c.args.mode c.args.records.now
+      c.args.pool.now c.loop-k.k (c.loop-k.invariant.1 rs h).few)) c.in-At.is,
+)
 
 same_length : tie.Need-shape_of-scratch-in-Full invariant-loop decreases-loop
 same_length c = c.put_token.auto.scratch
