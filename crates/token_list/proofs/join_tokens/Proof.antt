@@ -20,12 +20,11 @@ read-record-requires : tie.Need-read_record-token-requires invariant-loop decrea
 read-record-requires c κs = omega (arith, c.loop-k-test.true)
 
 copy-requires : tie.Need-copy-requires invariant-loop decreases-loop
-copy-requires c κs =
-    (
-      joining_pool c.loop-k.invariant c.loop-k-test.true c.read_record-token.ensures,
-      joining_room c.loop-k.invariant
-          c.loop-k-test.true c.read_record-token.ensures,
-    )
+copy-requires c κs = (
+  joining_pool c.loop-k.invariant c.loop-k-test.true c.read_record-token.ensures,
+  joining_room c.loop-k.invariant
+      c.loop-k-test.true c.read_record-token.ensures,
+)
 
 add_at : tie.Need-overflow_add-at invariant-loop decreases-loop
 add_at c =
