@@ -386,7 +386,7 @@ module _ {tag kind : ℕ} {text bytes : List ℕ} (c : Compiles tag kind text by
       c.two_bytes (right_kind tag kind made.rule))
 
 pub compiled_is_spelled : CompiledIsSpelled
-compiled_is_spelled tag kind text bytes c = ((made c).expression, right-spells text (made c).reads)
+compiled_is_spelled tag kind text _ c = ((made c).expression, right-spells text (made c).reads)
 
 pub compiled_is_read : CompiledIsRead
 compiled_is_read tag kind text bytes c e s =
@@ -432,7 +432,7 @@ only-rule {tag} {kind} {text} {bytes} c e s r h =
     subst (RuleOf tag kind e) y k.2
 
 pub any_spelling : AnySpelling
-any_spelling tag kind tag₁ kind₁ text bytes text₁ bytes₁ c d e f s t same r q h g w a =
+any_spelling tag kind tag₁ kind₁ text _ text₁ _ c d e f s t same r q h g w a =
     let x = only-rule c e s r h in
     let y = only-rule d f t q g in
     (λ m. (y.same w a).1 ((same w).0 ((x.same w a).0 m)), λ m. (x.same w a).1 ((same w).1 ((y.same w a).0 m)))

@@ -14,7 +14,7 @@ use Rattle.automaton.specs.Choice.{if}
 use Rattle.automaton.specs.Rule.{Rule}
 use Rattle.automaton.specs.Layers.{Holds}
 use Rattle.book.specs.Limits.{max_bytes, max_text}
-use Rattle.reader.specs.Reading.{Reading, accepted, refused, read_book, answer}
+use Rattle.reader.specs.Reading.{Reading, accepted, refused, read_book}
 use Rattle.reader.specs.Layers.{Loaded}
 use Rattle.reader.proofs.Loading.{read_too_long}
 use Rattle.reader.proofs.Loaded.{loaded_rules, loaded_refusal}

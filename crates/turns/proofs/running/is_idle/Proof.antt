@@ -6,7 +6,7 @@ use native.Mathlib.Omega.{arith}
 use lib.ListN.{length}
 use borrow.Author.Count.{below_more}
 use borrow.Author.Rules.{rules}
-use borrow.Author.Tests.{eqb-true, eqb-false, not-true, not-false}
+use borrow.Author.Tests.{eqb-true, eqb-false}
 use Rattle.automaton.specs.Rule.{Rule, walk}
 use Rattle.automaton.specs.Layers.{Table, Holds, rule_at}
 use Rattle.turns.proofs.Reaching.{all_fail_lem, one_goes}
