@@ -3,7 +3,7 @@
 . "$(dirname "$0")/common"
 needs build/libzagvulem.a build/cutlist
 top=$tmp/top
-mkdir -p "$top/bin" "$top/crates" "$top/built"
+mkdir -p "$top/bin" "$top/crates/zagvulem_c" "$top/crates/cutlist" "$top/built"
 cp build/libzagvulem.a build/cutlist "$top/built/"
 cp -R Makefile crates.txt zagvulem.pc.in tools include examples docs bench "$top/"
 cp tests/stand-in-rt "$top/bin/rt"

@@ -3,16 +3,21 @@
 # changed. All that the command prints goes to the file LOG. Where it fails, what it said of each failure follows, cut to 100
 # lines, and the log's path. The exit status is the command's.
 #
-#   tools/quiet.sh LOG COMMAND...
+#   tools/quiet.sh LOG [-C FOLDER] COMMAND...       -C: the command runs in FOLDER
 log=$1
 shift
+folder=.
+if [ "$1" = -C ]; then
+    folder=$2
+    shift 2
+fi
 if ! command -v "$1" >/dev/null; then
     echo "$1 is not on the path: building needs the Rattle kit, as README.md says" >&2
     exit 127
 fi
 mkdir -p "$(dirname "$log")" || exit 2
 {
-    "$@" 2>&1
+    (cd "$folder" && "$@") 2>&1
     echo "$?" >"$log.status"
 } | while IFS= read -r line; do
     printf '%s\n' "$line" >&3

@@ -85,6 +85,7 @@ fn lex_8k(book: &[u8], text: &[u8], records: &mut [u8], masks: &mut [u8]) -> Lex
     lex_with(book, &mut table, text, records, masks)
 }
 
+#[inline(never)]
 fn lex_16k(book: &[u8], text: &[u8], records: &mut [u8], masks: &mut [u8]) -> LexAnswer
     requires { length book.now ≤ 16384 }
     ensures { LexAnswered (masked_outcome book.now text.now records.old masks.old) result
@@ -94,6 +95,7 @@ fn lex_16k(book: &[u8], text: &[u8], records: &mut [u8], masks: &mut [u8]) -> Le
     lex_with(book, &mut table, text, records, masks)
 }
 
+#[inline(never)]
 fn lex_32k(book: &[u8], text: &[u8], records: &mut [u8], masks: &mut [u8]) -> LexAnswer
     requires { length book.now ≤ 32768 }
     ensures { LexAnswered (masked_outcome book.now text.now records.old masks.old) result
@@ -103,6 +105,7 @@ fn lex_32k(book: &[u8], text: &[u8], records: &mut [u8], masks: &mut [u8]) -> Le
     lex_with(book, &mut table, text, records, masks)
 }
 
+#[inline(never)]
 fn lex_64k(book: &[u8], text: &[u8], records: &mut [u8], masks: &mut [u8]) -> LexAnswer
     requires { length book.now ≤ 65536 }
     ensures { LexAnswered (masked_outcome book.now text.now records.old masks.old) result

@@ -137,6 +137,7 @@ fn print_8k(
     print_with(book, &mut table, records, pool, scratch, out)
 }
 
+#[inline(never)]
 fn print_16k(
     book: &[u8],
     records: &[u8],
@@ -153,6 +154,7 @@ fn print_16k(
     print_with(book, &mut table, records, pool, scratch, out)
 }
 
+#[inline(never)]
 fn print_32k(
     book: &[u8],
     records: &[u8],
@@ -169,6 +171,7 @@ fn print_32k(
     print_with(book, &mut table, records, pool, scratch, out)
 }
 
+#[inline(never)]
 fn print_64k(
     book: &[u8],
     records: &[u8],

@@ -48,6 +48,7 @@ pub fn compile(tag: u16, kind: u32, text: &[u8], out: &mut [u8]) -> PrintAnswer
     }
 }
 
+#[inline(never)]
 fn compile_part(
     tag: u16,
     kind: u8,
