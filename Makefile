@@ -7,7 +7,7 @@
 #   make cutlist       build/cutlist alone: cuts text.bin by book.bin of the folder that it is run in
 #   make harness       compares the library with a second implementation (CASES=n SEED=n)
 #   make test          tries what README.md, the header, the documents and the examples say
-#   make check         the gate, .ci/run: proves every crate from nothing, then all of the above
+#   make check         the gate, .ci/run: proves every crate, then all of the above
 #   make bench         measures the library beside flex and re2c, which it needs (INSTALL=1 installs them by apt-get,
 #                      NO_FLEX=1 and NO_RE2C=1 leave them out; OLD=FILE measures an earlier library too, one whose cuts
 #                      have no masks; with OLD_MASKS=1 one whose cuts have them)
@@ -36,7 +36,7 @@ NO_FLEX ?=
 NO_RE2C ?=
 
 WARNINGS = -std=c99 -Wall -Wextra -Werror -pedantic
-RATTLE := crates.txt $(shell find crates -name '*.rt' -o -name '*.antt')
+RATTLE := crates.txt $(shell find crates -name out -prune -o \( -name '*.rt' -o -name '*.antt' \) -print)
 # two runs of rt would share out/ of each crate: the lock has one wait for the other
 RT = flock build/rt.lock tools/quiet.sh
 

@@ -1,6 +1,6 @@
 #!/bin/sh
-# Runs a command of rt with little output: the line that rt has for each crate, edit and program, but for crates that have not
-# changed. All that the command prints goes to the file LOG. Where it fails, what it said of each failure follows, cut to 100
+# Runs a command of rt with little output: the line that rt has for each crate, edit and program, but for crates that are kept
+# from an earlier run. All that the command prints goes to the file LOG. Where it fails, what it said of each failure follows, cut to 100
 # lines, and the log's path. The exit status is the command's.
 #
 #   tools/quiet.sh LOG [-C FOLDER] COMMAND...       -C: the command runs in FOLDER
@@ -22,7 +22,7 @@ mkdir -p "$(dirname "$log")" || exit 2
 } | while IFS= read -r line; do
     printf '%s\n' "$line" >&3
     case $line in
-    *' proved (unchanged since '*) ;;
+    'rt: '*' is kept: '* | 'rt: chose '* | *' begins with what '*) ;;
     'rt: '*) printf '%s\n' "$line" ;;
     esac
 done 3>"$log"
@@ -39,9 +39,9 @@ awk '
         for (i = 0; i < held; i++) say(block[i])
     }
     /^rt: / {
-        if (/NOT PROVED|NOT REFUSED|BAD EDIT|FAILED|is not what|ended with status|was not run|in no crate/) {
+        if (/NOT PROVED|NOT REFUSED|NOT TRIED|BAD EDIT|FAILED|is not what|ended with status|was not run/) {
             failures()
-            if (!/^rt: FAILED:/ && !/: its dependency /) say($0)
+            if (!/^rt: FAILED:/ && !/NOT PROVED: its library /) say($0)
         }
         held = 0
         following = /BAD EDIT/ ? 5 : 0
