@@ -1,6 +1,6 @@
 // Printing a list of plain tokens with separators between them, the paper's spacing writing, by the rules that a lent table holds. Tokens
 // and separators are put together in a scratch, so that the output stands as it was where the list is refused. `checks` has what is
-// refused before that. Printing by a book's bytes is in crate `book_printer`.
+// refused before that. Printing by a book's bytes is in crate `book_separated`.
 #![tactic(auto)]
 
 pub mod checks;
