@@ -37,7 +37,7 @@ returns c =
     let k₁ = k.before.before.before in
     along_hit k₁.loop-h.invariant (omega arith)
     (λ t us l. share_hit _ _ us l (omega (arith, c.before.before.if-first-high.true, k.high.ensures))
-    (omega (arith, c.if-low-last.true, c.before.low.ensures)))
+    (omega (arith, c.before.low.ensures)))
 
 loop-less : tie.Need-loop-h-smaller invariant-loop decreases-loop
 loop-less c = rw c.next-h.ensures (inside c.before.before.before.before).link.back
@@ -48,7 +48,7 @@ loop-again c =
     let k₁ = k.before.before in
     let m : (high_of (edge_at k₁.args.table.now k.loop-h.h) < k₁.args.low) ⊎ (k₁.args.high < low_of (edge_at k₁.args.table.now k.loop-h.h)) =
     elim c.before.if-first-high.branch [
-      | then-first-high+else-low-last w ↦ inr (omega (arith, w.if-low-last.false, w.low.ensures))
+      | then-first-high+else-low-last w ↦ inr (omega (arith, w.low.ensures))
       | else-first-high w ↦ inl (omega (arith, w.if-first-high.false, c.before.before.high.ensures))
     ] in
     along_next k.loop-h.invariant (omega arith) (λ t us l. share_miss _ _ us l m) c.next-h.ensures
