@@ -1,5 +1,5 @@
 use mathlib.Core.Path.{refl}
-use mathlib.Core.Logic.{◌⊎◌, inl, inr}
+use mathlib.Core.Logic.{◌⊎◌}
 use Prim.Native.Nat.{◌<◌}
 use native.Mathlib.Omega.{arith}
 use borrow.Author.Rules.{rules}
@@ -9,7 +9,6 @@ use Rattle.automaton.proofs.Chains.{At, Along, along_start, along_at, along_next
 use Rattle.table_builder.specs.Layers.{shares}
 use Rattle.table_builder.proofs.Spanning.{share_hit, share_miss}
 use Rattle.table_builder.proofs.shares_byte.Statement.{statement}
-use Rattle.table_builder.proofs.shares_byte.Lts.{then-first-high+else-low-last, else-first-high}
 use Rattle.table_builder.proofs.shares_byte.Tie as tie
 
 abbrev invariant-loop : tie.invariant-loop-h
@@ -37,7 +36,7 @@ returns c =
     let k₁ = k.before.before.before in
     along_hit k₁.loop-h.invariant (omega arith)
     (λ t us l. share_hit _ _ us l (omega (arith, c.before.before.if-first-high.true, k.high.ensures))
-    (omega (arith, c.if-low-last.true, c.before.low.ensures)))
+    (omega (arith, c.before.low.ensures)))
 
 loop-less : tie.Need-loop-h-smaller invariant-loop decreases-loop
 loop-less c = rw c.next-h.ensures (inside c.before.before.before.before).link.back
@@ -47,10 +46,7 @@ loop-again c =
     let k = c.before.before.before.before.before in
     let k₁ = k.before.before in
     let m : (high_of (edge_at k₁.args.table.now k.loop-h.h) < k₁.args.low) ⊎ (k₁.args.high < low_of (edge_at k₁.args.table.now k.loop-h.h)) =
-    elim c.before.if-first-high.branch [
-      | then-first-high+else-low-last w ↦ inr (omega (arith, w.if-low-last.false, w.low.ensures))
-      | else-first-high w ↦ inl (omega (arith, w.if-first-high.false, c.before.before.high.ensures))
-    ] in
+    (grind arith) in
     along_next k.loop-h.invariant (omega arith) (λ t us l. share_miss _ _ us l m) c.next-h.ensures
 
 returns-2 : tie.Need-returns invariant-loop decreases-loop

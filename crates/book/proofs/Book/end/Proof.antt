@@ -1,16 +1,17 @@
+use native.Mathlib.Omega.{arith}
 use borrow.Author.Rules.{rules}
 use Rattle.book.proofs.Steps.{end_empty, end_early, end-last}
 use Rattle.book.proofs.Book.end.Statement.{statement}
 use Rattle.book.proofs.Book.end.Tie as tie
 
 returns : tie.Need-returns-then-self-eq0
-returns c = λ tb rows d h i. rw c.refused.ensures (end_empty h _ _ _ c.before.if-self-eq0.true)
+returns c = λ tb rows d h i. rw c.refused.ensures (end_empty h _ _ _ (omega arith))
 
 returns-2 : tie.Need-returns-then-at-len
-returns-2 c = λ tb rows d h i. rw c.refused-then-at-len.ensures (end_early h _ _ _ c.before.before.if-self-eq0.false c.before.if-at-len.true)
+returns-2 c = λ tb rows d h i. rw c.refused-then-at-len.ensures (end_early h _ _ _ (omega arith) c.before.if-at-len.true)
 
 returns-3 : tie.Need-returns
-returns-3 c = λ tb rows d h i. end-last h _ _ _ c.before.if-self-eq0.false c.if-at-len.false
+returns-3 c = λ tb rows d h i. end-last h _ _ _ (omega arith) c.if-at-len.false
 
 pub end_spec : {M : Type 1} → statement M
 end_spec =

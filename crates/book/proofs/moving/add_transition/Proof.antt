@@ -8,12 +8,12 @@ use Rattle.book.proofs.moving.add_transition.Statement.{statement}
 use Rattle.book.proofs.moving.add_transition.Tie as tie
 
 returns : tie.Need-returns-then-end-book-ge-TRANSITIONS
-returns c = λ d h i. rw c.refused.ensures (move_too_many h i _ _ _ _ _ _ c.before.if-end-book-ge-TRANSITIONS.true)
+returns c = λ d h i. rw c.refused.ensures (move_too_many h i _ _ _ _ _ _ (omega arith))
 
 returns-2 : tie.Need-returns-then-is_out_of_range
 returns-2 c = λ d h i.
     let k = c.before.before in
-    rw c.refused-then-is_out_of_range.ensures (move_outside h i _ _ _ _ _ _ k.before.if-end-book-ge-TRANSITIONS.false k.is_out_of_range.ensures c.before.if-is_out_of_range.true)
+    rw c.refused-then-is_out_of_range.ensures (move_outside h i _ _ _ _ _ _ (omega arith) k.is_out_of_range.ensures c.before.if-is_out_of_range.true)
 
 from_below : (c : tie.Else-is_out_of_range) → c.args.step.from < state_count
 from_below c =
@@ -39,7 +39,7 @@ put-edge-requires c κs = (
 returns-4 : tie.Need-returns
 returns-4 c = λ d h i.
     let e = c.stamp-stamp.ensures in
-    move_added h i _ _ _ _ _ _ c.if-end-book-ge-TRANSITIONS.false c.is_out_of_range.ensures c.if-is_out_of_range.false
+    move_added h i _ _ _ _ _ _ (omega arith) c.is_out_of_range.ensures c.if-is_out_of_range.false
     (omega arith) (omega (arith, c.if-rows-from.false))
     c.requires.1.0 c.requires.1.1 (omega arith) (rw (c.head-head.ensures, e) at c.overlaps_too.ensures)
     (rw (c.head-head.ensures, e) at c.put_edge.ensures) (rw e at c.link_state.ensures)

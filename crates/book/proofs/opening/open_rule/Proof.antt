@@ -6,23 +6,23 @@ use Rattle.book.proofs.opening.open_rule.Statement.{statement}
 use Rattle.book.proofs.opening.open_rule.Tie as tie
 
 returns : tie.Need-returns-then-rules-ge-RULES
-returns c = λ rows len d h i. rw c.refused.ensures (rule_too_many h _ _ _ len _ c.before.if-rules-ge-RULES.true)
+returns c = λ rows len d h i. rw c.refused.ensures (rule_too_many h _ _ _ len _ (omega arith))
 
 returns-2 : tie.Need-returns-then-tag-eq0
 returns-2 c = λ rows len d h i.
-    rw c.refused-then-tag-eq0.ensures (rule_tag_zero h _ _ _ len _ c.before.before.if-rules-ge-RULES.false c.before.if-tag-eq0.true)
+    rw c.refused-then-tag-eq0.ensures (rule_tag_zero h _ _ _ len _ (omega arith) c.before.if-tag-eq0.true)
 
 returns-3 : tie.Need-returns-then-kind-gt1
 returns-3 c = λ rows len d h i.
     let k = c.before.before in
-    rw c.refused-then-kind-gt1.ensures (rule_kind h _ _ _ len _ k.before.if-rules-ge-RULES.false k.if-tag-eq0.false c.before.if-kind-gt1.true)
+    rw c.refused-then-kind-gt1.ensures (rule_kind h _ _ _ len _ (omega arith) k.if-tag-eq0.false (omega arith))
 
 returns-4 : tie.Need-returns-then-is_taken
 returns-4 c = λ rows len d h i.
     let k = c.before.before in
     let seen = k.is_taken.ensures d.rules h.stored.holds in
     rw c.refused-then-is_taken.ensures
-    (rule_taken h _ _ _ len _ k.before.before.before.if-rules-ge-RULES.false k.before.before.if-tag-eq0.false k.before.if-kind-gt1.false seen
+    (rule_taken h _ _ _ len _ (omega arith) k.before.before.if-tag-eq0.false (omega arith) seen
     c.before.if-is_taken.true)
 
 returns-5 : tie.Need-returns
@@ -31,7 +31,7 @@ returns-5 c = λ rows len d h i.
     let k = c.before.before in
     let seen = k.is_taken.ensures d.rules h.stored.holds in
     rw c.between-next.ensures
-    (rule-opened h _ _ _ len _ k.before.before.before.if-rules-ge-RULES.false k.before.before.if-tag-eq0.false k.before.if-kind-gt1.false seen
+    (rule-opened h _ _ _ len _ (omega arith) k.before.before.if-tag-eq0.false (omega arith) seen
     c.before.if-is_taken.false i k.before.before.before.before.before.ranges.tag.fits (omega arith) (rw h.same))
 
 pub open_rule_spec : {M : Type 1} → statement M
