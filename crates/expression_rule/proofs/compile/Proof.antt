@@ -2,6 +2,7 @@
 use mathlib.Core.Path.{◌≡◌, sym, ◌∙◌}
 use mathlib.Core.Bool.{false, ◌||◌}
 use mathlib.Core.List.{List}
+use native.Mathlib.Omega.{arith}
 use Prim.Native.Nat.{ℕ, ◌≤◌}
 use lib.Dec.{eqb, ltb}
 use lib.ListN.{length}
@@ -29,19 +30,19 @@ returns-2 c =
 
 returns-3 : tie.Need-returns-then-text-gt-BYTES
 returns-3 c =
-    answered (text_long _ _ _ _ (fine _ _ c.if-tag-eq0.false c.if-kind-gt1.false) (lt-ltb 512 _ c.before.if-text-gt-BYTES.true)) c.refused-then-text-gt-BYTES.ensures
+    answered (text_long _ _ _ _ (fine _ _ c.if-tag-eq0.false (omega arith)) (lt-ltb 512 _ c.before.if-text-gt-BYTES.true)) c.refused-then-text-gt-BYTES.ensures
 
 returns-4 : tie.Need-returns-in-Right
 returns-4 c =
     let u = understood _ (sym c.in-Right.is ∙ c.read_expression.ensures.answer) in
     let h = holds (c.read_expression.ensures.noted u.expression u.reads) c.args.text.now u.is in
-    passed _ _ _ _ (fine _ _ c.if-tag-eq0.false c.if-kind-gt1.false) (short _ c.if-text-gt-BYTES.false) u.reads
+    passed _ _ _ _ (fine _ _ c.if-tag-eq0.false (omega arith)) (short _ c.if-text-gt-BYTES.false) u.reads
     (c.compile_part.ensures u.expression h)
 
 returns-5 : tie.Need-returns-in-Wrong
 returns-5 c =
     let w = mistaken _ (sym c.in-Wrong.is ∙ c.read_expression.ensures.answer) in
-    answered (text_wrong _ _ _ _ (fine _ _ c.if-tag-eq0.false c.if-kind-gt1.false) (short _ c.if-text-gt-BYTES.false) w)
+    answered (text_wrong _ _ _ _ (fine _ _ c.if-tag-eq0.false (omega arith)) (short _ c.if-text-gt-BYTES.false) w)
     c.refused-in-Wrong.ensures
 
 pub compile_spec : {M : Type 1} → statement M

@@ -10,23 +10,23 @@ use Rattle.rewriting.proofs.rewrite_accepted.Tie as tie
 returns : tie.Need-returns-then-total-gt-BYTES
 returns c =
     up_to_long max_bytes 1 (rewritten c.args.book.now) c.args.out.now
-    (omega (arith, c.if-total-gt-BYTES.true, c.measure-total.ensures)) c.refused.ensures
+    (omega (arith, c.measure-total.ensures)) assumption
 
 returns-2 : tie.Need-returns-then-out-total
 returns-2 c =
     let e = c.measure-total.ensures in
-    up_to_fitting max_bytes 1 (rewritten c.args.book.now) c.args.out.now (omega (arith, c.if-total-gt-BYTES.false, e))
-    (written_short (rewritten c.args.book.now) c.args.out.now e c.if-out-total.true c.refused-then-out-total.ensures)
+    up_to_fitting max_bytes 1 (rewritten c.args.book.now) c.args.out.now (omega (arith, e))
+    (written_short (rewritten c.args.book.now) c.args.out.now e (omega arith) assumption)
 
 write-commands-requires : tie.Need-write_commands-requires
 write-commands-requires c κs =
-    record { readable = c.requires; room = omega (arith, c.if-out-total.false, c.measure-total.ensures) }
+    record { readable = c.requires; room = omega (arith, c.measure-total.ensures) }
 
 returns-3 : tie.Need-returns
 returns-3 c =
     let e = c.measure-total.ensures in
-    up_to_fitting max_bytes 1 (rewritten c.args.book.now) c.args.out.now (omega (arith, c.if-total-gt-BYTES.false, e))
-    (written-whole (rewritten c.args.book.now) c.args.out.now e c.if-out-total.false (rw (← e) at c.write_commands.ensures))
+    up_to_fitting max_bytes 1 (rewritten c.args.book.now) c.args.out.now (omega (arith, e))
+    (written-whole (rewritten c.args.book.now) c.args.out.now e (omega arith) (rw (← e) at c.write_commands.ensures))
 
 pub rewrite_accepted_spec : {M : Type 1} → statement M
 rewrite_accepted_spec =
