@@ -1,6 +1,7 @@
 -- `is_due` answers `follows`, by what is chosen at the token. Assumes nothing.
 use mathlib.Core.Path.{sym, ◌∙◌}
 use native.Mathlib.Nat.{le_refl}
+use native.Mathlib.Omega.{arith}
 use borrow.Author.Rules.{rules}
 use Rattle.longest_match.proofs.Parts.{part_end}
 use Rattle.longest_match.proofs.Held.{held_empty}
@@ -21,12 +22,12 @@ choose-requires c κs =
 returns-3 : tie.Need-returns-then-chosen-len
 returns-3 c = λ rs h t us a. due_more _ a c.if-last.false
     (λ z. c.if-meaning_of-eq1.false (c.meaning_of.ensures ∙ z)) (held_empty h)
-    (c.choose-chosen.ensures.0 rs _ h (part_end _ _)) c.if-chosen-len.true
+    (c.choose-chosen.ensures.0 rs _ h (part_end _ _)) (omega arith)
 
 returns-4 : tie.Need-returns
 returns-4 c = λ rs h t us a. due_no _ a c.if-last.false
     (λ z. c.if-meaning_of-eq1.false (c.meaning_of.ensures ∙ z)) (held_empty h)
-    (c.choose-chosen.ensures.0 rs _ h (part_end _ _)) c.if-chosen-len.false
+    (c.choose-chosen.ensures.0 rs _ h (part_end _ _)) (omega arith)
 
 pub is_due_spec : {M : Type 1} → statement M
 is_due_spec = tie.close (tie.spec returns (λ c κs. search rules) returns-2 choose-requires returns-3 returns-4)

@@ -45,7 +45,7 @@ returns : tie.Need-returns-then-count-gt254 invariant-loop decreases-loop
 returns c =
     exploring_many c.loop-k.invariant c.loop-k-test.true
     c.ahead_of-ahead.ensures
-    c.fill_row-count.ensures (omega (arith, c.if-count-gt254.true))
+    c.fill_row-count.ensures (omega arith)
 
 loop-less : tie.Need-loop-k-smaller invariant-loop decreases-loop
 loop-less c =
@@ -55,7 +55,7 @@ loop-again : tie.Need-loop-k-preserved invariant-loop decreases-loop
 loop-again c =
     exploring_next c.loop-k.invariant c.loop-k-test.true
     c.ahead_of-ahead.ensures
-    c.fill_row-count.ensures (omega (arith, c.if-count-gt254.false))
+    c.fill_row-count.ensures (omega arith)
 
 same-length-3 : tie.Need-shape_of-sets invariant-loop decreases-loop
 same-length-3 c = c.loop-k.invariant.size ∙ sym c.requires.1

@@ -122,14 +122,6 @@ loop-again c =
     let l = c.before.before.before in
     (omega (arith, inside l), omega (arith, greater l, c.if-len-n.true), longer l c.if-len-n.true)
 
-loop-less-2 : tie.Need-loop-k-smaller-then-len-n-2 invariant-loop decreases-loop
-loop-less-2 c = omega arith
-
-loop-again-2 : tie.Need-loop-k-preserved-then-len-n-2 invariant-loop decreases-loop
-loop-again-2 c =
-    let l = c.before.before.before.before in
-    (omega (arith, inside l), omega (arith, greater l, c.if-len-n-2.true), as_long l c.if-len-n-2.true c.before.before.if-n-ne0.true)
-
 loop-less-3 : tie.Need-loop-k-smaller-else-len-n-2 invariant-loop decreases-loop
 loop-less-3 c = omega arith
 
@@ -155,4 +147,8 @@ returns c =
 pub longest_of_spec : {M : Type 1} → statement M
 longest_of_spec =
     tie.close (tie.spec invariant-loop decreases-loop loop-holds (λ c. search rules) mul-mask (λ c. search rules) (λ c. search rules) loop-less
-    loop-again add-mask loop-less-2 loop-again-2 loop-less-3 loop-again-3 loop-less-4 loop-again-4 returns)
+    loop-again add-mask (λ c. omega arith)
+    (λ c.
+    let l = c.before.before.before.before in
+    (omega (arith, inside l), omega (arith, greater l), as_long l (omega arith) c.before.before.if-n-ne0.true))
+    loop-less-3 loop-again-3 loop-less-4 loop-again-4 returns)

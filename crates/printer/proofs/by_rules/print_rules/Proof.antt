@@ -5,9 +5,6 @@ use borrow.Author.Rules.{rules}
 use Rattle.printer.proofs.by_rules.print_rules.Statement.{statement}
 use Rattle.printer.proofs.by_rules.print_rules.Tie as tie
 
-returns : tie.Need-returns-then-records-gt-TOKENS
-returns c = λ rs h. answered_many rs _ _ _ c.if-records-gt-TOKENS.true c.refused.ensures
-
 write-requires : tie.Need-write-requires
 write-requires c κs =
     let start = c.requires in
@@ -21,15 +18,17 @@ find-refusal-requires c κs =
 
 returns-2 : tie.Need-returns-in-Clean
 returns-2 c = λ rs h. clean_written rs _ _ _
-    c.if-records-gt-TOKENS.false
+    (omega arith)
     ((c.rehearse.ensures rs h).clean _
     c.in-Clean.is) c.write.ensures
 
 returns-3 : tie.Need-returns-in-Wrong
-returns-3 c = λ rs h. answered_troubled rs _ _ _ c.if-records-gt-TOKENS.false
+returns-3 c = λ rs h. answered_troubled rs _ _ _ (omega arith)
     (c.find_refusal.ensures rs h)
 
 pub print_rules_spec : {M : Type 1} → statement M
 print_rules_spec =
-    tie.close (tie.spec (λ c κs. search rules) returns (λ c κs. search rules) (λ c. search rules) write-requires (λ c. search rules)
+    tie.close (tie.spec (λ c κs. search rules)
+    (λ c rs h. answered_many rs _ _ _ (omega arith) c.refused.ensures)
+    (λ c κs. search rules) (λ c. search rules) write-requires (λ c. search rules)
     find-refusal-requires (λ c. search rules) (λ c. search rules) returns-2 (λ c. search rules) returns-3)

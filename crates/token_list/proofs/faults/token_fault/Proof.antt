@@ -36,8 +36,8 @@ token_fault_spec =
     (λ c rs h. checked_other h _ _ (omega (arith, c.if-pool-place.false))
     (c.find_tag-rule.ensures rs h) (c.count_of-rules.ensures rs h) c.if-rule-rules.false
     (c.choose-chosen.ensures.0 rs _ h (part_bytes _ _ _)) c.if-chosen-eq0.false
-    c.if-chosen-len.false c.if-chosen-rule.true)
+    c.if-chosen-len.false (omega arith))
     (λ c rs h. checked_same h _ _ (omega (arith, c.if-pool-place.false))
     (c.find_tag-rule.ensures rs h) (c.count_of-rules.ensures rs h) c.if-rule-rules.false
     (c.choose-chosen.ensures.0 rs _ h (part_bytes _ _ _)) c.if-chosen-eq0.false
-    c.if-chosen-len.false c.if-chosen-rule.false))
+    c.if-chosen-len.false (omega arith)))

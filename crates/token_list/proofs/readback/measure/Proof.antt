@@ -23,11 +23,6 @@ returns : tie.Need-returns-then-pool-token invariant-loop decreases-loop
 returns c = spanning_outside c.loop-k.invariant c.loop-k-test.true
     c.read_record-token.ensures c.if-pool-token.true
 
-returns-2 : tie.Need-returns-then-total-gt-TEXT invariant-loop decreases-loop
-returns-2 c = spanning_long c.loop-k.invariant
-    c.loop-k-test.true c.read_record-token.ensures
-    c.if-pool-token.false c.if-total-gt-TEXT.true
-
 add-k : tie.Need-overflow_add-k invariant-loop decreases-loop
 add-k c = omega (arith, c.loop-k-test.true)
 
@@ -37,7 +32,7 @@ loop-less c = omega (arith, c.loop-k-test.true)
 loop-again : tie.Need-loop-k-preserved invariant-loop decreases-loop
 loop-again c = spanning_next c.loop-k.invariant
     c.loop-k-test.true c.read_record-token.ensures
-    c.if-pool-token.false c.if-total-gt-TEXT.false
+    c.if-pool-token.false (omega arith)
 
 returns-3 : tie.Need-returns invariant-loop decreases-loop
 returns-3 c = spanning_end c.loop-k.invariant c.loop-k-test.false
@@ -45,4 +40,7 @@ returns-3 c = spanning_end c.loop-k.invariant c.loop-k-test.false
 pub measure_spec : {M : Type 1} → statement M
 measure_spec =
     tie.close (tie.spec invariant-loop decreases-loop loop-holds read-record-requires (λ c. search rules) (λ c. search rules) (λ c. search rules) returns
-    (λ c. search rules) returns-2 add-k loop-less loop-again returns-3)
+    (λ c. search rules)
+    (λ c. spanning_long c.loop-k.invariant c.loop-k-test.true
+    c.read_record-token.ensures c.if-pool-token.false (omega arith))
+    add-k loop-less loop-again returns-3)
