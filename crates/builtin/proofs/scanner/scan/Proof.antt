@@ -22,8 +22,7 @@ accepted : (c : tie.Else-s-eq-DEAD invariant-loop decreases-loop)
     c.before.step-s.result (c.before.before.before.before.loop-i.i + 1)
     (c.before.before.before.before.loop-i.i + 1)
 accepted c h = walked_accept c.before.before.before.before.loop-i.invariant c.before.before.before.loop-i-test.true
-    (byte c.before.before c.before.before.before.before.loop-i.i) c.before.step-s.ensures
-    h
+    (byte c.before.before c.before.before.before.before.loop-i.i) c.before.step-s.ensures h
 
 falls : (n i j : ℕ) → i < n → i + 1 ≤ j → n - j < n - i
 falls n i j l h = omega arith

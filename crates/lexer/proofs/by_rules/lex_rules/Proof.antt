@@ -46,5 +46,6 @@ returns-3 c = λ rs h.
 
 pub lex_rules_spec : {M : Type 1} → statement M
 lex_rules_spec =
-    tie.close (tie.spec (λ c κs. search rules) (λ c rs h. rw c.refused.ensures (answered_long rs _ _ _ (omega arith))) (λ c κs. search rules) (λ c κs. search rules) (λ c κs. search rules)
+    tie.close (tie.spec (λ c κs. search rules)
+    (λ c rs h. rw c.refused.ensures (answered_long rs _ _ _ (omega arith))) (λ c κs. search rules) (λ c κs. search rules) (λ c κs. search rules)
     (λ c. search rules) (λ c. search rules) returns-2 fill-requires (λ c. search rules) (λ c. search rules) returns-3)
