@@ -1,5 +1,6 @@
 -- `ending`: a run ends there, and not at the error state. Assumes nothing.
 use mathlib.Core.Path.{sym, ◌∙◌}
+use native.Mathlib.Omega.{arith}
 use borrow.Author.Rules.{rules}
 use Rattle.rule_commands.specs.Layers.{row_at}
 use Rattle.rule_commands.proofs.Measuring.{row_at_lem, closes_run, closes_error, closes_span}
@@ -20,7 +21,7 @@ returns-3 : tie.Need-returns
 returns-3 c =
     rw (closes_span (row_at c.args.targets.now c.args.from) c.args.b
     (sym c.run_ends.ensures ∙ c.if-not-run_ends.false)
-    (λ e. c.if-targets-from-eq0.false (sym (row_at_lem c.args.targets.now c.args.from c.args.b c.requires.1) ∙ e)))
+    (λ e. omega (arith, row_at_lem c.args.targets.now c.args.from c.args.b c.requires.1, e)))
 
 pub ending_spec : {M : Type 1} → statement M
 ending_spec =

@@ -14,7 +14,7 @@ returns c =
 returns-2 : tie.Need-returns
 returns-2 c =
     let k = c.before.before.before in
-    sym (apart_inside k.args.targets.now k.args.from k.requires.0 (omega (arith, k.requires.1, c.before.before.if-b-eq255.false)))
+    sym (apart_inside k.args.targets.now k.args.from k.requires.0 (omega (arith, k.requires.1)))
 
 pub run_ends_spec : {M : Type 1} → statement M
 run_ends_spec =

@@ -2,6 +2,7 @@
 use Prim.Native.Nat.{ℕ, ◌+◌, ◌<◌, ◌≤◌, ◌-◌}
 use native.Mathlib.Omega.{arith}
 use lib.ListN.{length, get_or}
+use Rattle.builtin.specs.Layers.{accepting}
 use Rattle.builtin.proofs.Scanned.{Walked, walked_start, walked_accept, walked_run, walked_pass, scanned_end, scanned_dead}
 use Rattle.builtin.proofs.scanner.scan.Statement.{statement}
 use Rattle.builtin.proofs.scanner.scan.Tie as tie
@@ -15,13 +16,13 @@ decreases-loop classes next text s₀ last₀ len₀ i₀ s last len i = length 
 byte : (c : tie.After-shared_slice_known-in-loop-i-1 invariant-loop decreases-loop) (k : ℕ) → get_or c.before.before.before.before.args.text.now k 0 < 256
 byte c k = omega (arith, c.shared_slice_known-in-loop-i-1.given k)
 
-accepted : (c : tie.Then-s-ge-ACCEPTING invariant-loop decreases-loop)
-    → Walked c.before.before.before.before.before.before.before.args.text.now c.before.before.step-s.result
-    c.before.before.step-s.result (c.before.before.before.before.before.loop-i.i + 1)
-    (c.before.before.before.before.before.loop-i.i + 1)
-accepted c = walked_accept c.before.before.before.before.before.loop-i.invariant c.before.before.before.before.loop-i-test.true
-    (byte c.before.before.before c.before.before.before.before.before.loop-i.i) c.before.before.step-s.ensures
-    c.if-s-ge-ACCEPTING.true
+accepted : (c : tie.Else-s-eq-DEAD invariant-loop decreases-loop)
+    → accepting ≤ c.before.step-s.result
+    → Walked c.before.before.before.before.before.before.args.text.now c.before.step-s.result
+    c.before.step-s.result (c.before.before.before.before.loop-i.i + 1)
+    (c.before.before.before.before.loop-i.i + 1)
+accepted c h = walked_accept c.before.before.before.before.loop-i.invariant c.before.before.before.loop-i-test.true
+    (byte c.before.before c.before.before.before.before.loop-i.i) c.before.step-s.ensures h
 
 falls : (n i j : ℕ) → i < n → i + 1 ≤ j → n - j < n - i
 falls n i j l h = omega arith
@@ -48,7 +49,7 @@ add-i : tie.Need-overflow_add-i invariant-loop decreases-loop
 add-i c = omega (arith, c.before.before.before.loop-i-test.true)
 
 run-requires : tie.Need-run-i-requires invariant-loop decreases-loop
-run-requires c κs = let w = accepted c in (
+run-requires c κs = let w = accepted c.before (omega arith) in (
   c.before.before.before.before.before.before.before.requires.classes_are,
   c.before.before.before.before.before.before.before.requires.next_are,
   w.inside,
@@ -59,7 +60,7 @@ loop-less : tie.Need-loop-i-smaller-then-s-ge-ACCEPTING invariant-loop decreases
 loop-less c = let r = c.run-i.ensures in falls _ _ _ c.before.before.before.before.before.loop-i-test.true r.further
 
 loop-again : tie.Need-loop-i-preserved-then-s-ge-ACCEPTING invariant-loop decreases-loop
-loop-again c = walked_run (accepted c.before) c.before.if-s-ge-ACCEPTING.true (byte c.before.before.before.before) c.run-i.ensures
+loop-again c = walked_run (accepted c.before.before (omega arith)) (omega arith) (byte c.before.before.before.before) c.run-i.ensures
 
 loop-less-2 : tie.Need-loop-i-smaller invariant-loop decreases-loop
 loop-less-2 c = omega (arith, c.before.before.before.before.loop-i-test.true)
@@ -67,7 +68,7 @@ loop-less-2 c = omega (arith, c.before.before.before.before.loop-i-test.true)
 loop-again-2 : tie.Need-loop-i-preserved invariant-loop decreases-loop
 loop-again-2 c = walked_pass c.before.before.before.before.before.loop-i.invariant c.before.before.before.before.loop-i-test.true
     (byte c.before.before.before c.before.before.before.before.before.loop-i.i) c.before.before.step-s.ensures
-    c.if-s-ge-ACCEPTING.false
+    (omega arith)
 
 returns-2 : tie.Need-returns invariant-loop decreases-loop
 returns-2 c = scanned_end c.before.loop-i.invariant c.loop-i-test.false

@@ -28,13 +28,10 @@ fits c rs h =
           subst (λ (n : ℕ). length (lex rs (call c).args.text.now).tokens ≤ n) room (enough rs _ _ w.if-room-text.false)
     ]
 
-returns : tie.Need-returns-then-text-gt-TEXT
-returns c = λ rs h. rw c.refused.ensures (answered_long rs _ _ _ c.before.if-text-gt-TEXT.true)
-
 returns-2 : tie.Need-returns-then-room-needed
 returns-2 c = λ rs h.
     rw c.refused-then-room-needed.ensures
-    (answered_few rs _ _ _ c.if-text-gt-TEXT.false (c.count-needed.ensures rs h)
+    (answered_few rs _ _ _ (omega arith) (c.count-needed.ensures rs h)
     (omega (arith, c.if-room-needed.true, c.room-room.ensures)))
 
 fill-requires : tie.Need-fill-cut-requires
@@ -44,10 +41,11 @@ returns-3 : tie.Need-returns
 returns-3 c = λ rs h.
     let filled = c.before.before.before.before in
     let joined = filled.before.before.before in
-    answered_lexed rs _ _ _ joined.if-text-gt-TEXT.false (fits joined rs h) (filled.fill-cut.ensures.0 rs h)
+    answered_lexed rs _ _ _ (omega arith) (fits joined rs h) (filled.fill-cut.ensures.0 rs h)
     (filled.fill-cut.ensures.1 rs h)
 
 pub lex_rules_spec : {M : Type 1} → statement M
 lex_rules_spec =
-    tie.close (tie.spec (λ c κs. search rules) returns (λ c κs. search rules) (λ c κs. search rules) (λ c κs. search rules)
+    tie.close (tie.spec (λ c κs. search rules)
+    (λ c rs h. rw c.refused.ensures (answered_long rs _ _ _ (omega arith))) (λ c κs. search rules) (λ c κs. search rules) (λ c κs. search rules)
     (λ c. search rules) (λ c. search rules) returns-2 fill-requires (λ c. search rules) (λ c. search rules) returns-3)

@@ -6,10 +6,10 @@ use Rattle.turns.proofs.running.keep.Statement.{statement}
 use Rattle.turns.proofs.running.keep.Tie as tie
 
 put-record-requires : tie.Need-put_record-requires
-put-record-requires c κs = let k = c.before in k.before.before.before.requires.in_records k.if-writing.true
+put-record-requires c κs = let k = c.before in k.before.before.before.requires.in_records (cc)
 
 put-mask-requires : tie.Need-put_mask-requires
-put-mask-requires c κs = let k = c.before.before.before.before.before in k.before.before.before.requires.in_masks k.if-writing.true
+put-mask-requires c κs = let k = c.before.before.before.before.before in k.before.before.before.requires.in_masks (cc)
 
 returns : tie.Need-returns-then-writing
 returns c =

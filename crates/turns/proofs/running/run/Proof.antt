@@ -2,7 +2,7 @@
 use mathlib.Core.Path.{refl, sym, ◌∙◌}
 use mathlib.Core.Bool.{true}
 use mathlib.Core.List.{List}
-use Prim.Native.Nat.{◌+◌, ◌-◌, ◌≤◌}
+use Prim.Native.Nat.{◌+◌, ◌-◌, ◌<◌, ◌≤◌}
 use native.Mathlib.Omega.{arith}
 use lib.ListN.{length, drop}
 use borrow.Author.Tests.{not-true, not-false}
@@ -124,41 +124,39 @@ returns-3 c =
     )
 
 -- where something is chosen
-abbrev fitting : tie.Else-n-eq0 invariant-loop decreases-loop → tie.Else-not-n invariant-loop decreases-loop
-fitting c = c.before.before.before
-
-more : (c : tie.Else-n-eq0 invariant-loop decreases-loop)
-    → (here (fitting c)).loop-at.at + (fitting c).before.before.next_token-n.result.len ≤ length (call (here (fitting c))).args.text.now
-more c = running_within (some (here (fitting c))) (one (fitting c)) (omega arith)
+more : (e : tie.Else-not-n invariant-loop decreases-loop)
+    → 0 < e.before.before.next_token-n.result.len
+    → (here e).loop-at.at + e.before.before.next_token-n.result.len ≤ length (call (here e)).args.text.now
+more e h = running_within (some (here e)) (one e) h
 
 tag-of-requires : tie.Need-tag_of-tag-requires invariant-loop decreases-loop
 tag-of-requires c κs =
-    let held = (call (here (fitting c))).requires.held in
-    record { rule = _; table = held.holds.each _ (((one (fitting c)).chooses refl).known (omega arith)) }
+    let e = c.before.before.before in
+    record { rule = _; table = (call (here e)).requires.held.holds.each _ (((one e).chooses refl).known (omega arith)) }
 
 keep-requires : tie.Need-keep-requires invariant-loop decreases-loop
 keep-requires c κs =
-    let e = c.before.before.before in
-    running_room (some (here (fitting e))) (one (fitting e)) (omega arith)
+    let e = c.before.before.before.before.before.before in
+    running_room (some (here e)) (one e) (omega arith)
 
 -- from the end of the turn
-abbrev chosen : tie.After-slice_known-in-loop-at-2-1 invariant-loop decreases-loop → tie.Else-n-eq0 invariant-loop decreases-loop
-chosen c = c.before.before.before.before.before.before.before.before
+abbrev chosen : tie.After-slice_known-in-loop-at-2-1 invariant-loop decreases-loop → tie.Else-not-n invariant-loop decreases-loop
+chosen c = c.before.before.before.before.before.before.before.before.before.before.before
 
 add-tokens : tie.Need-overflow_add-tokens invariant-loop decreases-loop
 add-tokens c =
-    let l = here (fitting (chosen c)) in
-    omega (arith, more (chosen c), (some l).pays.few, (some l).pays.within, (call l).well_formed)
+    let l = here (chosen c) in
+    omega (arith, more (chosen c) (omega arith), (some l).pays.few, (some l).pays.within, (call l).well_formed)
 
 add_at : tie.Need-overflow_add-at invariant-loop decreases-loop
-add_at c = omega (arith, more (chosen c), (call (here (fitting (chosen c)))).well_formed)
+add_at c = omega (arith, more (chosen c) (omega arith), (call (here (chosen c))).well_formed)
 
 loop-less : tie.Need-loop-at-smaller invariant-loop decreases-loop
-loop-less c = omega (arith, more (chosen c))
+loop-less c = omega (arith, more (chosen c) (omega arith))
 
 loop-again : tie.Need-loop-at-preserved invariant-loop decreases-loop
 loop-again c = λ rs h.
-    let e = fitting (chosen c) in
+    let e = chosen c in
     let kept = c.before.before.before.before in
     running_next ((here e).loop-at.invariant rs h) (next e rs h) (omega arith)
     (kept.before.before.before.tag_of-tag.ensures _ (h.each _ (((next e rs h).chooses refl).known (omega arith)))) kept.keep.ensures
