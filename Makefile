@@ -55,12 +55,12 @@ build:
 	@mkdir -p build
 
 build/libzagvulem.a: $(RATTLE) | build
-	@echo 'Proving the library: some ten minutes on two cores where nothing is proved yet. Log: build/library.log'
+	@echo 'Proving the library, which takes a while where nothing is proved yet. Log: build/library.log'
 	@$(RT) build/library.log -C crates/zagvulem_c rt lib
 	@cp crates/zagvulem_c/out/libzagvulem_c.a $@
 
 build/cutlist: $(RATTLE) | build
-	@echo 'Proving cutlist: some minutes on two cores where nothing is proved yet. Log: build/cutlist.log'
+	@echo 'Proving cutlist, which takes a while where nothing is proved yet. Log: build/cutlist.log'
 	@$(RT) build/cutlist.log -C crates/cutlist rt run
 	@cp crates/cutlist/out/cutlist $@
 
