@@ -1,158 +1,138 @@
-// What a call answers: a refusal, or, in an enum for each kind of call, what it came to.
-
+// What a call answers: what it came to, or a refusal, which says why and where.
 #![tactic(auto)]
 
-// The number of document 01 and a place.
 ghost use Rattle.std.specs.Prelude.{◌≡◌};
+ghost use Rattle.answer.specs.Refusals.{number_of};
 
-#[derive(Clone, Copy)]
+use std::fmt;
+
+// Why a call is refused, in the order of the numbers that C reads.
+#[derive(Clone, Copy, Debug, PartialEq, Eq)]
+pub enum Reason {
+    // Reading a book.
+    BookTooLong,
+    CutOff,
+    Misplaced,
+    BytesAfterEnd,
+    TooMany,
+    OutOfRange,
+    TagTaken,
+    TwiceOrMissing,
+    Overlap,
+    LeavesError,
+    ErrorFinal,
+    StartFinal,
+    NoRule,
+    // Lexing.
+    TextTooLong,
+    TooFewRecords,
+    // Printing.
+    TooManyTokens,
+    PastThePool,
+    UnknownTag,
+    NotAlone,
+    OutputTooLong,
+    ReadOn,
+    OutputTooShort,
+    // Printing with separators.
+    SharedByte,
+    UnknownMode,
+    NoSeparator,
+    SeparatorInList,
+    // Lexing in turns.
+    PastTheText,
+    // Making a rule of an expression.
+    NoExpression,
+    LargeExpression,
+    TooManySets,
+    // Reading a book strictly.
+    Retired,
+}
+
+impl Reason {
+    // The number under which the reason is known.
+    pub fn number(self) -> u8
+        ensures { result ≡ number_of self }
+    {
+        match self {
+            Reason::BookTooLong => 1,
+            Reason::CutOff => 2,
+            Reason::Misplaced => 3,
+            Reason::BytesAfterEnd => 4,
+            Reason::TooMany => 5,
+            Reason::OutOfRange => 6,
+            Reason::TagTaken => 7,
+            Reason::TwiceOrMissing => 8,
+            Reason::Overlap => 9,
+            Reason::LeavesError => 10,
+            Reason::ErrorFinal => 11,
+            Reason::StartFinal => 12,
+            Reason::NoRule => 13,
+            Reason::TextTooLong => 14,
+            Reason::TooFewRecords => 15,
+            Reason::TooManyTokens => 16,
+            Reason::PastThePool => 17,
+            Reason::UnknownTag => 18,
+            Reason::NotAlone => 19,
+            Reason::OutputTooLong => 20,
+            Reason::ReadOn => 21,
+            Reason::OutputTooShort => 22,
+            Reason::SharedByte => 23,
+            Reason::UnknownMode => 24,
+            Reason::NoSeparator => 25,
+            Reason::SeparatorInList => 26,
+            Reason::PastTheText => 27,
+            Reason::NoExpression => 30,
+            Reason::LargeExpression => 31,
+            Reason::TooManySets => 32,
+            Reason::Retired => 33,
+        }
+    }
+
+    // The refusal for this reason, at a place.
+    pub fn at(self, place: usize) -> Refusal
+        ensures { result ≡ record { reason = self; place = place } }
+    {
+        Refusal {
+            reason: self,
+            place,
+        }
+    }
+}
+
+#[derive(Clone, Copy, Debug, PartialEq, Eq)]
 pub struct Refusal {
-    pub number: u8,
+    pub reason: Reason,
     pub place: usize,
 }
 
-impl Refusal {
-    // Reading a book.
-    pub const BOOK_TOO_LONG: u8 = 1;
-
-    pub const CUT_OFF: u8 = 2;
-
-    pub const MISPLACED: u8 = 3;
-
-    pub const BYTES_AFTER_END: u8 = 4;
-
-    pub const TOO_MANY: u8 = 5;
-
-    pub const OUT_OF_RANGE: u8 = 6;
-
-    pub const TAG_TAKEN: u8 = 7;
-
-    pub const TWICE_OR_MISSING: u8 = 8;
-
-    pub const OVERLAP: u8 = 9;
-
-    pub const LEAVES_ERROR: u8 = 10;
-
-    pub const ERROR_FINAL: u8 = 11;
-
-    pub const START_FINAL: u8 = 12;
-
-    pub const NO_RULE: u8 = 13;
-    // Reading a book strictly.
-    pub const RETIRED: u8 = 33;
-    // Lexing.
-    pub const TEXT_TOO_LONG: u8 = 14;
-
-    pub const TOO_FEW_RECORDS: u8 = 15;
-    // Lexing in turns.
-    pub const PAST_THE_TEXT: u8 = 27;
-    // Making a rule of an expression.
-    pub const NO_EXPRESSION: u8 = 30;
-
-    pub const LARGE_EXPRESSION: u8 = 31;
-
-    pub const TOO_MANY_SETS: u8 = 32;
-    // Printing.
-    pub const TOO_MANY_TOKENS: u8 = 16;
-
-    pub const PAST_THE_POOL: u8 = 17;
-
-    pub const UNKNOWN_TAG: u8 = 18;
-
-    pub const NOT_ALONE: u8 = 19;
-
-    pub const OUTPUT_TOO_LONG: u8 = 20;
-
-    pub const READ_ON: u8 = 21;
-
-    pub const OUTPUT_TOO_SHORT: u8 = 22;
-    // Printing with separators.
-    pub const SHARED_BYTE: u8 = 23;
-
-    pub const UNKNOWN_MODE: u8 = 24;
-
-    pub const NO_SEPARATOR: u8 = 25;
-
-    pub const SEPARATOR_IN_LIST: u8 = 26;
-}
-
-// What reading a book answers: the number of its rules, or a refusal.
-#[derive(Clone, Copy)]
-pub enum BookAnswer {
-    Accepted(usize),
-    Refused(Refusal),
-}
-
-impl BookAnswer {
-    pub fn refused(number: u8, place: usize) -> BookAnswer
-        ensures { result ≡ BookAnswer.Refused (record { number = number; place = place }) }
-    {
-        BookAnswer::Refused(Refusal { number, place })
+impl fmt::Display for Refusal {
+    fn fmt<W: fmt::Write>(&self, f: &mut fmt::Formatter<W>) -> fmt::Result {
+        let number = self.reason.number();
+        let place = self.place;
+        write!(f, "refused {number} {place}")
     }
 }
 
-// What asking for one rule of a book answers: its tag and its kind, or a refusal.
-#[derive(Clone, Copy)]
-pub enum RuleAnswer {
-    Rule { tag: usize, kind: usize },
-    Refused(Refusal),
+// A rule of a book, as a caller may ask for it.
+#[derive(Clone, Copy, Debug, PartialEq, Eq)]
+pub struct RuleName {
+    pub tag: usize,
+    pub kind: usize,
 }
 
-impl RuleAnswer {
-    pub fn refused(number: u8, place: usize) -> RuleAnswer
-        ensures { result ≡ RuleAnswer.Refused (record { number = number; place = place }) }
-    {
-        RuleAnswer::Refused(Refusal { number, place })
-    }
+// A cut of a text: how many tokens it has, and the place of the rest.
+#[derive(Clone, Copy, Debug, PartialEq, Eq)]
+pub struct Cut {
+    pub tokens: usize,
+    pub rest: usize,
 }
 
-// What lexing a text answers: the number of tokens and the place of the rest, or a refusal.
-#[derive(Clone, Copy)]
-pub enum LexAnswer {
-    Lexed { tokens: usize, rest: usize },
-    Refused(Refusal),
-}
-
-impl LexAnswer {
-    pub fn refused(number: u8, place: usize) -> LexAnswer
-        ensures { result ≡ LexAnswer.Refused (record { number = number; place = place }) }
-    {
-        LexAnswer::Refused(Refusal { number, place })
-    }
-}
-
-// What a turn of lexing answers: the number of its tokens, the next place, the bytes that it examined, and whether it is finished (else it
-// is spent); or a refusal.
-#[derive(Clone, Copy)]
-pub enum TurnAnswer {
-    Turned {
-        tokens: usize,
-        next: usize,
-        examined: usize,
-        finished: bool,
-    },
-    Refused(Refusal),
-}
-
-impl TurnAnswer {
-    pub fn refused(number: u8, place: usize) -> TurnAnswer
-        ensures { result ≡ TurnAnswer.Refused (record { number = number; place = place }) }
-    {
-        TurnAnswer::Refused(Refusal { number, place })
-    }
-}
-
-// What printing answers: the number of bytes written, or a refusal.
-#[derive(Clone, Copy)]
-pub enum PrintAnswer {
-    Printed(usize),
-    Refused(Refusal),
-}
-
-impl PrintAnswer {
-    pub fn refused(number: u8, place: usize) -> PrintAnswer
-        ensures { result ≡ PrintAnswer.Refused (record { number = number; place = place }) }
-    {
-        PrintAnswer::Refused(Refusal { number, place })
-    }
+// A turn of lexing: the number of its tokens, the next place, the bytes that it examined, and whether it is finished (else it is spent).
+#[derive(Clone, Copy, Debug, PartialEq, Eq)]
+pub struct Turn {
+    pub tokens: usize,
+    pub next: usize,
+    pub examined: usize,
+    pub finished: bool,
 }
