@@ -1,24 +1,19 @@
 -- An answer is had back from its word, where it fits. Assumes nothing.
+use Rattle.answer.specs.declared.Cut.{Cut}
+use Rattle.answer.specs.declared.RuleName.{RuleName}
+use Rattle.answer.specs.declared.Turn.{Turn}
+use Rattle.std.specs.Prelude.{Result, Ok, Err}
+use Rattle.answer.specs.Answers.{lexed, named, turned}
 use mathlib.Core.Path.{◌≡◌}
 use mathlib.Core.Bool.{true, false}
 use Prim.Native.Nat.{ℕ, ◌≤◌}
 use native.Mathlib.Omega.{arith}
 use lib.Dec.{eqb}
 use Rattle.answer.specs.declared.Refusal.{Refusal}
-use Rattle.answer.specs.declared.BookAnswer.{BookAnswer}
-use Rattle.answer.specs.declared.RuleAnswer.{RuleAnswer}
-use Rattle.answer.specs.declared.LexAnswer.{LexAnswer}
-use Rattle.answer.specs.declared.TurnAnswer.{TurnAnswer}
-use Rattle.answer.specs.declared.PrintAnswer.{PrintAnswer}
 use Rattle.answer_word.specs.Words.{largest_place, largest_value, refusal_word, accepted_word, book_word, rule_word, lex_word, print_word}
 use Rattle.answer_word.specs.Words.{turn_word, next_after, examined_after, turn_answer_in}
 use Rattle.answer_word.specs.Words.{number_in, place_in, first_in, second_in, refusal_in}
 use Rattle.answer_word.specs.Words.{book_answer_in, rule_answer_in, lex_answer_in, print_answer_in}
-use Rattle.answer.specs.declared.BookAnswer.TheVariants as books
-use Rattle.answer.specs.declared.RuleAnswer.TheVariants as ruled
-use Rattle.answer.specs.declared.LexAnswer.TheVariants as lexes
-use Rattle.answer.specs.declared.TurnAnswer.TheVariants as turned
-use Rattle.answer.specs.declared.PrintAnswer.TheVariants as prints
 
 -- ---- what is said of an answer that fits: its values are in their parts; its refusal is by a number other than 0, at a place in its part
 
@@ -26,25 +21,25 @@ pub record RefusalFits (f : Refusal) : Type 0 where
   pub number_some : eqb f.number 0 ≡ false
   pub place-within : f.place ≤ largest_place
 
-abbrev pub BookFits : BookAnswer → Type 0
-BookFits (books.Accepted rules) = rules ≤ largest_value
-BookFits (books.Refused f) = RefusalFits f
+abbrev pub BookFits : Result ℕ Refusal → Type 0
+BookFits (Ok rules) = rules ≤ largest_value
+BookFits (Err f) = RefusalFits f
 
-abbrev pub RuleFits : RuleAnswer → Type 0
-RuleFits (ruled.Rule tag kind) = (tag ≤ largest_value) × (kind ≤ largest_value)
-RuleFits (ruled.Refused f) = RefusalFits f
+abbrev pub RuleFits : Result RuleName Refusal → Type 0
+RuleFits (named tag kind) = (tag ≤ largest_value) × (kind ≤ largest_value)
+RuleFits (Err f) = RefusalFits f
 
-abbrev pub LexFits : LexAnswer → Type 0
-LexFits (lexes.Lexed tokens rest) = (tokens ≤ largest_value) × (rest ≤ largest_value)
-LexFits (lexes.Refused f) = RefusalFits f
+abbrev pub LexFits : Result Cut Refusal → Type 0
+LexFits (lexed tokens rest) = (tokens ≤ largest_value) × (rest ≤ largest_value)
+LexFits (Err f) = RefusalFits f
 
-abbrev pub TurnFits : TurnAnswer → Type 0
-TurnFits (turned.Turned tokens next examined finished) = tokens ≤ largest_value
-TurnFits (turned.Refused f) = RefusalFits f
+abbrev pub TurnFits : Result Turn Refusal → Type 0
+TurnFits (turned tokens next examined finished) = tokens ≤ largest_value
+TurnFits (Err f) = RefusalFits f
 
-abbrev pub PrintFits : PrintAnswer → Type 0
-PrintFits (prints.Printed bytes) = bytes ≤ largest_value
-PrintFits (prints.Refused f) = RefusalFits f
+abbrev pub PrintFits : Result ℕ Refusal → Type 0
+PrintFits (Ok bytes) = bytes ≤ largest_value
+PrintFits (Err f) = RefusalFits f
 
 -- ---- words
 
@@ -75,28 +70,28 @@ module _ {f : Refusal} (r : RefusalFits f) where
 
 -- ---- answers
 
-pub book_kept : (a : BookAnswer) → BookFits a → book_answer_in (book_word a) ≡ a
-book_kept (books.Accepted n) l = rw (accepted_number n 0 l (omega arith), accepted_first n 0 l (omega arith))
-book_kept (books.Refused f) w = rw (refused_some w, refusal_kept w)
+pub book_kept : (a : Result ℕ Refusal) → BookFits a → book_answer_in (book_word a) ≡ a
+book_kept (Ok n) l = rw (accepted_number n 0 l (omega arith), accepted_first n 0 l (omega arith))
+book_kept (Err f) w = rw (refused_some w, refusal_kept w)
 
-pub rule_kept : (a : RuleAnswer) → RuleFits a → rule_answer_in (rule_word a) ≡ a
-rule_kept (ruled.Rule tag kind) (l, m) = rw (accepted_number tag kind l m, accepted_first tag kind l m, accepted_second tag kind l m)
-rule_kept (ruled.Refused f) w = rw (refused_some w, refusal_kept w)
+pub rule_kept : (a : Result RuleName Refusal) → RuleFits a → rule_answer_in (rule_word a) ≡ a
+rule_kept (named tag kind) (l, m) = rw (accepted_number tag kind l m, accepted_first tag kind l m, accepted_second tag kind l m)
+rule_kept (Err f) w = rw (refused_some w, refusal_kept w)
 
-pub lex_kept : (a : LexAnswer) → LexFits a → lex_answer_in (lex_word a) ≡ a
-lex_kept (lexes.Lexed tokens rest) (l, m) =
+pub lex_kept : (a : Result Cut Refusal) → LexFits a → lex_answer_in (lex_word a) ≡ a
+lex_kept (lexed tokens rest) (l, m) =
     rw (accepted_number tokens rest l m, accepted_first tokens rest l m, accepted_second tokens rest l m)
-lex_kept (lexes.Refused f) w = rw (refused_some w, refusal_kept w)
+lex_kept (Err f) w = rw (refused_some w, refusal_kept w)
 
 -- with the two numbers that are left beside the word, whatever stood there before
-pub turn_kept : (a : TurnAnswer) (next examined : ℕ) → TurnFits a
+pub turn_kept : (a : Result Turn Refusal) (next examined : ℕ) → TurnFits a
     → turn_answer_in (turn_word a) (next_after a next) (examined_after a examined) ≡ a
-turn_kept (turned.Turned tokens place bytes true) next examined l =
+turn_kept (turned tokens place bytes true) next examined l =
     rw (accepted_number tokens 1 l (omega arith), accepted_first tokens 1 l (omega arith), accepted_second tokens 1 l (omega arith))
-turn_kept (turned.Turned tokens place bytes false) next examined l =
+turn_kept (turned tokens place bytes false) next examined l =
     rw (accepted_number tokens 0 l (omega arith), accepted_first tokens 0 l (omega arith), accepted_second tokens 0 l (omega arith))
-turn_kept (turned.Refused f) next examined w = rw (refused_some w, refusal_kept w)
+turn_kept (Err f) next examined w = rw (refused_some w, refusal_kept w)
 
-pub print_kept : (a : PrintAnswer) → PrintFits a → print_answer_in (print_word a) ≡ a
-print_kept (prints.Printed n) l = rw (accepted_number n 0 l (omega arith), accepted_first n 0 l (omega arith))
-print_kept (prints.Refused f) w = rw (refused_some w, refusal_kept w)
+pub print_kept : (a : Result ℕ Refusal) → PrintFits a → print_answer_in (print_word a) ≡ a
+print_kept (Ok n) l = rw (accepted_number n 0 l (omega arith), accepted_first n 0 l (omega arith))
+print_kept (Err f) w = rw (refused_some w, refusal_kept w)

@@ -15,7 +15,6 @@ ghost use Rattle.separated.specs.Outcome.{separated_outcome};
 ghost use Rattle.answer_word.specs.Words.{book_word, rule_word, lex_word, turn_word, next_after, examined_after, print_word};
 ghost use Rattle.zagvulem.specs.Separator.{separator};
 
-use answer::RuleAnswer;
 use record::TokenRecord;
 
 // Reads a book: the number of its rules and 0, or the refusal.
@@ -52,10 +51,7 @@ pub fn zgv_compile(tag: u16, kind: u32, regex: &[u8], out: &mut [u8]) -> u64
 pub fn zgv_rule(book: &[u8], index: u32) -> u64
     ensures { result ≡ rule_word (rule_outcome book.now index) }
 {
-    match book_reader::rule(book, index as usize) {
-        RuleAnswer::Rule { tag, kind } => answer_word::accepted(tag, kind),
-        RuleAnswer::Refused(refusal) => answer_word::refused(refusal),
-    }
+    answer_word::ruled(book_reader::rule(book, index as usize))
 }
 
 // Lexes a text by a book: the number of tokens and the place of the rest, or the refusal.
