@@ -1,4 +1,4 @@
-use Rattle.std.proofs.Common.{arith, ◌∙◌, length}
+use Rattle.std.proofs.Common.{arith}
 use Rattle.automaton.specs.Layers.{rule_at}
 use Rattle.longest_match.proofs.Picking.{prefixed_none, prefixed_next, prefixed_all}
 use Rattle.longest_match.proofs.steps.longest_prefixes.Goals as goal
