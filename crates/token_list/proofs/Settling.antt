@@ -1,13 +1,16 @@
 -- The loops of `measure` and `read_back`: what holds at their heads, how a turn keeps it, and how they end. Assumes nothing.
 use Rattle.answer.specs.declared.Reason.TheVariants.{ReadOn}
 use Rattle.std.specs.Prelude.{Option as Maybe, Some, None, MatchOption}
-use mathlib.Core.Path.{◌≡◌, sym, ap, ◌∙◌, subst}
-use mathlib.Core.Bool.{true}
+use mathlib.Core.Path.{◌≡◌, refl, sym, ap, ◌∙◌, subst}
+use mathlib.Core.Bool.{Bool, true, false, not}
 use mathlib.Core.Option.{none, some}
 use mathlib.Core.List.{List, [], ◌∷◌, ◌++◌}
 use Prim.Native.Nat.{ℕ, ◌+◌, ◌<◌, ◌≤◌}
 use native.Mathlib.Omega.{arith}
 use native.Mathlib.Numerals.{add-one}
+use lib.Dec.{eqb}
+use borrow.Author.Tests.{eqb-true, eq-eqb}
+use Rattle.core.specs.Option.{option_eq}
 use lib.ListN.{length, drop, length-append, length-drop}
 use lib.Seq.{drop-drop, drop_at}
 use Rattle.automaton.specs.Choice.{All}
@@ -92,6 +95,17 @@ module _ {records pool : List ℕ} {total k : ℕ} (w : Spanning records pool to
       }
 
 -- ---- reading back
+
+-- the number that is found is the one that is asked for
+pub found : {rules : List Rule} {tag rule : ℕ} (o : Maybe ℕ)
+    → MatchOption o (Ranks rules tag (length rules)) (λ (i : ℕ). (i < length rules) × Ranks rules tag i)
+    → not (option_eq eqb o (Some rule)) ≡ false → (rule < length rules) × Ranks rules tag rule
+found None ranks e = cc
+found {rules} {tag} {rule} (Some rank) ranks e = go (eqb rank rule) refl e
+  where
+    go : (t : Bool) → eqb rank rule ≡ t → not t ≡ false → (rule < length rules) × Ranks rules tag rule
+    go true q z = subst (λ (i : ℕ). (i < length rules) × Ranks rules tag i) (eqb-true rank rule q) ranks
+    go false q z = cc
 
 -- the first k tokens, `at` bytes, are alone and not read on
 pub record Retracing (rules : List Rule) (records pool text : List ℕ) (at k : ℕ) : Type 0 where
@@ -184,10 +198,10 @@ module _ {rules : List Rule} {records pool text : List ℕ} {at k : ℕ} (w : Re
       module _ (some_byte : 0 < len) (all : len ≡ r.len) where
         pub retracing_other : (o : Maybe ℕ)
             → MatchOption o (Ranks rules r.tag (length rules)) (λ (i : ℕ). (i < length rules) × Ranks rules r.tag i)
-            → (o ≡ Some rule → ⊥) → ReadsBack rules records pool k
+            → not (option_eq eqb o (Some rule)) ≡ true → ReadsBack rules records pool k
         retracing_other None ranks ne = here_first (λ f. absurd (unranked f ranks))
         retracing_other (Some rank) ranks ne =
-            here_first (λ f. absurd (another_rule f ranks.1 some_byte all (λ e. ne (ap Some (sym e)))))
+            here_first (λ f. absurd (another_rule f ranks.1 some_byte all (λ e. clash ne (ap not (eq-eqb rank rule (sym e))))))
 
         -- the token itself is chosen
         module _ (ranks : (rule < length rules) × Ranks rules r.tag rule) where

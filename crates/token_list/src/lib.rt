@@ -20,7 +20,10 @@ use answer::{Reason, Refusal};
 use record::TokenRecord;
 
 // The first token that `fault` has a reason to refuse.
-pub fn first_refused<F: Fn(TokenRecord) -> Option<Reason>>(records: &[u8], fault: F) -> Result<(), Refusal>
+pub fn first_refused<F: Fn(TokenRecord) -> Option<Reason>>(
+    records: &[u8],
+    fault: F,
+) -> Result<(), Refusal>
     requires { F.IsAlwaysCallable fault }
     ensures { (g : _) → Finds (F.post fault) g
         → result ≡ checked_of (first_fault g (records_of records.now) 0) }

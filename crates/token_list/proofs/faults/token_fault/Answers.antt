@@ -22,7 +22,7 @@ returns-then-chosen-len c = λ rs h.
     elim c.then-chosen-len.branch [
       | then-chosen-len-via-then-chosen-len b ↦ checked-part h _ _ (omega arith) (c.in-Some.ensures rs h) w b.if-chosen-len.true
       | then-chosen-len-via-else-chosen-len+then-chosen-rule b ↦
-        checked_other h _ _ (omega arith) (c.in-Some.ensures rs h) w some_byte (omega arith) b.if-chosen-rule.true
+          checked_other h _ _ (omega arith) (c.in-Some.ensures rs h) w some_byte (omega arith) b.if-chosen-rule.true
     ]
 
 pub returns : goal.returns
