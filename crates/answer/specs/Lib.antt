@@ -1,2 +1,3 @@
--- The numbers of refusals.
+-- The numbers of refusals (Refusals), and what calls answer (Answers).
 pub mod Refusals
+pub mod Answers

@@ -4,7 +4,7 @@
 
 pub mod words;
 
-ghost use Rattle.std.specs.Prelude.{◌≡◌, List, eqb, length};
+ghost use Rattle.std.specs.Prelude.{◌≡◌, ◌<◌, List, eqb, length, MatchOption};
 ghost use Rattle.automaton.specs.Rule.{Rule};
 ghost use Rattle.automaton.specs.Layers.{first_of, end_of, start_of, body_at, Spot, Table, Tabled, Holds, Held, Ranks};
 
@@ -89,18 +89,16 @@ pub fn end_of(table: &[u64], rule: usize) -> usize
     (table[rule + 33] % 65536) as usize
 }
 
-// The number of the first rule of this tag; that of all rules where none has it.
-pub fn find_tag(table: &[u64], tag: u64) -> usize
+// The number of the first rule of this tag.
+pub fn find_tag(table: &[u64], tag: u64) -> Option<usize>
     requires { Held table.now }
-    ensures { (rs : List Rule) → Holds table.now rs → Ranks rs tag result }
+    ensures { (rs : List Rule) → Holds table.now rs
+        → MatchOption result (Ranks rs tag (length rs)) (λ k. (k < length rs) × Ranks rs tag k) }
 {
-    let rules = count_of(table);
-    let mut k = 0;
-    while k < rules {
+    for k in 0..count_of(table) {
         if tag_of(table, k) == tag {
-            return k;
+            return Some(k);
         }
-        k += 1;
     }
-    k
+    None
 }

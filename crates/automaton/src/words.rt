@@ -1,4 +1,5 @@
 // The words of a table: transitions, the spots to which they lead, and starts. Where a part stands in its word is known here alone.
+// Parts are packed into a u64 for fixed memory: a word of the table is what a walk loads.
 ghost use Rattle.std.specs.Prelude.{◌≡◌, ◌<◌};
 ghost use Rattle.automaton.specs.Layers.{state_of, head_of, is_final};
 ghost use Rattle.automaton.specs.Layers.{edge_word, low_of, high_of, next_of, spot_of, covers_word};
@@ -41,11 +42,7 @@ pub fn spot(edge: u64) -> u64
 pub fn covers(edge: u64, byte: u64) -> bool
     ensures { result ≡ covers_word edge byte }
 {
-    if edge % 256 <= byte {
-        byte <= edge / 256 % 256
-    } else {
-        false
-    }
+    low(edge) <= byte && byte <= high(edge)
 }
 
 // The number of a spot's state.

@@ -1,4 +1,5 @@
 -- What a command leaves is fine, and what END accepts is valid. Assumes nothing.
+use Rattle.answer.specs.declared.Reason.{Reason}
 use mathlib.Core.Path.{◌≡◌, refl, sym}
 use mathlib.Core.Bool.{Bool, true, false, ◌||◌}
 use mathlib.Core.List.{List, [], ◌∷◌, ◌++◌}
@@ -34,9 +35,9 @@ InRange End = Unit {0}
 abbrev pub Good : Verdict → Type 0
 Good (goes d) = Fine d
 Good (accepts rules) = Valid rules
-Good (refuses number place) = Unit {0}
+Good (refuses reason place) = Unit {0}
 
-check_good : (t : Bool) (number place : ℕ) (v : Verdict) → (t ≡ false → Good v) → Good (check t number place v)
+check_good : (t : Bool) (reason : Reason) (place : ℕ) (v : Verdict) → (t ≡ false → Good v) → Good (check t reason place v)
 unfolding check
 check_good true number place v h = tt
 check_good false number place v h = h refl

@@ -1,4 +1,5 @@
 -- What the code makes of a command is what `apply` says: a law for each way out of each command. Assumes nothing.
+use Rattle.answer.specs.declared.Reason.TheVariants.{BytesAfterEnd, ErrorFinal, LeavesError, NoRule, OutOfRange, Overlap, StartFinal, TagTaken, TooMany, TwiceOrMissing}
 use mathlib.Core.Path.{◌≡◌, refl, sym, ◌∙◌, ap}
 use mathlib.Core.Bool.{Bool, true, false, not, ◌||◌}
 use mathlib.Core.List.{List, [], ◌∷◌}
@@ -30,7 +31,7 @@ use Rattle.book.proofs.Fine.{Good, apply_good, move_good, state_below, closed-ru
 use Rattle.book.proofs.Filling.{stored-final, stored_edge, stored-closed}
 
 abbrev pub refusal : ℕ → ℕ → Progress
-refusal number place = Refused (record { number = number; place = place })
+refusal reason place = Refused (record { reason = reason; place = place })
 
 either_way : (a b : Bool) → if a true b ≡ if b true a
 either_way true true = refl
@@ -80,18 +81,18 @@ module _ {b : Book} {tb rows : List ℕ} {d : Draft} (h : Represents b tb rows d
 -- was given before.
 
 module _ (tb rows : List ℕ) (at n s : ℕ) (w : Verdict) {t : Bool} (seen : t ≡ no_state s) where
-  pub no_state_lem : t ≡ true → Follows (check (no_state s) 6 at w) (refusal 6 at) tb rows n
+  pub no_state_lem : t ≡ true → Follows (check (no_state s) OutOfRange at w) (refusal OutOfRange at) tb rows n
   unfolding check
   no_state_lem e = rw (sym seen ∙ e)
 
 module _ (tb rows : List ℕ) (at n s : ℕ) (d : Draft) {t u v : Bool} (seen : t ≡ no_state s) (state : t ≡ false) (given-before : u ≡ v) where
-  pub given_again : u ≡ true → Follows (check (no_state s) 6 at (check v 8 at (goes d))) (refusal 8 at) tb rows n
+  pub given_again : u ≡ true → Follows (check (no_state s) OutOfRange at (check v TwiceOrMissing at (goes d))) (refusal TwiceOrMissing at) tb rows n
   unfolding check
   given_again e = rw (sym seen ∙ state, sym given-before ∙ e)
 
-  pub given : {b : Book} {f m : ℕ} → u ≡ false → Good (check (no_state s) 6 at (check v 8 at (goes d)))
+  pub given : {b : Book} {f m : ℕ} → u ≡ false → Good (check (no_state s) OutOfRange at (check v TwiceOrMissing at (goes d)))
       → Stored f m tb rows d.rules d.finals d.transitions → b ≡ book_of d f m → m ≤ n
-      → Follows (check (no_state s) 6 at (check v 8 at (goes d))) (On b) tb rows n
+      → Follows (check (no_state s) OutOfRange at (check v TwiceOrMissing at (goes d))) (On b) tb rows n
   unfolding check
   given e g st q l =
       rw (sym seen ∙ state, sym given-before ∙ e) (on d (rw (sym seen ∙ state, sym given-before ∙ e) at g) st q l)
@@ -109,11 +110,11 @@ module _ {b : Book} {tb rows : List ℕ} {d : Draft} (h : Represents b tb rows d
   some_closed : (b.rules ≡ 0 → ⊥) → is_empty d.rules ≡ false
   some_closed e = empty_or_not d.rules ∙ ne_eqb _ _ (λ z. e (rules_are h ∙ z))
 
-  pub end_empty : b.rules ≡ 0 → Follows (apply d End at len) (refusal 13 at) tb rows n
+  pub end_empty : b.rules ≡ 0 → Follows (apply d End at len) (refusal NoRule at) tb rows n
   unfolding apply check
   end_empty e = rw (none_closed e)
 
-  pub end_early : (b.rules ≡ 0 → ⊥) → at + 1 < len → Follows (apply d End at len) (refusal 4 (at + 1)) tb rows n
+  pub end_early : (b.rules ≡ 0 → ⊥) → at + 1 < len → Follows (apply d End at len) (refusal BytesAfterEnd (at + 1)) tb rows n
   unfolding apply check
   end_early e l = rw (some_closed e, lt-ltb _ _ l)
 
@@ -124,7 +125,7 @@ module _ {b : Book} {tb rows : List ℕ} {d : Draft} (h : Represents b tb rows d
 -- ---- RULE
 
 module _ {b : Book} {tb rows : List ℕ} {d : Draft} (h : Represents b tb rows d) (tag kind at len n : ℕ) where
-  pub rule_too_many : max_rules ≤ b.rules → Follows (apply d (RULE tag kind) at len) (refusal 5 at) tb rows n
+  pub rule_too_many : max_rules ≤ b.rules → Follows (apply d (RULE tag kind) at len) (refusal TooMany at) tb rows n
   unfolding apply check
   rule_too_many l = rw (← rules_are h, le-leb _ _ l)
 
@@ -132,17 +133,17 @@ module _ {b : Book} {tb rows : List ℕ} {d : Draft} (h : Represents b tb rows d
     few_closed : leb max_rules (length d.rules) ≡ false
     few_closed = lt-leb max_rules (length d.rules) (omega (arith, rules_are h))
 
-    pub rule_tag_zero : tag ≡ 0 → Follows (apply d (RULE tag kind) at len) (refusal 6 at) tb rows n
+    pub rule_tag_zero : tag ≡ 0 → Follows (apply d (RULE tag kind) at len) (refusal OutOfRange at) tb rows n
     unfolding apply check
     rule_tag_zero e = rw (few_closed, e)
 
     module _ (some : tag ≡ 0 → ⊥) where
-      pub rule_kind : 1 < kind → Follows (apply d (RULE tag kind) at len) (refusal 6 at) tb rows n
+      pub rule_kind : 1 < kind → Follows (apply d (RULE tag kind) at len) (refusal OutOfRange at) tb rows n
       unfolding apply check
       rule_kind l = rw (few_closed, ne_eqb _ _ some, lt-ltb _ _ l)
 
       module _ (known : kind ≤ 1) {taken : Bool} (seen : taken ≡ tagged tag d.rules) where
-        pub rule_taken : taken ≡ true → Follows (apply d (RULE tag kind) at len) (refusal 7 at) tb rows n
+        pub rule_taken : taken ≡ true → Follows (apply d (RULE tag kind) at len) (refusal TagTaken at) tb rows n
         unfolding apply check
         rule_taken e = rw (few_closed, ne_eqb _ _ some, le-ltb _ _ known, sym seen ∙ e)
 
@@ -185,7 +186,7 @@ module _ {b : Book} {tb rows : List ℕ} {d : Draft} (h : Represents b tb rows d
   -- ---- STEP and SPAN
 
   module _ (at from low high to n : ℕ) where
-    pub move_too_many : max_transitions ≤ b.edges - b.first → Follows (move d at from low high to) (refusal 5 at) tb rows n
+    pub move_too_many : max_transitions ≤ b.edges - b.first → Follows (move d at from low high to) (refusal TooMany at) tb rows n
     unfolding check move
     move_too_many l = rw (le-leb max_transitions (length d.transitions) (omega (arith, count_is h)))
 
@@ -194,7 +195,7 @@ module _ {b : Book} {tb rows : List ℕ} {d : Draft} (h : Represents b tb rows d
       few_moves = lt-leb max_transitions (length d.transitions) (omega (arith, count_is h))
 
       module _ {t : Bool} (seen : t ≡ ltb high low || (no_state from || no_state to)) where
-        pub move_outside : t ≡ true → Follows (move d at from low high to) (refusal 6 at) tb rows n
+        pub move_outside : t ≡ true → Follows (move d at from low high to) (refusal OutOfRange at) tb rows n
         unfolding check move
         move_outside e = rw (few_moves, sym seen ∙ e)
 
@@ -254,11 +255,11 @@ module _ {b : Book} {tb rows : List ℕ} {d : Draft} (h : Represents b tb rows d
   error_unset : is_unset d.error ≡ not b.erring
   error_unset = unset_or_not d.error (erring_is h)
 
-  pub close_no_start : b.started ≡ false → Follows (apply d Close at len) (refusal 8 at) tb rows n
+  pub close_no_start : b.started ≡ false → Follows (apply d Close at len) (refusal TwiceOrMissing at) tb rows n
   unfolding apply check
   close_no_start e = rw (start_unset, e)
 
-  pub close_no_error : b.erring ≡ false → Follows (apply d Close at len) (refusal 8 at) tb rows n
+  pub close_no_error : b.erring ≡ false → Follows (apply d Close at len) (refusal TwiceOrMissing at) tb rows n
   unfolding apply check
   close_no_error e = rw (error_unset, e, or_true)
 
@@ -266,7 +267,7 @@ module _ {b : Book} {tb rows : List ℕ} {d : Draft} (h : Represents b tb rows d
     both_set : is_unset d.start || is_unset d.error ≡ false
     both_set = rw (start_unset, error_unset, started, erring)
 
-    pub close_overlap : b.overlap ≡ true → Follows (apply d Close at len) (refusal 9 at) tb rows n
+    pub close_overlap : b.overlap ≡ true → Follows (apply d Close at len) (refusal Overlap at) tb rows n
     unfolding apply check
     close_overlap e = rw (both_set, ← overlap_is h, e)
 
@@ -280,7 +281,7 @@ module _ {b : Book} {tb rows : List ℕ} {d : Draft} (h : Represents b tb rows d
       final-mark : (s : ℕ) → s < state_count → {t : Bool} → final_in rows (b.rules + 1) s ≡ t → among s d.finals ≡ t
       final-mark s l e = sym (built_there.finals s l) ∙ e
 
-      pub close_leaves : (head_in rows (b.rules + 1) b.error ≡ 0 → ⊥) → Follows (apply d Close at len) (refusal 10 at) tb rows n
+      pub close_leaves : (head_in rows (b.rules + 1) b.error ≡ 0 → ⊥) → Follows (apply d Close at len) (refusal LeavesError at) tb rows n
       unfolding apply check
       close_leaves e = rw (both_set, no_overlap, error_is h, head_some built_there b.error (error_small h) e)
 
@@ -289,7 +290,7 @@ module _ {b : Book} {tb rows : List ℕ} {d : Draft} (h : Represents b tb rows d
         none_leaves = rw (error_is h) (head_none built_there b.error (error_small h) quiet)
 
         pub close_error_final : final_in rows (b.rules + 1) b.error ≡ true
-            → Follows (apply d Close at len) (refusal 11 at) tb rows n
+            → Follows (apply d Close at len) (refusal ErrorFinal at) tb rows n
         unfolding apply check
         close_error_final e =
             let z : among (state_of d.error) d.finals ≡ true = rw (error_is h) (final-mark b.error (error_small h) e) in
@@ -300,7 +301,7 @@ module _ {b : Book} {tb rows : List ℕ} {d : Draft} (h : Represents b tb rows d
           error_not_final = rw (error_is h) (final-mark b.error (error_small h) fails)
 
           pub close_start-final : final_in rows (b.rules + 1) b.start ≡ true
-              → Follows (apply d Close at len) (refusal 12 at) tb rows n
+              → Follows (apply d Close at len) (refusal StartFinal at) tb rows n
           unfolding apply check
           close_start-final e =
               let z : among (state_of d.start) d.finals ≡ true =

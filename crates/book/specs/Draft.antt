@@ -1,4 +1,6 @@
 -- What has been read of a book, and what each command makes of it: the checks of document 01, in their order.
+use Rattle.answer.specs.declared.Reason.{Reason}
+use Rattle.answer.specs.declared.Reason.TheVariants.{BytesAfterEnd, ErrorFinal, LeavesError, NoRule, OutOfRange, Overlap, StartFinal, TagTaken, TooMany, TwiceOrMissing}
 use Rattle.std.specs.Prelude.{Bool, true, false, ◌||◌, List, [], ◌∷◌, ◌++◌, ℕ, ◌+◌, leb, ltb, eqb, length}
 use Rattle.std.proofs.Math.Option.{Option, none, some}
 use Rattle.automaton.specs.Choice.{any, among}
@@ -78,12 +80,12 @@ rule_of d =
 pub data Verdict : Type 0 where
   goes : Draft → Verdict
   accepts : List Rule → Verdict
-  refuses : ℕ → ℕ → Verdict
+  refuses : Reason → ℕ → Verdict
 
 -- refused by this number at this place where the test holds
-unfoldable pub check : Bool → ℕ → ℕ → Verdict → Verdict
-check true number place next = refuses number place
-check false number place next = next
+unfoldable pub check : Bool → Reason → ℕ → Verdict → Verdict
+check true reason place next = refuses reason place
+check false reason place next = next
 
 abbrev pub tagged : ℕ → List Rule → Bool
 tagged tag rules = any (λ (r : Rule). eqb r.tag tag) rules
@@ -99,29 +101,29 @@ no_state s = leb state_count s
 -- a move, as STEP and SPAN give it
 unfoldable pub move : Draft → ℕ → ℕ → ℕ → ℕ → ℕ → Verdict
 move d at from low high to =
-    check (leb max_transitions (length d.transitions)) 5 at (check (ltb high low || (no_state from || no_state to)) 6 at
+    check (leb max_transitions (length d.transitions)) TooMany at (check (ltb high low || (no_state from || no_state to)) OutOfRange at
     (goes (with_transition d (record { from = from; low = low; high = high; to = to }))))
 
 -- the command at `at` of a book of `len` bytes, in the order of checks of document 01
 unfoldable pub apply : Draft → Command → ℕ → ℕ → Verdict
 apply d (RULE tag kind) at len =
-    check (leb max_rules (length d.rules)) 5 at
-    (check (eqb tag 0 || ltb 1 kind) 6 at
-    (check (tagged tag d.rules) 7 at
+    check (leb max_rules (length d.rules)) TooMany at
+    (check (eqb tag 0 || ltb 1 kind) OutOfRange at
+    (check (tagged tag d.rules) TagTaken at
     (goes (opened d tag kind))))
-apply d (Start s) at len = check (no_state s) 6 at (check (is_set d.start) 8 at (goes (with_start d s)))
-apply d (Error s) at len = check (no_state s) 6 at (check (is_set d.error) 8 at (goes (with_error d s)))
-apply d (Final s) at len = check (no_state s) 6 at (goes (with_final d s))
+apply d (Start s) at len = check (no_state s) OutOfRange at (check (is_set d.start) TwiceOrMissing at (goes (with_start d s)))
+apply d (Error s) at len = check (no_state s) OutOfRange at (check (is_set d.error) TwiceOrMissing at (goes (with_error d s)))
+apply d (Final s) at len = check (no_state s) OutOfRange at (goes (with_final d s))
 apply d (Step from byte to) at len = move d at from byte byte to
 apply d (Span from low high to) at len = move d at from low high to
 apply d Close at len =
-    check (is_unset d.start || is_unset d.error) 8 at
-    (check (overlaps d.transitions) 9 at
-    (check (any (λ (t : Transition). eqb t.from (state_of d.error)) d.transitions) 10 at
-    (check (among (state_of d.error) d.finals) 11 at
-    (check (among (state_of d.start) d.finals) 12 at
+    check (is_unset d.start || is_unset d.error) TwiceOrMissing at
+    (check (overlaps d.transitions) Overlap at
+    (check (any (λ (t : Transition). eqb t.from (state_of d.error)) d.transitions) LeavesError at
+    (check (among (state_of d.error) d.finals) ErrorFinal at
+    (check (among (state_of d.start) d.finals) StartFinal at
     (goes (between (d.rules ++ (rule_of d ∷ []))))))))
 apply d End at len =
-    check (is_empty d.rules) 13 at
-    (check (ltb (at + 1) len) 4 (at + 1)
+    check (is_empty d.rules) NoRule at
+    (check (ltb (at + 1) len) BytesAfterEnd (at + 1)
     (accepts d.rules))

@@ -1,5 +1,6 @@
 -- What the layers of the code ask and answer between themselves. Nobody needs to believe it: the operations' contracts do not rest on it.
-use Rattle.std.specs.Prelude.{◌≡◌, Bool, true, false, List, [], ℕ, ◌+◌, ◌<◌, ◌≤◌, length, get_or, set}
+use Rattle.answer.specs.declared.Refusal.{Refusal}
+use Rattle.std.specs.Prelude.{Result, Ok, Err, ◌≡◌, Bool, true, false, List, [], ℕ, ◌+◌, ◌<◌, ◌≤◌, length, get_or, set}
 use Rattle.std.proofs.Math.Option.{Option, none, some}
 use Rattle.automaton.specs.Choice.{All}
 use Rattle.automaton.specs.Rule.{Transition, Rule, overlaps, Ranged, state_count}
@@ -10,7 +11,7 @@ use Rattle.command.specs.declared.Command.{Command}
 use Rattle.command.specs.declared.Command.TheVariants.{Rule as RULE, Start, Error, Final, Step, Span, Close, End}
 use Rattle.book.specs.declared.Book.{Book}
 use Rattle.book.specs.declared.Progress.{Progress}
-use Rattle.book.specs.declared.Progress.TheVariants.{On, Done, Refused, Narrow}
+use Rattle.book.specs.declared.Progress.TheVariants.{On, Done, Narrow}
 use Rattle.book.specs.Limits.{max_rules, max_transitions}
 use Rattle.book.specs.Draft.{Draft, is_set, state_of, tagged, Verdict, goes, accepts, refuses, apply}
 use Rattle.book.specs.Valid.{ValidRules}
@@ -158,30 +159,30 @@ adds Close = 0
 adds End = 0
 
 -- what the code made of a command is what the verdict says, and transitions stand before n
-abbrev pub Follows : Verdict → Progress → List ℕ → List ℕ → ℕ → Type 0
-Follows (goes d) (On b) tb rows n = Represents b tb rows d × (b.edges ≤ n)
-Follows (goes d) (Done k) tb rows n = ⊥
-Follows (goes d) (Refused f) tb rows n = ⊥
-Follows (goes d) Narrow tb rows n = ⊥
-Follows (accepts rules) (On b) tb rows n = ⊥
-Follows (accepts rules) (Done k) tb rows n = (k ≡ length rules) × Holds tb rules
-Follows (accepts rules) (Refused f) tb rows n = ⊥
-Follows (accepts rules) Narrow tb rows n = ⊥
-Follows (refuses number place) (On b) tb rows n = ⊥
-Follows (refuses number place) (Done k) tb rows n = ⊥
-Follows (refuses number place) (Refused f) tb rows n = f ≡ record { number = number; place = place }
-Follows (refuses number place) Narrow tb rows n = ⊥
+abbrev pub Follows : Verdict → Result Progress Refusal → List ℕ → List ℕ → ℕ → Type 0
+Follows (goes d) (Ok (On b)) tb rows n = Represents b tb rows d × (b.edges ≤ n)
+Follows (goes d) (Ok (Done k)) tb rows n = ⊥
+Follows (goes d) (Ok Narrow) tb rows n = ⊥
+Follows (goes d) (Err f) tb rows n = ⊥
+Follows (accepts rules) (Ok (On b)) tb rows n = ⊥
+Follows (accepts rules) (Ok (Done k)) tb rows n = (k ≡ length rules) × Holds tb rules
+Follows (accepts rules) (Ok Narrow) tb rows n = ⊥
+Follows (accepts rules) (Err f) tb rows n = ⊥
+Follows (refuses reason place) (Ok (On b)) tb rows n = ⊥
+Follows (refuses reason place) (Ok (Done k)) tb rows n = ⊥
+Follows (refuses reason place) (Ok Narrow) tb rows n = ⊥
+Follows (refuses reason place) (Err f) tb rows n = f ≡ record { reason = reason; place = place }
 
 -- or it has changed nothing yet, since there is no cell for a state of the command
-abbrev pub Makes : Verdict → Progress → List ℕ → List ℕ → List ℕ → List ℕ → ℕ → Type 0
-Makes v (On b) tb rows tb₁ rows₁ n = Follows v (On b) tb₁ rows₁ n
-Makes v (Done k) tb rows tb₁ rows₁ n = Follows v (Done k) tb₁ rows₁ n
-Makes v (Refused f) tb rows tb₁ rows₁ n = Follows v (Refused f) tb₁ rows₁ n
-Makes v Narrow tb rows tb₁ rows₁ n = (tb₁ ≡ tb) × (rows₁ ≡ rows) × (length rows < state_count)
+abbrev pub Makes : Verdict → Result Progress Refusal → List ℕ → List ℕ → List ℕ → List ℕ → ℕ → Type 0
+Makes v (Ok (On b)) tb rows tb₁ rows₁ n = Follows v (Ok (On b)) tb₁ rows₁ n
+Makes v (Ok (Done k)) tb rows tb₁ rows₁ n = Follows v (Ok (Done k)) tb₁ rows₁ n
+Makes v (Ok Narrow) tb rows tb₁ rows₁ n = (tb₁ ≡ tb) × (rows₁ ≡ rows) × (length rows < state_count)
+Makes v (Err f) tb rows tb₁ rows₁ n = Follows v (Err f) tb₁ rows₁ n
 
 -- Of every draft that b, the table and the cells hold, the code made of the command what `apply` says, and added no more transitions
 -- than the command has. The command stands where it may.
-abbrev pub Takes : Book → Command → ℕ → ℕ → Progress → List ℕ → List ℕ → List ℕ → List ℕ → Type 0
+abbrev pub Takes : Book → Command → ℕ → ℕ → Result Progress Refusal → List ℕ → List ℕ → List ℕ → List ℕ → Type 0
 Takes b c at len r tb rows tb₁ rows₁ =
     (d : Draft) → Represents b tb rows d → d.inside ≡ stands_inside c
     → Makes (apply d c at len) r tb rows tb₁ rows₁ (b.edges + adds c)

@@ -9,9 +9,9 @@ ghost use Rattle.std.specs.Prelude.{◌≡◌, List, ℕ, ◌+◌, ◌<◌, leng
 ghost use Rattle.automaton.specs.Layers.{edge_start};
 ghost use Rattle.book.specs.Limits.{max_rules};
 ghost use Rattle.book.specs.Draft.{no_state};
-ghost use Rattle.book.specs.Layers.{idle, Takes};
+ghost use Rattle.book.specs.Layers.{idle, once, Takes};
 
-use answer::Refusal;
+use answer::{Reason, Refusal};
 use command::Command;
 
 // A book that is being read: how many rules are closed, where the transitions of the open rule begin in the table and the next one
@@ -21,32 +21,21 @@ pub struct Book {
     pub rules: usize,
     pub first: usize,
     pub edges: usize,
-    pub start: u16,
-    pub error: u16,
+    pub start: Option<u16>,
+    pub error: Option<u16>,
     pub tag: u16,
     pub kind: u8,
     pub inside: bool,
-    pub started: bool,
-    pub erring: bool,
     // whether two of its transitions leave one state at one byte
     pub overlap: bool,
 }
 
-// What a command comes to. `Narrow`: nothing yet, since the cells that are lent do not reach a state of the command.
+// What a command comes to that is not refused. `Narrow`: nothing yet, since the cells that are lent do not reach a state of the command.
 #[derive(Clone, Copy)]
 pub enum Progress {
     On(Book),
     Done(usize),
-    Refused(Refusal),
     Narrow,
-}
-
-impl Progress {
-    pub fn refused(number: u8, place: usize) -> Progress
-        ensures { result ≡ Progress.Refused (record { number = number; place = place }) }
-    {
-        Progress::Refused(Refusal { number, place })
-    }
 }
 
 impl Book {
@@ -87,42 +76,26 @@ impl Book {
             inside: false,
             tag: 0,
             kind: 0,
-            started: false,
-            start: 0,
-            erring: false,
-            error: 0,
+            start: None,
+            error: None,
             overlap: false,
         }
     }
 
     // START.
-    pub fn set_start(mut self, s: u16, at: usize) -> Progress
+    pub fn set_start(mut self, s: u16, at: usize) -> Result<Progress, Refusal>
         ensures { (tb rows : List ℕ) (len : ℕ) → Takes self (Command.Start s) at len result tb rows tb rows }
     {
-        if is_no_state(s) {
-            return Progress::refused(Refusal::OUT_OF_RANGE, at);
-        }
-        if self.started {
-            return Progress::refused(Refusal::TWICE_OR_MISSING, at);
-        }
-        self.started = true;
-        self.start = s;
-        Progress::On(self)
+        self.start = Some(set_once(self.start, s, at)?);
+        Ok(Progress::On(self))
     }
 
     // ERROR.
-    pub fn set_error(mut self, s: u16, at: usize) -> Progress
+    pub fn set_error(mut self, s: u16, at: usize) -> Result<Progress, Refusal>
         ensures { (tb rows : List ℕ) (len : ℕ) → Takes self (Command.Error s) at len result tb rows tb rows }
     {
-        if is_no_state(s) {
-            return Progress::refused(Refusal::OUT_OF_RANGE, at);
-        }
-        if self.erring {
-            return Progress::refused(Refusal::TWICE_OR_MISSING, at);
-        }
-        self.erring = true;
-        self.error = s;
-        Progress::On(self)
+        self.error = Some(set_once(self.error, s, at)?);
+        Ok(Progress::On(self))
     }
 
     // What the cells of the open rule's states are stamped with.
@@ -134,34 +107,47 @@ impl Book {
     }
 
     // FINAL.
-    pub fn add_final(self, rows: &mut [u32], s: u16, at: usize) -> Progress
+    pub fn add_final(self, rows: &mut [u32], s: u16, at: usize) -> Result<Progress, Refusal>
         requires { self.rules < max_rules }
         ensures { (tb : List ℕ) (len : ℕ)
             → Takes self (Command.Final s) at len result tb rows.old tb rows.new }
     {
         if is_no_state(s) {
-            return Progress::refused(Refusal::OUT_OF_RANGE, at);
+            return Err(Reason::OutOfRange.at(at));
         }
         if rows.len() <= s as usize {
-            return Progress::Narrow;
+            return Ok(Progress::Narrow);
         }
         table_builder::mark_final(rows, self.stamp(), s as usize);
-        Progress::On(self)
+        Ok(Progress::On(self))
     }
 
     // END; `len` is the book's length.
-    pub fn end(self, at: usize, len: usize) -> Progress
+    pub fn end(self, at: usize, len: usize) -> Result<Progress, Refusal>
         requires { at < len }
         ensures { (tb rows : List ℕ) → Takes self Command.End at len result tb rows tb rows }
     {
         if self.rules == 0 {
-            return Progress::refused(Refusal::NO_RULE, at);
+            return Err(Reason::NoRule.at(at));
         }
         if at + 1 < len {
-            return Progress::refused(Refusal::BYTES_AFTER_END, at + 1);
+            return Err(Reason::BytesAfterEnd.at(at + 1));
         }
-        Progress::Done(self.rules)
+        Ok(Progress::Done(self.rules))
     }
+}
+
+// The state that a rule gives once, as its start or its error state.
+fn set_once(given: Option<u16>, s: u16, at: usize) -> Result<u16, Refusal>
+    ensures { result ≡ once given s at }
+{
+    if is_no_state(s) {
+        return Err(Reason::OutOfRange.at(at));
+    }
+    if given.is_some() {
+        return Err(Reason::TwiceOrMissing.at(at));
+    }
+    Ok(s)
 }
 
 // Whether `s` is above the highest state that a rule may have.

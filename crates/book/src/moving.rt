@@ -8,7 +8,7 @@ ghost use Rattle.book.specs.Draft.{Draft, no_state, move};
 ghost use Rattle.book.specs.Layers.{edge_limit, Inside, Represents, Makes};
 
 use crate::{Book, Progress};
-use answer::Refusal;
+use answer::{Reason, Refusal};
 
 // The paper's move: from one state, at each byte from `low` to `high`, to another.
 #[derive(Clone, Copy)]
@@ -25,7 +25,7 @@ pub fn add_transition(
     rows: &mut [u32],
     step: Move,
     at: usize,
-) -> Progress
+) -> Result<Progress, Refusal>
     requires inside { Inside book table.old rows.old }
     requires edges_in_bounds { (book.edges < length table.old) × (book.edges < edge_limit) }
     ensures { (d : Draft) → Represents book table.old rows.old d → d.inside ≡ true
@@ -34,14 +34,14 @@ pub fn add_transition(
 {
     let end = book.edges;
     if Book::TRANSITIONS <= end - book.first {
-        return Progress::refused(Refusal::TOO_MANY, at);
+        return Err(Reason::TooMany.at(at));
     }
     if is_out_of_range(step) {
-        return Progress::refused(Refusal::OUT_OF_RANGE, at);
+        return Err(Reason::OutOfRange.at(at));
     }
     let from = step.from as usize;
     if rows.len() <= from {
-        return Progress::Narrow;
+        return Ok(Progress::Narrow);
     }
     let stamp = book.stamp();
     let head = table_builder::head(rows, stamp, from);
@@ -49,7 +49,7 @@ pub fn add_transition(
     table_builder::put_edge(table, end, step.low, step.high, head, step.to);
     table_builder::link_state(rows, stamp, from, end);
     book.edges = end + 1;
-    Progress::On(book)
+    Ok(Progress::On(book))
 }
 
 // Whether a number of the move is out of its range.

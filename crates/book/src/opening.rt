@@ -6,32 +6,38 @@ ghost use Rattle.book.specs.Draft.{tagged};
 ghost use Rattle.book.specs.Layers.{Takes};
 
 use crate::{Book, Progress};
-use answer::Refusal;
+use answer::{Reason, Refusal};
 use command::Command;
 
-pub fn open_rule(book: Book, table: &[u64], tag: u16, kind: u8, at: usize) -> Progress
+pub fn open_rule(
+    book: Book,
+    table: &[u64],
+    tag: u16,
+    kind: u8,
+    at: usize,
+) -> Result<Progress, Refusal>
     requires { Held table.now }
     ensures { (rows : List ℕ) (len : ℕ)
         → Takes book (Command.Rule tag kind) at len result table.now rows table.now rows }
 {
     let rules = book.rules;
     if Book::RULES <= rules {
-        return Progress::refused(Refusal::TOO_MANY, at);
+        return Err(Reason::TooMany.at(at));
     }
     if tag == 0 {
-        return Progress::refused(Refusal::OUT_OF_RANGE, at);
+        return Err(Reason::OutOfRange.at(at));
     }
     if 1 < kind {
-        return Progress::refused(Refusal::OUT_OF_RANGE, at);
+        return Err(Reason::OutOfRange.at(at));
     }
     if is_taken(table, tag) {
-        return Progress::refused(Refusal::TAG_TAKEN, at);
+        return Err(Reason::TagTaken.at(at));
     }
     let mut next = Book::between(rules, book.edges);
     next.inside = true;
     next.tag = tag;
     next.kind = kind;
-    Progress::On(next)
+    Ok(Progress::On(next))
 }
 
 // Whether a rule of the table has this tag.
@@ -39,5 +45,5 @@ fn is_taken(table: &[u64], tag: u16) -> bool
     requires { Held table.now }
     ensures { (rs : List Rule) → Holds table.now rs → result ≡ tagged tag rs }
 {
-    automaton::find_tag(table, tag as u64) < automaton::count_of(table)
+    automaton::find_tag(table, tag as u64).is_some()
 }

@@ -2,7 +2,7 @@
 // line for each book.
 #![tactic(auto)]
 
-use answer::BookAnswer;
+use answer::Refusal;
 use std::io;
 use std::io::{Read, Write};
 
@@ -254,17 +254,9 @@ fn answer(rt: &HostRuntime, room: &[u8], from: usize, to: usize) -> io::Result<(
     print(rt, book_reader::read(&room[from..to]))
 }
 
-fn print(rt: &HostRuntime, answer: BookAnswer) -> io::Result<()> {
+fn print(rt: &HostRuntime, answer: Result<usize, Refusal>) -> io::Result<()> {
     match answer {
-        BookAnswer::Accepted(rules) => print_number(rt, ": accepted ", rules as u64)?,
-        BookAnswer::Refused(refusal) => {
-            print_number(rt, ": refused ", refusal.number as u64)?;
-            print_number(rt, " ", refusal.place as u64)?;
-        }
+        Ok(rules) => println!(rt; ": accepted {rules}"),
+        Err(refusal) => println!(rt; ": {refusal}"),
     }
-    println!(rt; "")
-}
-
-fn print_number(rt: &HostRuntime, before: &str, n: u64) -> io::Result<()> {
-    print!(rt; "{before}{n}")
 }

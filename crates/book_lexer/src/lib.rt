@@ -9,12 +9,12 @@ ghost use Rattle.std.specs.Prelude.{◌≡◌};
 ghost use Rattle.lexer.specs.Outcome.{rest_of};
 ghost use Rattle.lexer.specs.Masked.{masked_outcome};
 
-use answer::LexAnswer;
+use answer::{Cut, Refusal};
 
 // Cuts `text` by the rules of a book: the number of tokens and the place of the rest, or the refusal of document 01.
 // A record of each token stands from the start of `records`, and from the start of `masks` the mask of the rules that match just its
 // bytes; every other byte stays as it was.
-pub fn lex(book: &[u8], text: &[u8], records: &mut [u8], masks: &mut [u8]) -> LexAnswer
+pub fn lex(book: &[u8], text: &[u8], records: &mut [u8], masks: &mut [u8]) -> Result<Cut, Refusal>
     ensures value { result ≡ (masked_outcome book.now text.now records.old masks.old).answer }
     ensures records_after { records.new
         ≡ (masked_outcome book.now text.now records.old masks.old).records }

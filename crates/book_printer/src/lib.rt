@@ -8,11 +8,11 @@ mod sizes;
 ghost use Rattle.std.specs.Prelude.{◌≡◌};
 ghost use Rattle.printer.specs.Outcome.{print_outcome};
 
-use answer::PrintAnswer;
+use answer::Refusal;
 
 // Prints the tokens that `records` say with `pool`, by the rules of a book: the number of bytes, which stand at the start of `out`,
 // or the refusal of document 01. Every other byte of `out` stays as it was.
-pub fn print(book: &[u8], records: &[u8], pool: &[u8], out: &mut [u8]) -> PrintAnswer
+pub fn print(book: &[u8], records: &[u8], pool: &[u8], out: &mut [u8]) -> Result<usize, Refusal>
     ensures value { result ≡ (print_outcome book.now records.now pool.now out.old).answer }
     ensures out_after { out.new
         ≡ (print_outcome book.now records.now pool.now out.old).out }

@@ -1,4 +1,8 @@
 -- The answer of `rule`. Assumes nothing.
+use Rattle.answer.specs.declared.RuleName.{RuleName}
+use Rattle.std.specs.Prelude.{Result, Ok, Err}
+use Rattle.answer.specs.declared.Reason.TheVariants.{UnknownTag}
+use Rattle.answer.specs.Answers.{named}
 use mathlib.Core.Path.{◌≡◌, refl, sym, ◌∙◌}
 use mathlib.Core.Bool.{Bool}
 use mathlib.Core.Option.{none, some}
@@ -7,16 +11,12 @@ use Prim.Native.Nat.{ℕ, zero, suc, ◌<◌, ◌≤◌}
 use native.Mathlib.Omega.{arith}
 use lib.ListN.{length}
 use Rattle.answer.specs.declared.Refusal.{Refusal}
-use Rattle.answer.specs.declared.BookAnswer.{BookAnswer}
-use Rattle.answer.specs.declared.RuleAnswer.{RuleAnswer}
 use Rattle.automaton.specs.Rule.{Rule}
 use Rattle.automaton.specs.Layers.{rule_at, Holds}
 use Rattle.book_reader.specs.Rules.{numbered, rule_answer}
 use Rattle.reader.specs.Layers.{LoadedBy}
 use Rattle.book_reader.specs.Layers.{Inspects}
 use Rattle.reader.proofs.Loaded.{loaded_rules, loaded_refusal}
-use Rattle.answer.specs.declared.BookAnswer.TheVariants as book
-use Rattle.answer.specs.declared.RuleAnswer.TheVariants as rule
 
 -- ---- the rule of a number
 
@@ -34,23 +34,23 @@ numbered_none (r ∷ rs) (suc k) l = numbered_none rs k (omega arith)
 
 -- what is answered, by the rules that a table holds and their number
 module _ (rules : List Rule) {index count : ℕ} (all : count ≡ length rules) where
-  pub rule-past : count ≤ index → rule.Refused (record { number = 18; place = count }) ≡ rule_answer (numbered rules index) (length rules)
+  pub rule-past : count ≤ index → Err (record { reason = UnknownTag; place = count }) ≡ rule_answer (numbered rules index) (length rules)
   rule-past l = rw (numbered_none rules index (omega arith), all)
 
   pub rule_told : {tag kind : ℕ} → index < count → tag ≡ (rule_at rules index).tag → kind ≡ (rule_at rules index).kind
-      → rule.Rule tag kind ≡ rule_answer (numbered rules index) (length rules)
+      → named tag kind ≡ rule_answer (numbered rules index) (length rules)
   rule_told l t k = rw (numbered_some rules index (omega arith), t, k)
 
 -- ---- by what was loaded
 
-pub inspects_accepted : {strict : Bool} {bytes tb : List ℕ} {b : BookAnswer} {n : ℕ} → LoadedBy strict bytes b tb → b ≡ book.Accepted n
-    → (index : ℕ) (r : RuleAnswer)
+pub inspects_accepted : {strict : Bool} {bytes tb : List ℕ} {b : Result ℕ Refusal} {n : ℕ} → LoadedBy strict bytes b tb → b ≡ Ok n
+    → (index : ℕ) (r : Result RuleName Refusal)
     → ((rules : List Rule) → Holds tb rules → r ≡ rule_answer (numbered rules index) (length rules))
-    → Inspects strict bytes index (record { rules = book.Accepted n; rule = r })
+    → Inspects strict bytes index (record { rules = Ok n; rule = r })
 inspects_accepted l a index r h =
     let k = loaded_rules l a in
     record { rules = sym a ∙ l.answered; rule = rw k.1.0 (h k.0 k.1.1) }
 
-pub inspects_refused : {strict : Bool} {bytes tb : List ℕ} {b : BookAnswer} {f : Refusal} → LoadedBy strict bytes b tb → b ≡ book.Refused f
-    → (index : ℕ) → Inspects strict bytes index (record { rules = book.Refused f; rule = rule.Refused f })
+pub inspects_refused : {strict : Bool} {bytes tb : List ℕ} {b : Result ℕ Refusal} {f : Refusal} → LoadedBy strict bytes b tb → b ≡ Err f
+    → (index : ℕ) → Inspects strict bytes index (record { rules = Err f; rule = Err f })
 inspects_refused l a index = record { rules = sym a ∙ l.answered; rule = rw (loaded_refusal l a) }

@@ -1,5 +1,6 @@
 // Reading with a table of the size that the book needs, as `book_lexer` has them for cutting (docs/DECISIONS.md, "Sizes by need").
-ghost use Rattle.std.specs.Prelude.{◌≤◌, length};
+ghost use Rattle.std.specs.Prelude.{length};
+ghost use Rattle.reader.specs.Layers.{Suits};
 ghost use Rattle.book_reader.specs.Layers.{Inspects};
 
 use crate::Inspected;
@@ -7,79 +8,23 @@ use crate::Inspected;
 pub fn inspect(strict: bool, book: &[u8], index: usize) -> Inspected
     ensures { Inspects strict book.now index result }
 {
-    let len = book.len();
-    if len <= 1024 {
-        return inspect_1k(strict, book, index);
+    match book.len() {
+        0..=1024 => inspect_in::<322>(strict, book, index),
+        1025..=2048 => inspect_in::<578>(strict, book, index),
+        2049..=4096 => inspect_in::<1090>(strict, book, index),
+        4097..=8192 => inspect_in::<2114>(strict, book, index),
+        8193..=16384 => inspect_in::<4162>(strict, book, index),
+        16385..=32768 => inspect_in::<8258>(strict, book, index),
+        _ => inspect_in::<16450>(strict, book, index),
     }
-    if len <= 2048 {
-        return inspect_2k(strict, book, index);
-    }
-    if len <= 4096 {
-        return inspect_4k(strict, book, index);
-    }
-    if len <= 8192 {
-        return inspect_8k(strict, book, index);
-    }
-    if len <= 16384 {
-        return inspect_16k(strict, book, index);
-    }
-    if len <= 32768 {
-        return inspect_32k(strict, book, index);
-    }
-    inspect_64k(strict, book, index)
 }
 
-fn inspect_1k(strict: bool, book: &[u8], index: usize) -> Inspected
-    requires { length book.now ≤ 1024 }
+// With a table of so many words.
+#[inline(never)]
+fn inspect_in<const WORDS: usize>(strict: bool, book: &[u8], index: usize) -> Inspected
+    requires { Suits (length book.now) WORDS }
     ensures { Inspects strict book.now index result }
 {
-    let mut table = [0u64; 322];
-    crate::inspect_with(strict, book, &mut table, index)
-}
-
-fn inspect_2k(strict: bool, book: &[u8], index: usize) -> Inspected
-    requires { length book.now ≤ 2048 }
-    ensures { Inspects strict book.now index result }
-{
-    let mut table = [0u64; 578];
-    crate::inspect_with(strict, book, &mut table, index)
-}
-
-fn inspect_4k(strict: bool, book: &[u8], index: usize) -> Inspected
-    requires { length book.now ≤ 4096 }
-    ensures { Inspects strict book.now index result }
-{
-    let mut table = [0u64; 1090];
-    crate::inspect_with(strict, book, &mut table, index)
-}
-
-fn inspect_8k(strict: bool, book: &[u8], index: usize) -> Inspected
-    requires { length book.now ≤ 8192 }
-    ensures { Inspects strict book.now index result }
-{
-    let mut table = [0u64; 2114];
-    crate::inspect_with(strict, book, &mut table, index)
-}
-
-fn inspect_16k(strict: bool, book: &[u8], index: usize) -> Inspected
-    requires { length book.now ≤ 16384 }
-    ensures { Inspects strict book.now index result }
-{
-    let mut table = [0u64; 4162];
-    crate::inspect_with(strict, book, &mut table, index)
-}
-
-fn inspect_32k(strict: bool, book: &[u8], index: usize) -> Inspected
-    requires { length book.now ≤ 32768 }
-    ensures { Inspects strict book.now index result }
-{
-    let mut table = [0u64; 8258];
-    crate::inspect_with(strict, book, &mut table, index)
-}
-
-fn inspect_64k(strict: bool, book: &[u8], index: usize) -> Inspected
-    ensures { Inspects strict book.now index result }
-{
-    let mut table = [0u64; 16450];
+    let mut table = [0u64; WORDS];
     crate::inspect_with(strict, book, &mut table, index)
 }

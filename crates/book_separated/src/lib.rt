@@ -8,7 +8,7 @@ mod sizes;
 ghost use Rattle.std.specs.Prelude.{◌≡◌};
 ghost use Rattle.separated.specs.Outcome.{separated_outcome};
 
-use answer::PrintAnswer;
+use answer::Refusal;
 use record::TokenRecord;
 
 // Prints the tokens that `records` say with `pool`, by the rules of a book, with the separator token between neighbours: in mode 1
@@ -21,7 +21,7 @@ pub fn print_separated(
     records: &[u8],
     pool: &[u8],
     out: &mut [u8],
-) -> PrintAnswer
+) -> Result<usize, Refusal>
     ensures value { result
         ≡ (separated_outcome book.now separator mode records.now pool.now out.old).answer }
     ensures out_after { out.new

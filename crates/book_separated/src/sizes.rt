@@ -1,15 +1,14 @@
 // Printing a list with separators: the scratch is small where the list is short, and the table has the size that the book needs, as
 // `book_lexer` has them for cutting (docs/DECISIONS.md, "Sizes by need").
-ghost use Rattle.std.specs.Prelude.{◌≡◌, true, ◌≤◌, length};
-ghost use Rattle.reader.specs.Layers.{Lent};
+ghost use Rattle.std.specs.Prelude.{◌≡◌, true, length};
+ghost use Rattle.reader.specs.Layers.{Lent, Suits};
 ghost use Rattle.output.specs.Layers.{PrintAnswered};
 ghost use Rattle.separated.specs.Outcome.{separated_outcome};
 ghost use Rattle.separated.specs.Layers.{Roomy, Short};
 
-use answer::{BookAnswer, PrintAnswer};
+use answer::Refusal;
 use book::Book;
 use record::TokenRecord;
-use token_list::readback::Extent;
 
 // Whether the tokens of a list lie in the pool and a small scratch has room for them with a separator each.
 pub fn is_short(separator: TokenRecord, records: &[u8], pool: &[u8]) -> bool
@@ -20,8 +19,8 @@ pub fn is_short(separator: TokenRecord, records: &[u8], pool: &[u8]) -> bool
         return false;
     }
     match token_list::readback::measure(records, pool) {
-        Extent::Bytes(total) => total + count * (separator.len as usize) <= Book::SMALL,
-        Extent::Beyond => false,
+        Some(total) => total + count * (separator.len as usize) <= Book::SMALL,
+        None => false,
     }
 }
 
@@ -32,7 +31,7 @@ pub fn print_short(
     records: &[u8],
     pool: &[u8],
     out: &mut [u8],
-) -> PrintAnswer
+) -> Result<usize, Refusal>
     requires { Short separator records.now pool.now }
     ensures { PrintAnswered
         (separated_outcome book.now separator mode records.now pool.now out.old)
@@ -49,7 +48,7 @@ pub fn print_long(
     records: &[u8],
     pool: &[u8],
     out: &mut [u8],
-) -> PrintAnswer
+) -> Result<usize, Refusal>
     ensures { PrintAnswered
         (separated_outcome book.now separator mode records.now pool.now out.old)
         result out.new }
@@ -58,7 +57,7 @@ pub fn print_long(
     print_sized(book, separator, mode, records, pool, &mut scratch, out)
 }
 
-pub fn print_sized(
+fn print_sized(
     book: &[u8],
     separator: TokenRecord,
     mode: u32,
@@ -66,35 +65,26 @@ pub fn print_sized(
     pool: &[u8],
     scratch: &mut [u8],
     out: &mut [u8],
-) -> PrintAnswer
+) -> Result<usize, Refusal>
     requires { Roomy separator mode records.now pool.now scratch.old }
     ensures { PrintAnswered
         (separated_outcome book.now separator mode records.now pool.now out.old)
         result out.new }
 {
-    let len = book.len();
-    if len <= 1024 {
-        return print_1k(book, separator, mode, records, pool, scratch, out);
+    match book.len() {
+        0..=1024 => print_in::<322>(book, separator, mode, records, pool, scratch, out),
+        1025..=2048 => print_in::<578>(book, separator, mode, records, pool, scratch, out),
+        2049..=4096 => print_in::<1090>(book, separator, mode, records, pool, scratch, out),
+        4097..=8192 => print_in::<2114>(book, separator, mode, records, pool, scratch, out),
+        8193..=16384 => print_in::<4162>(book, separator, mode, records, pool, scratch, out),
+        16385..=32768 => print_in::<8258>(book, separator, mode, records, pool, scratch, out),
+        _ => print_in::<16450>(book, separator, mode, records, pool, scratch, out),
     }
-    if len <= 2048 {
-        return print_2k(book, separator, mode, records, pool, scratch, out);
-    }
-    if len <= 4096 {
-        return print_4k(book, separator, mode, records, pool, scratch, out);
-    }
-    if len <= 8192 {
-        return print_8k(book, separator, mode, records, pool, scratch, out);
-    }
-    if len <= 16384 {
-        return print_16k(book, separator, mode, records, pool, scratch, out);
-    }
-    if len <= 32768 {
-        return print_32k(book, separator, mode, records, pool, scratch, out);
-    }
-    print_64k(book, separator, mode, records, pool, scratch, out)
 }
 
-fn print_1k(
+// With a table of so many words.
+#[inline(never)]
+fn print_in<const WORDS: usize>(
     book: &[u8],
     separator: TokenRecord,
     mode: u32,
@@ -102,145 +92,20 @@ fn print_1k(
     pool: &[u8],
     scratch: &mut [u8],
     out: &mut [u8],
-) -> PrintAnswer
-    requires book_len_bound { length book.now ≤ 1024 }
+) -> Result<usize, Refusal>
+    requires suits { Suits (length book.now) WORDS }
     requires roomy { Roomy separator mode records.now pool.now scratch.old }
     ensures { PrintAnswered
         (separated_outcome book.now separator mode records.now pool.now out.old)
         result out.new }
 {
-    let mut table = [0u64; 322];
+    let mut table = [0u64; WORDS];
     print_with(
         book, &mut table, separator, mode, records, pool, scratch, out,
     )
 }
 
-fn print_2k(
-    book: &[u8],
-    separator: TokenRecord,
-    mode: u32,
-    records: &[u8],
-    pool: &[u8],
-    scratch: &mut [u8],
-    out: &mut [u8],
-) -> PrintAnswer
-    requires book_len_bound { length book.now ≤ 2048 }
-    requires roomy { Roomy separator mode records.now pool.now scratch.old }
-    ensures { PrintAnswered
-        (separated_outcome book.now separator mode records.now pool.now out.old)
-        result out.new }
-{
-    let mut table = [0u64; 578];
-    print_with(
-        book, &mut table, separator, mode, records, pool, scratch, out,
-    )
-}
-
-fn print_4k(
-    book: &[u8],
-    separator: TokenRecord,
-    mode: u32,
-    records: &[u8],
-    pool: &[u8],
-    scratch: &mut [u8],
-    out: &mut [u8],
-) -> PrintAnswer
-    requires book_len_bound { length book.now ≤ 4096 }
-    requires roomy { Roomy separator mode records.now pool.now scratch.old }
-    ensures { PrintAnswered
-        (separated_outcome book.now separator mode records.now pool.now out.old)
-        result out.new }
-{
-    let mut table = [0u64; 1090];
-    print_with(
-        book, &mut table, separator, mode, records, pool, scratch, out,
-    )
-}
-
-fn print_8k(
-    book: &[u8],
-    separator: TokenRecord,
-    mode: u32,
-    records: &[u8],
-    pool: &[u8],
-    scratch: &mut [u8],
-    out: &mut [u8],
-) -> PrintAnswer
-    requires book_len_bound { length book.now ≤ 8192 }
-    requires roomy { Roomy separator mode records.now pool.now scratch.old }
-    ensures { PrintAnswered
-        (separated_outcome book.now separator mode records.now pool.now out.old)
-        result out.new }
-{
-    let mut table = [0u64; 2114];
-    print_with(
-        book, &mut table, separator, mode, records, pool, scratch, out,
-    )
-}
-
-fn print_16k(
-    book: &[u8],
-    separator: TokenRecord,
-    mode: u32,
-    records: &[u8],
-    pool: &[u8],
-    scratch: &mut [u8],
-    out: &mut [u8],
-) -> PrintAnswer
-    requires book_len_bound { length book.now ≤ 16384 }
-    requires roomy { Roomy separator mode records.now pool.now scratch.old }
-    ensures { PrintAnswered
-        (separated_outcome book.now separator mode records.now pool.now out.old)
-        result out.new }
-{
-    let mut table = [0u64; 4162];
-    print_with(
-        book, &mut table, separator, mode, records, pool, scratch, out,
-    )
-}
-
-fn print_32k(
-    book: &[u8],
-    separator: TokenRecord,
-    mode: u32,
-    records: &[u8],
-    pool: &[u8],
-    scratch: &mut [u8],
-    out: &mut [u8],
-) -> PrintAnswer
-    requires book_len_bound { length book.now ≤ 32768 }
-    requires roomy { Roomy separator mode records.now pool.now scratch.old }
-    ensures { PrintAnswered
-        (separated_outcome book.now separator mode records.now pool.now out.old)
-        result out.new }
-{
-    let mut table = [0u64; 8258];
-    print_with(
-        book, &mut table, separator, mode, records, pool, scratch, out,
-    )
-}
-
-fn print_64k(
-    book: &[u8],
-    separator: TokenRecord,
-    mode: u32,
-    records: &[u8],
-    pool: &[u8],
-    scratch: &mut [u8],
-    out: &mut [u8],
-) -> PrintAnswer
-    requires { Roomy separator mode records.now pool.now scratch.old }
-    ensures { PrintAnswered
-        (separated_outcome book.now separator mode records.now pool.now out.old)
-        result out.new }
-{
-    let mut table = [0u64; 16450];
-    print_with(
-        book, &mut table, separator, mode, records, pool, scratch, out,
-    )
-}
-
-// With a table for the book's rules and a scratch for what is put together.
+// With a table for the book's rules and a scratch for the list's bytes.
 fn print_with(
     book: &[u8],
     table: &mut [u64],
@@ -250,17 +115,13 @@ fn print_with(
     pool: &[u8],
     scratch: &mut [u8],
     out: &mut [u8],
-) -> PrintAnswer
+) -> Result<usize, Refusal>
     requires lent { Lent (length book.now) table.old }
     requires roomy { Roomy separator mode records.now pool.now scratch.old }
     ensures { PrintAnswered
         (separated_outcome book.now separator mode records.now pool.now out.old)
         result out.new }
 {
-    match reader::load(book, table) {
-        BookAnswer::Accepted(_) => {
-            separated::print_rules(table, separator, mode, records, pool, scratch, out)
-        }
-        BookAnswer::Refused(refusal) => PrintAnswer::Refused(refusal),
-    }
+    reader::load(book, table)?;
+    separated::print_rules(table, separator, mode, records, pool, scratch, out)
 }

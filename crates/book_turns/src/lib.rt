@@ -7,7 +7,7 @@ mod sizes;
 ghost use Rattle.std.specs.Prelude.{◌≡◌};
 ghost use Rattle.turns.specs.Outcome.{turn_outcome};
 
-use answer::TurnAnswer;
+use answer::{Refusal, Turn};
 
 // Cuts `text` from `place` on by the rules of a book, as long as the next reach fits what is left of `budget`: the number of tokens, the
 // next place, the bytes examined, and whether no token begins at the next place; or the refusal.
@@ -20,7 +20,7 @@ pub fn lex_within(
     budget: usize,
     records: &mut [u8],
     masks: &mut [u8],
-) -> TurnAnswer
+) -> Result<Turn, Refusal>
     ensures value { result
         ≡ (turn_outcome book.now text.now place budget records.old masks.old).answer }
     ensures records_after { records.new

@@ -1,11 +1,10 @@
 // A turn with a table of the size that the book needs, as `book_lexer` has them for a whole cut (docs/DECISIONS.md, "Sizes by need").
-ghost use Rattle.std.specs.Prelude.{◌≤◌, ◌<◌, length};
-ghost use Rattle.book.specs.Limits.{max_bytes};
-ghost use Rattle.reader.specs.Layers.{Lent};
+ghost use Rattle.std.specs.Prelude.{length};
+ghost use Rattle.reader.specs.Layers.{Lent, Suits};
 ghost use Rattle.turns.specs.Outcome.{turn_outcome};
 ghost use Rattle.turns.specs.Layers.{TurnAnswered};
 
-use answer::{BookAnswer, Refusal, TurnAnswer};
+use answer::{Reason, Refusal, Turn};
 use book::Book;
 
 pub fn turn_sized(
@@ -15,169 +14,42 @@ pub fn turn_sized(
     budget: usize,
     records: &mut [u8],
     masks: &mut [u8],
-) -> TurnAnswer
+) -> Result<Turn, Refusal>
     ensures { TurnAnswered
         (turn_outcome book.now text.now place budget records.old masks.old) result
         records.new masks.new }
 {
-    let len = book.len();
-    if Book::BYTES < len {
-        return refuse_long(book, text, place, budget, records, masks);
+    if Book::BYTES < book.len() {
+        // a book that is too long needs no table
+        return Err(Reason::BookTooLong.at(0));
     }
-    if len <= 1024 {
-        return turn_1k(book, text, place, budget, records, masks);
+    match book.len() {
+        0..=1024 => turn_in::<322>(book, text, place, budget, records, masks),
+        1025..=2048 => turn_in::<578>(book, text, place, budget, records, masks),
+        2049..=4096 => turn_in::<1090>(book, text, place, budget, records, masks),
+        4097..=8192 => turn_in::<2114>(book, text, place, budget, records, masks),
+        8193..=16384 => turn_in::<4162>(book, text, place, budget, records, masks),
+        16385..=32768 => turn_in::<8258>(book, text, place, budget, records, masks),
+        _ => turn_in::<16450>(book, text, place, budget, records, masks),
     }
-    if len <= 2048 {
-        return turn_2k(book, text, place, budget, records, masks);
-    }
-    if len <= 4096 {
-        return turn_4k(book, text, place, budget, records, masks);
-    }
-    if len <= 8192 {
-        return turn_8k(book, text, place, budget, records, masks);
-    }
-    if len <= 16384 {
-        return turn_16k(book, text, place, budget, records, masks);
-    }
-    if len <= 32768 {
-        return turn_32k(book, text, place, budget, records, masks);
-    }
-    turn_64k(book, text, place, budget, records, masks)
 }
 
-// A book that is too long needs no table.
-fn refuse_long(
-    book: &[u8],
-    text: &[u8],
-    place: usize,
-    budget: usize,
-    records: &[u8],
-    masks: &[u8],
-) -> TurnAnswer
-    requires { max_bytes < length book.now }
-    ensures { TurnAnswered
-        (turn_outcome book.now text.now place budget records.now masks.now) result
-        records.now masks.now }
-{
-    TurnAnswer::refused(Refusal::BOOK_TOO_LONG, 0)
-}
-
-fn turn_1k(
+// With a table of so many words.
+#[inline(never)]
+fn turn_in<const WORDS: usize>(
     book: &[u8],
     text: &[u8],
     place: usize,
     budget: usize,
     records: &mut [u8],
     masks: &mut [u8],
-) -> TurnAnswer
-    requires { length book.now ≤ 1024 }
+) -> Result<Turn, Refusal>
+    requires { Suits (length book.now) WORDS }
     ensures { TurnAnswered
         (turn_outcome book.now text.now place budget records.old masks.old) result
         records.new masks.new }
 {
-    let mut table = [0u64; 322];
-    turn_with(book, &mut table, text, place, budget, records, masks)
-}
-
-fn turn_2k(
-    book: &[u8],
-    text: &[u8],
-    place: usize,
-    budget: usize,
-    records: &mut [u8],
-    masks: &mut [u8],
-) -> TurnAnswer
-    requires { length book.now ≤ 2048 }
-    ensures { TurnAnswered
-        (turn_outcome book.now text.now place budget records.old masks.old) result
-        records.new masks.new }
-{
-    let mut table = [0u64; 578];
-    turn_with(book, &mut table, text, place, budget, records, masks)
-}
-
-fn turn_4k(
-    book: &[u8],
-    text: &[u8],
-    place: usize,
-    budget: usize,
-    records: &mut [u8],
-    masks: &mut [u8],
-) -> TurnAnswer
-    requires { length book.now ≤ 4096 }
-    ensures { TurnAnswered
-        (turn_outcome book.now text.now place budget records.old masks.old) result
-        records.new masks.new }
-{
-    let mut table = [0u64; 1090];
-    turn_with(book, &mut table, text, place, budget, records, masks)
-}
-
-fn turn_8k(
-    book: &[u8],
-    text: &[u8],
-    place: usize,
-    budget: usize,
-    records: &mut [u8],
-    masks: &mut [u8],
-) -> TurnAnswer
-    requires { length book.now ≤ 8192 }
-    ensures { TurnAnswered
-        (turn_outcome book.now text.now place budget records.old masks.old) result
-        records.new masks.new }
-{
-    let mut table = [0u64; 2114];
-    turn_with(book, &mut table, text, place, budget, records, masks)
-}
-
-fn turn_16k(
-    book: &[u8],
-    text: &[u8],
-    place: usize,
-    budget: usize,
-    records: &mut [u8],
-    masks: &mut [u8],
-) -> TurnAnswer
-    requires { length book.now ≤ 16384 }
-    ensures { TurnAnswered
-        (turn_outcome book.now text.now place budget records.old masks.old) result
-        records.new masks.new }
-{
-    let mut table = [0u64; 4162];
-    turn_with(book, &mut table, text, place, budget, records, masks)
-}
-
-fn turn_32k(
-    book: &[u8],
-    text: &[u8],
-    place: usize,
-    budget: usize,
-    records: &mut [u8],
-    masks: &mut [u8],
-) -> TurnAnswer
-    requires { length book.now ≤ 32768 }
-    ensures { TurnAnswered
-        (turn_outcome book.now text.now place budget records.old masks.old) result
-        records.new masks.new }
-{
-    let mut table = [0u64; 8258];
-    turn_with(book, &mut table, text, place, budget, records, masks)
-}
-
-fn turn_64k(
-    book: &[u8],
-    text: &[u8],
-    place: usize,
-    budget: usize,
-    records: &mut [u8],
-    masks: &mut [u8],
-) -> TurnAnswer
-    requires { length book.now ≤ 65536 }
-    ensures { TurnAnswered
-        (turn_outcome book.now text.now place budget records.old masks.old) result
-        records.new masks.new }
-{
-    let mut table = [0u64; 16450];
+    let mut table = [0u64; WORDS];
     turn_with(book, &mut table, text, place, budget, records, masks)
 }
 
@@ -190,16 +62,12 @@ fn turn_with(
     budget: usize,
     records: &mut [u8],
     masks: &mut [u8],
-) -> TurnAnswer
+) -> Result<Turn, Refusal>
     requires { Lent (length book.now) table.old }
     ensures { TurnAnswered
         (turn_outcome book.now text.now place budget records.old masks.old) result
         records.new masks.new }
 {
-    match reader::load(book, table) {
-        BookAnswer::Accepted(_) => turns::by_rules::turn_rules(
-            table, text, place, budget, records, masks,
-        ),
-        BookAnswer::Refused(refusal) => TurnAnswer::Refused(refusal),
-    }
+    reader::load(book, table)?;
+    turns::by_rules::turn_rules(table, text, place, budget, records, masks)
 }

@@ -13,9 +13,8 @@ ghost use Rattle.lexer.specs.Masked.{masked_rules, masked_outcome};
 ghost use Rattle.builtin.specs.Book.{builtin_bytes, builtin_rules};
 ghost use Rattle.builtin.specs.Layers.{Lent, Told};
 
-use answer::{LexAnswer, Refusal};
+use answer::{Cut, Reason, Refusal};
 use book::Book;
-use longest_match::Cut;
 
 // How `text` is cut, with nothing written.
 fn count(classes: &[u8; 256], next: &[u8; 256], text: &[u8]) -> Cut
@@ -85,32 +84,28 @@ fn lex_lent(
     text: &[u8],
     records: &mut [u8],
     masks: &mut [u8],
-) -> LexAnswer
+) -> Result<Cut, Refusal>
     requires lent { Lent classes.now next.now }
     requires told { Told tag_table.now mask_table.now }
     ensures { LexAnswered (masked_rules builtin_rules text.now records.old masks.old) result
         records.new masks.new }
 {
     if Book::TEXT < text.len() {
-        return LexAnswer::refused(Refusal::TEXT_TOO_LONG, 0);
+        return Err(Reason::TextTooLong.at(0));
     }
     let room = record::room(records, masks);
     if room < text.len() {
         let needed = count(classes, next, text).tokens;
         if room < needed {
-            return LexAnswer::refused(Refusal::TOO_FEW_RECORDS, needed);
+            return Err(Reason::TooFewRecords.at(needed));
         }
     }
-    let cut = fill(classes, next, tag_table, mask_table, text, records, masks);
-    LexAnswer::Lexed {
-        tokens: cut.tokens,
-        rest: cut.rest,
-    }
+    Ok(fill(classes, next, tag_table, mask_table, text, records, masks))
 }
 
 // Lexes `text` by the built-in book. Answer, records and masks are those of `book_lexer::lex` with the book's command bytes (document 01,
 // 'The built-in book', sentence 7, its second half).
-pub fn lex_builtin(text: &[u8], records: &mut [u8], masks: &mut [u8]) -> LexAnswer
+pub fn lex_builtin(text: &[u8], records: &mut [u8], masks: &mut [u8]) -> Result<Cut, Refusal>
     ensures value { result ≡ (masked_outcome builtin_bytes text.now records.old masks.old).answer }
     ensures records_after { records.new
         ≡ (masked_outcome builtin_bytes text.now records.old masks.old).records }

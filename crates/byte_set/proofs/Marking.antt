@@ -1,5 +1,5 @@
 -- Marks while they are set, and the search for the lowest. Assumes nothing.
-use mathlib.Core.Path.{◌≡◌, refl, ap, ◌∙◌}
+use mathlib.Core.Path.{◌≡◌, refl, sym, ap}
 use mathlib.Core.Bool.{Bool, true, false, ◌&&◌, ◌||◌}
 use mathlib.Core.Logic.{◌⊎◌, inl, inr}
 use mathlib.Core.Option.{none, some}
@@ -8,12 +8,14 @@ use Prim.Native.Nat.{ℕ, zero, suc, ◌+◌, ◌-◌, ◌≤◌, ◌<◌}
 use native.Mathlib.Omega.{arith}
 use native.Mathlib.Numerals.{add-one}
 use lib.Dec.{leb, eqb}
-use lib.ListN.{length, get_or, set, replicate, length-set}
-use lib.Seq.{get_or-set_same, get_or-set_other}
+use lib.ListN.{length, get_or, replicate}
 use borrow.Author.Tests.{leb-true, leb-false, eqb-true, eqb-false}
 use Rattle.automaton.proofs.Tests.{or_false}
 use Rattle.byte_set.specs.Lowest.{lowest_from}
-use Rattle.byte_set.specs.Layers.{Ranged, some_below}
+use Rattle.automaton.specs.Choice.{if}
+use Rattle.std.specs.Prelude as std
+use Rattle.std.specs.Prelude.{MatchOption}
+use Rattle.byte_set.specs.Layers.{Ranged, some_below, lowest_of}
 
 -- no marks
 pub unmarked : (n x : ℕ) → get_or (replicate n false) x false ≡ false
@@ -27,34 +29,6 @@ pub record Filling (f : ℕ → Bool) (start b : ℕ) (before after : List Bool)
   pub size : length after ≡ 256
   pub inside : (x : ℕ) → start ≤ x → x < b → get_or after x false ≡ f x
   pub outside : (x : ℕ) → (x < start) ⊎ (b ≤ x) → get_or after x false ≡ get_or before x false
-
-pub filling_start : (f : ℕ → Bool) (start : ℕ) (l : List Bool) → length l ≡ 256 → Filling f start start l l
-filling_start f start l n = record { from = omega arith; size = n; inside = λ x p q. absurd (omega arith); outside = λ x p. refl }
-
-module _ {f : ℕ → Bool} {start b : ℕ} {before after : List Bool} (w : Filling f start b before after) where
-  pub filling_next : b < 256 → (v : Bool) → v ≡ f b → Filling f start (b + 1) before (set after b v)
-  filling_next l v e =
-      record {
-        from = omega (arith, w.from);
-        size = simp length-set w.size;
-        inside = λ x p q. go x p q (eqb x b) refl;
-        outside = λ x p. other x (apart x p) ∙ w.outside x (wider x p);
-      }
-    where
-      other : (x : ℕ) → (x ≡ b → ⊥) → get_or (set after b v) x false ≡ get_or after x false
-      other x ne = get_or-set_other after b x v false ne
-
-      apart : (x : ℕ) → (x < start) ⊎ (b + 1 ≤ x) → x ≡ b → ⊥
-      apart x (inl p) z = omega (arith, w.from)
-      apart x (inr p) z = omega arith
-
-      wider : (x : ℕ) → (x < start) ⊎ (b + 1 ≤ x) → (x < start) ⊎ (b ≤ x)
-      wider x (inl p) = inl p
-      wider x (inr p) = inr (omega arith)
-
-      go : (x : ℕ) → start ≤ x → x < b + 1 → (t : Bool) → eqb x b ≡ t → get_or (set after b v) x false ≡ f x
-      go x p q true z = let y = eqb-true x b z in rw (y, get_or-set_same after b v false (omega (arith, w.size))) e
-      go x p q false z = let y = eqb-false x b z in other x y ∙ w.inside x p (omega arith)
 
 -- a range
 pub ranging_end : {low high b : ℕ} {before after : List Bool} → Filling (λ (x : ℕ). true) low b before after → high < b
@@ -71,31 +45,6 @@ ranging_end {low} {high} {before = before} {after} w l m = record { size = w.siz
         let z : high < x = leb-false x high q in
         w.outside x (inr (omega arith))
     go x false p t q = let y : x < low = leb-false low x p in w.outside x (inl y)
-
--- ---- the lowest byte
-
--- none of the first b of n
-pub record Seeking (f : ℕ → Bool) (n b : ℕ) : Type 0 where
-  pub within : b ≤ n
-  pub lowest : lowest_from f 0 n ≡ lowest_from f b (n - b)
-
-pub seeking_start : (f : ℕ → Bool) (n : ℕ) → Seeking f n 0
-seeking_start f n = let q : n ≡ n - 0 = omega arith in record { within = omega arith; lowest = ap (lowest_from f 0) q }
-
-module _ {f : ℕ → Bool} {n b : ℕ} (w : Seeking f n b) where
-  pub seeking_next : b < n → f b ≡ false → Seeking f n (b + 1)
-  unfolding lowest_from
-  seeking_next l e =
-      let q : n - b ≡ suc (n - (b + 1)) = omega arith in
-      record { within = omega arith; lowest = w.lowest ∙ rw (q, e, add-one) }
-
-  pub seeking_found : b < n → f b ≡ true → lowest_from f 0 n ≡ some b
-  unfolding lowest_from
-  seeking_found l e = let q : n - b ≡ suc (n - (b + 1)) = omega arith in w.lowest ∙ rw (q, e)
-
-  pub seeking_end : n ≤ b → lowest_from f 0 n ≡ none
-  unfolding lowest_from
-  seeking_end l = let q : n - b ≡ 0 = omega arith in w.lowest ∙ rw q
 
 -- ---- whether there is one
 
@@ -123,6 +72,22 @@ not_from f b (suc n) h = rw (h b (omega arith), not_from f (suc b) n (λ x l. h 
 
 pub lowest_none : (f : ℕ → Bool) (n : ℕ) → some_below f n ≡ false → lowest_from f 0 n ≡ none
 lowest_none f n e = not_from f 0 n (λ x l. some_not f n e x (omega arith))
+
+-- what `find` answers
+pub lowest_at : (f : ℕ → Bool) (b n i : ℕ) → b ≤ i → i < b + n → f i ≡ true → ((k : ℕ) → b ≤ k → k < i → f k ≡ false) → lowest_from f b n ≡ some i
+unfolding lowest_from
+lowest_at f b zero i l m e h = absurd (omega arith)
+lowest_at f b (suc n) i l m e h = go (eqb b i) refl (λ y. lowest_at f (suc b) n i y (omega arith) e (λ k p r. h k (omega arith) r))
+  where
+    go : (c : Bool) → eqb b i ≡ c → (suc b ≤ i → lowest_from f (suc b) n ≡ some i) → if (f b) (some b) (lowest_from f (suc b) n) ≡ some i
+    go true q ih = let y : b ≡ i = eqb-true b i q in rw (y, e)
+    go false q ih = let y = eqb-false b i q in rw (h b (omega arith) (omega arith)) (ih (omega arith))
+
+pub first_is_lowest : (f : ℕ → Bool) (n : ℕ) (r : std.Option ℕ)
+    → MatchOption r ((k : ℕ) → 0 ≤ k → k < n → f k ≡ false) (λ i. (0 ≤ i) × (i < n) × (f i ≡ true) × ((k : ℕ) → 0 ≤ k → k < i → f k ≡ false))
+    → r ≡ lowest_of (lowest_from f 0 n)
+first_is_lowest f n std.None h = ap lowest_of (sym (not_from f 0 n (λ x l. h x (omega arith) (omega (arith, l)))))
+first_is_lowest f n (std.Some i) h = ap lowest_of (sym (lowest_at f 0 n i h.0 (omega (arith, h.1)) h.2 h.3))
 
 -- it is the same by tests that agree
 pub lowest_same : (f g : ℕ → Bool) (b n : ℕ) → ((i : ℕ) → b ≤ i → i < b + n → f i ≡ g i) → lowest_from f b n ≡ lowest_from g b n

@@ -2,8 +2,7 @@
 use Rattle.std.specs.Prelude.{◌≡◌, Bool, false, ◌&&◌, ◌||◌, List, ℕ, zero, suc, leb, length, get_or}
 use Rattle.std.proofs.Math.Option.{Option, none, some}
 use Rattle.byte_set.specs.declared.ByteSet.{ByteSet}
-use Rattle.byte_set.specs.declared.Lowest.{Lowest}
-use Rattle.byte_set.specs.declared.Lowest.TheVariants as lowest
+use Rattle.std.specs.Prelude as std
 
 -- the byte is marked
 abbrev pub mark : ByteSet → ℕ → Bool
@@ -23,6 +22,7 @@ unfoldable pub some_below : (ℕ → Bool) → ℕ → Bool
 some_below f zero = false
 some_below f (suc n) = some_below f n || f n
 
-abbrev pub lowest_of : Option ℕ → Lowest
-lowest_of none = lowest.Nothing
-lowest_of (some b) = lowest.Byte b
+-- the same as the code writes it
+abbrev pub lowest_of : Option ℕ → std.Option ℕ
+lowest_of none = std.None
+lowest_of (some b) = std.Some b

@@ -10,13 +10,6 @@ pub struct ByteSet {
     pub marks: [bool; 256],
 }
 
-// The lowest byte of a set, if it has one.
-#[derive(Clone, Copy)]
-pub enum Lowest {
-    Byte(usize),
-    Nothing,
-}
-
 impl ByteSet {
     // No byte.
     pub fn empty() -> ByteSet
@@ -31,10 +24,8 @@ impl ByteSet {
     pub fn joined(mut self, other: ByteSet) -> ByteSet
         ensures { (b : ℕ) → b < 256 → mark result b ≡ mark self b || mark other b }
     {
-        let mut b = 0;
-        while b < 256 {
-            self.marks[b] = self.marks[b] | other.marks[b];
-            b += 1;
+        for b in 0..256 {
+            self.marks[b] |= other.marks[b];
         }
         self
     }
@@ -43,10 +34,7 @@ impl ByteSet {
     pub fn joined_where(self, also: bool, other: ByteSet) -> ByteSet
         ensures { (b : ℕ) → b < 256 → mark result b ≡ mark self b || also && mark other b }
     {
-        if also {
-            return self.joined(other);
-        }
-        self
+        if also { self.joined(other) } else { self }
     }
 
     // Whether some byte is in both sets.
@@ -54,38 +42,27 @@ impl ByteSet {
         ensures { result ≡ some_below (λ b. mark self b && mark other b) 256 }
     {
         let mut common = false;
-        let mut b = 0;
-        while b < 256 {
-            common = common | (self.marks[b] & other.marks[b]);
-            b += 1;
+        for b in 0..256 {
+            common |= self.marks[b] & other.marks[b];
         }
         common
     }
 
     // The lowest byte of both sets. Whether there is one is seen sooner than which it is.
-    pub fn lowest_common(self, other: ByteSet) -> Lowest
+    pub fn lowest_common(self, other: ByteSet) -> Option<usize>
         ensures { result ≡ lowest_of (lowest_from (λ b. mark self b && mark other b) 0 256) }
     {
         if self.overlaps(other) {
-            return self.search(other);
+            self.search(other)
+        } else {
+            None
         }
-        Lowest::Nothing
     }
 
-    fn search(self, other: ByteSet) -> Lowest
+    fn search(self, other: ByteSet) -> Option<usize>
         ensures { result ≡ lowest_of (lowest_from (λ b. mark self b && mark other b) 0 256) }
     {
-        let mut b = 0;
-        while b < 256 {
-            let k = b;
-            b += 1;
-            if self.marks[k] {
-                if other.marks[k] {
-                    return Lowest::Byte(k);
-                }
-            }
-        }
-        Lowest::Nothing
+        (0..256).find(|&b| self.marks[b] && other.marks[b])
     }
 }
 
@@ -94,13 +71,12 @@ pub fn mark_range(marks: &mut [bool; 256], low: usize, high: usize)
     requires { (high < 256) × (length marks.old ≡ 256) }
     ensures { Ranged low high marks.old marks.new }
 {
+    // One byte, without a loop.
     if low == high {
         marks[low] = true;
         return;
     }
-    let mut b = low;
-    while b <= high {
+    for b in low..=high {
         marks[b] = true;
-        b += 1;
     }
 }

@@ -1,11 +1,12 @@
 -- The commands of a book, as they stand in its bytes.
-use Rattle.std.specs.Prelude.{Bool, false, not, ◌&&◌, ◌||◌, List, ℕ, ◌+◌, leb, eqb, length, get_or}
+use Rattle.answer.specs.declared.Reason.TheVariants.{CutOff, Misplaced, Retired}
+use Rattle.answer.specs.declared.Reason.{Reason}
+use Rattle.std.specs.Prelude.{Result, Ok, Err, Bool, false, not, ◌&&◌, ◌||◌, List, ℕ, ◌+◌, leb, eqb, length, get_or}
 use Rattle.big_endian.specs.Numbers.{two_at}
 use Rattle.automaton.specs.Choice.{if}
 use Rattle.command.specs.declared.Command.{Command}
 use Rattle.command.specs.declared.Decoded.{Decoded}
 use Rattle.command.specs.declared.Command.TheVariants as command
-use Rattle.command.specs.declared.Decoded.TheVariants as decoded
 
 abbrev pub byte_at : List ℕ → ℕ → ℕ
 byte_at bytes i = get_or bytes i 0
@@ -42,11 +43,14 @@ retired strict code = strict && eqb code 5
 
 -- Refusal 3 comes before 33, and 33 before 2: whether the command may stand here, whether this reading takes it, then whether its
 -- operands are there.
-unfoldable pub command_at : Bool → List ℕ → ℕ → Bool → Decoded
+unfoldable pub command_at : Bool → List ℕ → ℕ → Bool → Result Decoded Reason
 command_at strict bytes at inside =
     if (placed (byte_at bytes at) inside)
-    (if (retired strict (byte_at bytes at)) decoded.Retired
+    (if (retired strict (byte_at bytes at)) (Err Retired)
     (if (leb (at + 1 + operands_of (byte_at bytes at)) (length bytes))
-    (decoded.Command (decode bytes at (byte_at bytes at)) (record { at = at + 1 + operands_of (byte_at bytes at) }))
-    decoded.CutOff))
-    decoded.Misplaced
+    (Ok (record {
+      command = decode bytes at (byte_at bytes at);
+      next = record { at = at + 1 + operands_of (byte_at bytes at) };
+    }))
+    (Err CutOff)))
+    (Err Misplaced)

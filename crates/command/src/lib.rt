@@ -4,6 +4,8 @@
 ghost use Rattle.std.specs.Prelude.{◌≡◌, ◌+◌, ◌≤◌, ◌<◌, length};
 ghost use Rattle.command.specs.Commands.{byte_at, placed, operands_of, decode, retired, command_at};
 
+use answer::Reason;
+
 // A command with its operands, under the names of document 01. A state is given in one byte or in two: the command is the same.
 #[derive(Clone, Copy)]
 pub enum Command {
@@ -36,14 +38,11 @@ impl Command {
     pub const SPAN: u8 = 6;
 }
 
-// What stands at a cursor: a command and the cursor past it, a byte that is no command or not one for this place, a command that
-// the stricter reading does not take, or a command whose operands run past the end.
+// A command that stands at a cursor, and the cursor past it.
 #[derive(Clone, Copy)]
-pub enum Decoded {
-    Command(Command, Cursor),
-    Misplaced,
-    Retired,
-    CutOff,
+pub struct Decoded {
+    pub command: Command,
+    pub next: Cursor,
 }
 
 // A place in a book at which a command begins. Reading hands it back moved.
@@ -59,24 +58,28 @@ impl Cursor {
         Cursor { at: 0 }
     }
 
-    // The command at the cursor; `strict`: in the stricter reading; `inside`: it stands inside a rule.
-    pub fn command(self, strict: bool, book: &[u8], inside: bool) -> Decoded
+    // The command at the cursor; `strict`: in the stricter reading; `inside`: it stands inside a rule. Or why there is none: a byte that is
+    // no command or not one for this place, a command that the stricter reading does not take, or operands that run past the end.
+    pub fn command(self, strict: bool, book: &[u8], inside: bool) -> Result<Decoded, Reason>
         requires { self.at < length book.now }
         ensures { result ≡ command_at strict book.now self.at inside }
     {
         let at = self.at;
         let code = book[at];
         if !is_placed(code, inside) {
-            return Decoded::Misplaced;
+            return Err(Reason::Misplaced);
         }
         if is_retired(strict, code) {
-            return Decoded::Retired;
+            return Err(Reason::Retired);
         }
         let next = at + 1 + operands(code);
         if book.len() < next {
-            return Decoded::CutOff;
+            return Err(Reason::CutOff);
         }
-        Decoded::Command(command_of(book, at, code), Cursor { at: next })
+        Ok(Decoded {
+            command: command_of(book, at, code),
+            next: Cursor { at: next },
+        })
     }
 }
 

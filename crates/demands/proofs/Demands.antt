@@ -1,4 +1,8 @@
 -- A proof of each of the demands. Assumes nothing.
+use Rattle.answer.specs.declared.Cut.{Cut as Counts}
+use Rattle.answer.specs.declared.Refusal.{Refusal}
+use Rattle.std.specs.Prelude.{Result, Ok}
+use Rattle.answer.specs.Answers.{lexed}
 use mathlib.Core.Path.{◌≡◌, refl, sym, ap, ◌∙◌, subst}
 use mathlib.Core.Bool.{Bool, true, false}
 use mathlib.Core.List.{List, [], ◌∷◌}
@@ -7,7 +11,6 @@ use native.Mathlib.Omega.{arith}
 use native.Mathlib.Nat.{mul-le-mul_right}
 use lib.ListN.{length, take, drop}
 use lib.Seq.{take-append_seam}
-use Rattle.answer.specs.declared.LexAnswer.{LexAnswer}
 use borrow.Author.Tests.{leb-false}
 use lib.Dec.{leb}
 use Rattle.automaton.specs.Choice.{any}
@@ -54,8 +57,6 @@ use Rattle.demands.proofs.Gaps.{scattered-tokens, scattered_bytes, separated-put
 use Rattle.demands.proofs.Fewest.{fewest}
 use Rattle.demands.proofs.Forms.{count_in_lem, structs_in_lem, list_in_lem, first_in_lem, past_in_lem, typed_first, typed_past, same_in}
 use Rattle.demands.proofs.Untouched.{cut_leaves, cut_past, print_leaves, print_past, space_leaves}
-use Rattle.answer.specs.declared.LexAnswer.TheVariants as lexed
-use Rattle.answer.specs.declared.PrintAnswer.TheVariants as print
 use Rattle.printer.proofs.RoundTrip as trip
 
 -- ==== demand 1
@@ -104,7 +105,7 @@ module _ (book : List ℕ) (rules : List Rule) (b : Book book rules) where
 
   -- ---- an accepted cut
 
-  module _ {f : Form} {text : List ℕ} {entry exit : Lent f} {n place : ℕ} (c : Cut f book text entry exit (lexed.Lexed n place)) where
+  module _ {f : Form} {text : List ℕ} {entry exit : Lent f} {n place : ℕ} (c : Cut f book text entry exit (lexed n place)) where
     cut : trip.Cut book text (records_in f entry) n place
     cut = lexed_cut book text (records_in f entry) n place (sym c.answers)
 
@@ -127,9 +128,9 @@ module _ (book : List ℕ) (rules : List Rule) (b : Book book rules) where
         rw p (sym (rest-drop rules text))
 
   -- a cut that is not too long, with records enough
-  accepts : {f : Form} {text : List ℕ} {entry exit : Lent f} {r : LexAnswer} → Cut f book text entry exit r
+  accepts : {f : Form} {text : List ℕ} {entry exit : Lent f} {r : Result Counts Refusal} → Cut f book text entry exit r
       → length text ≤ max_text → length (lex rules text).tokens ≤ count_in f entry
-      → r ≡ lexed.Lexed (length (lex rules text).tokens) (length text - length (lex rules text).rest)
+      → r ≡ lexed (length (lex rules text).tokens) (length text - length (lex rules text).rest)
   accepts {f} {text} {entry} {exit} {r} c short enough =
       let e : length (lex rules text).tokens ≤ record_count (records_in f entry) = rw (count_in_lem f entry) enough in
       c.answers ∙ ap (λ (o : LexOutcome). o.answer) (cut_accepts book text (records_in f entry) rules b.reads short e)
@@ -156,8 +157,8 @@ module _ (book : List ℕ) (rules : List Rule) (b : Book book rules) where
 
   -- ---- a call of the plain printer that accepts
 
-  module _ {f : Form} {list : Lent f} {pool entry exit : List ℕ} {n : ℕ} (c : Print f book list pool entry exit (print.Printed n)) where
-    printed : (print_outcome book (records_in f list) pool entry).answer ≡ print.Printed n
+  module _ {f : Form} {list : Lent f} {pool entry exit : List ℕ} {n : ℕ} (c : Print f book list pool entry exit (Ok n)) where
+    printed : (print_outcome book (records_in f list) pool entry).answer ≡ Ok n
     printed = sym c.answers
 
     said : tokens_of (records_in f list) pool ≡ list_in f list pool
@@ -200,8 +201,8 @@ module _ (book : List ℕ) (rules : List Rule) (b : Book book rules) where
       let s = said c in
       let e : length (tokens_of (records_in f list) pool) ≤ record_count (records_in g room) = rw (s, count_in_lem g room) enough in
       let o = output_cut book b.bytes (records_in f list) pool entry n (printed c) (take n exit) (sym (written c)) (records_in g room) e in
-      let a : r ≡ lexed.Lexed (length (list_in f list pool)) (length (take n exit)) = d.answers ∙ o.0 ∙ rw s in
-      let k : Cut g book (take n exit) room stored (lexed.Lexed (length (list_in f list pool)) (length (take n exit))) =
+      let a : r ≡ lexed (length (list_in f list pool)) (length (take n exit)) = d.answers ∙ o.0 ∙ rw s in
+      let k : Cut g book (take n exit) room stored (lexed (length (list_in f list pool)) (length (take n exit))) =
       subst (Cut g book (take n exit) room stored) a d in
       (a, sym (stored_list k) ∙ (rw s at o.1))
 
@@ -227,12 +228,12 @@ module _ (book : List ℕ) (rules : List Rule) (b : Book book rules) where
 
   -- an accepted call
   module _ {sep : TokenRecord} {mode : ℕ} {records pool entry exit : List ℕ} {n : ℕ}
-      (c : Space book sep mode records pool entry exit (print.Printed n)) where
+      (c : Space book sep mode records pool entry exit (Ok n)) where
     unrefused : Unrefused rules sep mode records pool entry × (n ≡ length (spelled rules sep mode records pool))
     unrefused = printed_unrefused book rules b.reads sep mode records pool entry valid.rules_valid.each n (sym c.answers)
 
     spelled-written : take n exit ≡ spelled rules sep mode records pool
-    spelled-written = rw unrefused.1 (spacing_accepts sep mode records pool entry exit (print.Printed n) c unrefused.0).1
+    spelled-written = rw unrefused.1 (spacing_accepts sep mode records pool entry exit (Ok n) c unrefused.0).1
 
     passes : CallPasses rules sep mode records pool
     passes = unrefused_passes valid.rules_valid.each unrefused.0
@@ -277,8 +278,8 @@ module _ (book : List ℕ) (rules : List Rule) (b : Book book rules) where
       let short : length (take n exit) ≤ max_text = rw w (unrefused c).0.not_20 in
       let rest : (lex rules (take n exit)).rest ≡ [] = rw (w, spelled_cut valid.rules_valid (passes c)) in
       let z : length (take n exit) - length (lex rules (take n exit)).rest ≡ length (take n exit) = rw rest (omega arith) in
-      let a : r ≡ lexed.Lexed (length (lex rules (take n exit)).tokens) (length (take n exit)) = accepts d short enough ∙ rw z in
-      let k : Cut g book (take n exit) room stored (lexed.Lexed (length (lex rules (take n exit)).tokens) (length (take n exit))) =
+      let a : r ≡ lexed (length (lex rules (take n exit)).tokens) (length (take n exit)) = accepts d short enough ∙ rw z in
+      let k : Cut g book (take n exit) room stored (lexed (length (lex rules (take n exit)).tokens) (length (take n exit))) =
       subst (Cut g book (take n exit) room stored) a d in (
         a,
         ap (drop_separators rules) (tokens_are k)

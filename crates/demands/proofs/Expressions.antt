@@ -1,4 +1,7 @@
 -- The rules of expressions keep what is asked of them. Assumes nothing.
+use Rattle.answer.specs.declared.Reason.{Reason}
+use Rattle.std.specs.Prelude.{Result, Ok, Err}
+use Rattle.answer.specs.declared.Reason.TheVariants.{NoExpression, OutputTooShort}
 use mathlib.Core.Path.{◌≡◌, refl, sym, ap, subst, ◌∙◌}
 use mathlib.Core.Logic.{◌⊎◌, inl, inr}
 use mathlib.Core.Bool.{Bool, true, false, ◌||◌}
@@ -11,7 +14,6 @@ use lib.ListN.{length, get_or, take, drop}
 use lib.Seq.{take-append_seam}
 use borrow.Author.Tests.{eq-eqb, ne_eqb, eqb-true, eqb-false, lt-ltb, le-ltb, ltb-true, ltb-false}
 use Rattle.answer.specs.declared.Refusal.{Refusal}
-use Rattle.answer.specs.declared.PrintAnswer.{PrintAnswer}
 use Rattle.automaton.specs.Choice.{if, All, among}
 use Rattle.automaton.specs.Rule.{Transition, Rule}
 use Rattle.automaton.proofs.Tests.{clash, all_map, all_append}
@@ -52,7 +54,6 @@ use Rattle.demands.specs.Expressions.{Joined, Commands, ReadAlone, RuleOf, Writt
 use Rattle.demands.specs.Expressions.{CompiledIsRead, CompiledIsSpelled, CompiledMatches, AnySpelling}
 use Rattle.demands.proofs.Untouched.{Keeps, keeps_if, keeps_written, past_accepted}
 use Rattle.demands.specs.Expressions as ends
-use Rattle.answer.specs.declared.PrintAnswer.TheVariants as print
 
 -- ---- the order of the refusals
 
@@ -102,7 +103,7 @@ compile_refusals tag kind text entry exit r k = record {
       (few a e s l m ∙ room (compiled tag kind e) (le-ltb (length entry) (length (compiled tag kind e)) n));
 }
   where
-    answered : {number place : ℕ} → compile_outcome tag kind text entry ≡ print_refused number place entry → r ≡ refused_by number place
+    answered : {reason : Reason} {place : ℕ} → compile_outcome tag kind text entry ≡ print_refused reason place entry → r ≡ refused_by reason place
     answered e = k.answers ∙ ap (λ (o : PrintOutcome). o.answer) e
 
     rule : Asked tag kind text → eqb tag 0 || ltb 1 kind ≡ false
@@ -115,7 +116,7 @@ compile_refusals tag kind text entry exit r k = record {
         → compile_outcome tag kind text entry ≡ written (compiled tag kind e) entry
     few a e s l m = sets_few tag kind text entry (rule a) (fits a) (spells-right text s) (small e l) m
 
-    full : (bytes : List ℕ) → ltb (length entry) (length bytes) ≡ true → written bytes entry ≡ print_refused 22 (length bytes) entry
+    full : (bytes : List ℕ) → ltb (length entry) (length bytes) ≡ true → written bytes entry ≡ print_refused OutputTooShort (length bytes) entry
     full bytes h = rw h
 
     room : (bytes : List ℕ) → ltb (length entry) (length bytes) ≡ false → written bytes entry ≡ print_accepted bytes entry
@@ -193,12 +194,12 @@ unfolding compile_outcome
 compile_leaves tag kind text out = keeps_if out _ _ _ _ (keeps_if out _ _ _ _ (keeps_reading tag kind out (read_expression text)))
 
 -- a refusal by one of these numbers
-abbrev Numbered : List ℕ → PrintAnswer → Type 0
-Numbered numbers (print.Printed n) = Unit {0}
-Numbered numbers (print.Refused f) = among f.number numbers ≡ true
+abbrev Numbered : List ℕ → Result ℕ Refusal → Type 0
+Numbered numbers (Ok n) = Unit {0}
+Numbered numbers (Err f) = among f.number numbers ≡ true
 
-numbered-if : (numbers : List ℕ) (t : Bool) (number place : ℕ) (out : List ℕ) (next : PrintOutcome) → among number numbers ≡ true
-    → Numbered numbers next.answer → Numbered numbers (refused_if t number place out next).answer
+numbered-if : (numbers : List ℕ) (t : Bool) (reason : Reason) (place : ℕ) (out : List ℕ) (next : PrintOutcome) → among number numbers ≡ true
+    → Numbered numbers next.answer → Numbered numbers (refused_if t reason place out next).answer
 unfolding refused_if
 numbered-if numbers true number place out next e n = e
 numbered-if numbers false number place out next e n = n
@@ -236,17 +237,17 @@ pub first_fault_refused : FirstFaultRefused
 first_fault_refused tag kind text entry exit r k a place =
     (λ e. go e (spelled-or_faulty text), λ f. (compile_refusals tag kind text entry exit r k).faulty a place f)
   where
-    go : r ≡ refused_by 30 place → ((e : Expression) × Spells alternatives e text) ⊎ ((p : ℕ) × FirstFault text p) → FirstFault text place
+    go : r ≡ refused_by NoExpression place → ((e : Expression) × Spells alternatives e text) ⊎ ((p : ℕ) × FirstFault text p) → FirstFault text place
     go e (inr (p, f)) =
-        let q : refused_by 30 place ≡ refused_by 30 p = sym e ∙ (compile_refusals tag kind text entry exit r k).faulty a p f in
-        let y : ◌≡◌ {A = Refusal} (record { number = 30; place = place }) (record { number = 30; place = p }) = cc in
+        let q : refused_by NoExpression place ≡ refused_by NoExpression p = sym e ∙ (compile_refusals tag kind text entry exit r k).faulty a p f in
+        let y : ◌≡◌ {A = Refusal} (record { reason = NoExpression; place = place }) (record { reason = NoExpression; place = p }) = cc in
         subst (FirstFault text) (sym (ap (λ (x : Refusal). x.place) y)) f
     go e (inl (x, s)) =
         let o : compile_outcome tag kind text entry ≡ compile_reading tag kind (right x) entry =
         text_read tag kind text entry (right_asked tag kind text a.some_tag a.known_kind)
         (le-ltb max_expression (length text) a.short)
         ∙ ap (λ (y : reading.Reading). compile_reading tag kind y entry) (spells-right text s) in
-        let q : (compile_reading tag kind (right x) entry).answer ≡ refused_by 30 place =
+        let q : (compile_reading tag kind (right x) entry).answer ≡ refused_by NoExpression place =
         sym (ap (λ (y : PrintOutcome). y.answer) o) ∙ sym k.answers ∙ e in
         clash (subst (Numbered (31 ∷ 32 ∷ 22 ∷ [])) q (spelled-numbered (31 ∷ 32 ∷ 22 ∷ []) refl refl refl tag kind x entry)) refl
 
@@ -404,7 +405,7 @@ compiled-matches tag kind text bytes c e s rules h =
     book : List ℕ
     book = book_of bytes
 
-    refuses : {A : Type 0} {number place : ℕ} → read_book book ≡ refused number place → A
+    refuses : {A : Type 0} {reason : Reason} {place : ℕ} → read_book book ≡ refused reason place → A
     refuses q = not_accepted (sym q ∙ h)
 
     by : (a : Bool) → ltb max_bytes (length book) ≡ a → (b : Bool) → ltb max_transitions (length w.spans) ≡ b

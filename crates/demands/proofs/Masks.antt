@@ -1,4 +1,5 @@
 -- Every rule that agreed: a cut with masks is the cut without them, and its masks say what they are to say. Assumes nothing.
+use Rattle.answer.specs.Answers.{lexed}
 use mathlib.Core.Path.{◌≡◌, refl, sym, ap, ◌∙◌, subst}
 use mathlib.Core.Logic.{◌⊎◌, inl, inr}
 use mathlib.Core.Bool.{false}
@@ -31,7 +32,6 @@ use Rattle.demands.specs.Masks.{Agreement, Lowest, Hidden, MasksAgree}
 use Rattle.demands.proofs.Forms.{count_in_lem, same_in, mask_count_in_lem, mask_number_in, past_masks_in, typed_past_masks, same_masks}
 use Rattle.demands.proofs.Untouched.{cut_leaves}
 use Rattle.demands.proofs.Demands.{valid, tokens_are}
-use Rattle.answer.specs.declared.LexAnswer.TheVariants as lexed
 
 -- ---- the cut beside its masks
 
@@ -45,7 +45,7 @@ masked_is_cut f book text entry exit masks after r c enough =
       leaves = c.leaves ∙ s.stores;
     }
   where
-    fits : (n place : ℕ) → (lex_outcome book text (records_in f entry)).answer ≡ lexed.Lexed n place → n ≤ mask_count (mask_bytes_in f masks)
+    fits : (n place : ℕ) → (lex_outcome book text (records_in f entry)).answer ≡ lexed n place → n ≤ mask_count (mask_bytes_in f masks)
     fits n place e =
         let k = lexed_cut book text (records_in f entry) n place e in
         omega (arith, k.count, enough k.rules k.reads, mask_count_in_lem f masks)

@@ -1,4 +1,9 @@
 -- STEP is retired: the stricter reading and rewriting keep what is asked of them. Assumes nothing.
+use Rattle.answer.specs.declared.Cut.{Cut as Counts}
+use Rattle.answer.specs.declared.Refusal.{Refusal}
+use Rattle.answer.specs.declared.RuleName.{RuleName}
+use Rattle.std.specs.Prelude.{Result}
+use Rattle.answer.specs.declared.Reason.TheVariants.{Retired}
 use mathlib.Core.Path.{◌≡◌, refl, sym, ap, subst, ◌∙◌}
 use mathlib.Core.Bool.{true, false}
 use mathlib.Core.List.{List}
@@ -6,10 +11,6 @@ use Prim.Native.Nat.{ℕ, ◌<◌, ◌≤◌}
 use native.Mathlib.Omega.{arith}
 use lib.ListN.{length, take, drop}
 use lib.Seq.{take-append_seam}
-use Rattle.answer.specs.declared.BookAnswer.{BookAnswer}
-use Rattle.answer.specs.declared.RuleAnswer.{RuleAnswer}
-use Rattle.answer.specs.declared.LexAnswer.{LexAnswer}
-use Rattle.answer.specs.declared.PrintAnswer.{PrintAnswer}
 use Rattle.automaton.proofs.Tests.{clash}
 use Rattle.command.specs.Commands.{byte_at}
 use Rattle.book.specs.Limits.{max_bytes}
@@ -56,16 +57,16 @@ strict_refuses_step book place e = go (stricter book)
     go : Stricter book (read_strict book) (read_book book) → (place < length book) × (byte_at book place ≡ 5)
     go (alike s) = clash (book_refused book _ (ap answer (sym s ∙ e))).number_among refl
     go (retires at l b s) =
-        let q : refused 33 place ≡ refused 33 at = sym e ∙ s in
+        let q : refused Retired place ≡ refused Retired at = sym e ∙ s in
         let y : place ≡ at = cc in
         rw y (l, b)
 
 pub strict_refuses_alike : StrictRefusesAlike
 strict_refuses_alike book number place e n = go (stricter book)
   where
-    go : Stricter book (read_strict book) (read_book book) → read_book book ≡ refused number place
+    go : Stricter book (read_strict book) (read_book book) → read_book book ≡ refused reason place
     go (alike s) = sym s ∙ e
-    go (retires at l b s) = let q : refused number place ≡ refused 33 at = sym e ∙ s in absurd (n cc)
+    go (retires at l b s) = let q : refused reason place ≡ refused Retired at = sym e ∙ s in absurd (n cc)
 
 pub refused_strictly : RefusedStrictly
 refused_strictly book r k = (subst (BookWithin strict_numbers) (sym k.answers) (strict_within book)).number_among
@@ -124,14 +125,14 @@ rewrites_the_rules old new w =
 
 -- What a call by one book answers and leaves, a call by another does that is read alike: each outcome asks the book for no more.
 module _ (old new : List ℕ) (e : read_book old ≡ read_book new) where
-  read_over : (r : BookAnswer) → Read false old r → Read false new r
+  read_over : (r : Result ℕ Refusal) → Read false old r → Read false new r
   read_over r k = record { answers = k.answers ∙ ap answer e }
 
-  ask_over : (index : ℕ) (r : RuleAnswer) → Ask old index r → Ask new index r
+  ask_over : (index : ℕ) (r : Result RuleName Refusal) → Ask old index r → Ask new index r
   unfolding rule_outcome
   ask_over index r k = record { answers = k.answers ∙ ap (λ (o : Reading). rule_reading o index) e }
 
-  cut_over : (f : Form) (text : List ℕ) (entry exit : Lent f) (r : LexAnswer) → Cut f old text entry exit r → Cut f new text entry exit r
+  cut_over : (f : Form) (text : List ℕ) (entry exit : Lent f) (r : Result Counts Refusal) → Cut f old text entry exit r → Cut f new text entry exit r
   unfolding lex_outcome
   cut_over f text entry exit r k =
       record {
@@ -141,7 +142,7 @@ module _ (old new : List ℕ) (e : read_book old ≡ read_book new) where
         leaves = k.leaves ∙ ap (λ (o : Reading). (lex_reading o text (records_in f entry)).records) e;
       }
 
-  masked_over : (f : Form) (text : List ℕ) (entry exit : Lent f) (masks after : List ℕ) (r : LexAnswer)
+  masked_over : (f : Form) (text : List ℕ) (entry exit : Lent f) (masks after : List ℕ) (r : Result Counts Refusal)
       → MaskedCut f old text entry exit masks after r → MaskedCut f new text entry exit masks after r
   unfolding masked_outcome
   masked_over f text entry exit masks after r k =
@@ -159,7 +160,7 @@ module _ (old new : List ℕ) (e : read_book old ≡ read_book new) where
   unfolding rest_of
   rest_over text = rw e
 
-  print_over : (f : Form) (list : Lent f) (pool entry exit : List ℕ) (r : PrintAnswer) → Print f old list pool entry exit r
+  print_over : (f : Form) (list : Lent f) (pool entry exit : List ℕ) (r : Result ℕ Refusal) → Print f old list pool entry exit r
       → Print f new list pool entry exit r
   unfolding print_outcome
   print_over f list pool entry exit r k =
@@ -169,7 +170,7 @@ module _ (old new : List ℕ) (e : read_book old ≡ read_book new) where
         leaves = k.leaves ∙ ap (λ (o : Reading). (print_reading o (records_in f list) pool entry).out) e;
       }
 
-  space_over : (sep : TokenRecord) (mode : ℕ) (records pool entry exit : List ℕ) (r : PrintAnswer)
+  space_over : (sep : TokenRecord) (mode : ℕ) (records pool entry exit : List ℕ) (r : Result ℕ Refusal)
       → Space old sep mode records pool entry exit r → Space new sep mode records pool entry exit r
   unfolding separated_outcome
   space_over sep mode records pool entry exit r k =

@@ -1,11 +1,14 @@
 -- Saving between turns: what they have given is printed as the text up to the next place. Assumes nothing.
+use Rattle.answer.specs.declared.Refusal.{Refusal}
+use Rattle.std.specs.Prelude.{Result, Ok}
+use Rattle.answer.specs.declared.Reason.TheVariants.{OutputTooShort}
+use Rattle.answer.specs.Answers.{turned}
 use mathlib.Core.Path.{◌≡◌, refl, sym, ap, ◌∙◌, subst}
 use mathlib.Core.List.{List, [], ◌∷◌, ◌++◌, append_assoc, append-nil}
 use Prim.Native.Nat.{ℕ, ◌+◌, ◌-◌, ◌*◌, ◌<◌, ◌≤◌}
 use native.Mathlib.Omega.{arith}
 use lib.ListN.{length, take, drop, length-append, length-drop}
 use lib.Seq.{length-take-le, take-append-add, take-append-le, take_at}
-use Rattle.answer.specs.declared.PrintAnswer.{PrintAnswer}
 use Rattle.automaton.specs.Choice.{All}
 use Rattle.automaton.specs.Rule.{Rule}
 use Rattle.book.specs.Limits.{max_text}
@@ -30,8 +33,6 @@ use Rattle.demands.proofs.Demands.{valid}
 use Rattle.demands.proofs.Forms.{structs_in_lem, list_in_lem}
 use Rattle.demands.proofs.Turns.{acc, count as turn-count, records_are, list_is, same_long, bounds, ends_at, gives}
 use Rattle.demands.proofs.Turns.{first_tags, turn_is_accepted}
-use Rattle.answer.specs.declared.TurnAnswer.TheVariants as turned
-use Rattle.answer.specs.declared.PrintAnswer.TheVariants as print
 
 module _ (book : List ℕ) (rules : List Rule) (b : Book book rules) where
   -- ---- what turns have given
@@ -92,11 +93,11 @@ module _ (book : List ℕ) (rules : List Rule) (b : Book book rules) where
         printable_written book b.bytes rules b.reads records pool entry n inside s (rw same (printable text ts next h))
         ∙ rw said
 
-    saves : {exit : List ℕ} {r : PrintAnswer} → r ≡ (print_outcome book records pool entry).answer
+    saves : {exit : List ℕ} {r : Result ℕ Refusal} → r ≡ (print_outcome book records pool entry).answer
         → exit ≡ (print_outcome book records pool entry).out → Saves text next entry exit r
     saves a o = record {
       next_within = within text ts next h;
-      accepts = λ l. a ∙ ap (λ (x : PrintOutcome). x.answer) (fits l) ∙ ap print.Printed (sym many);
+      accepts = λ l. a ∙ ap (λ (x : PrintOutcome). x.answer) (fits l) ∙ ap Ok (sym many);
       writes = λ l. o ∙ ap (λ (x : PrintOutcome). x.out) (fits l) ∙ ap (λ (n : ℕ). take next text ++ drop n entry) (sym many);
       needs = λ l. a ∙ ap (λ (x : PrintOutcome). x.answer) (lacks l);
       leaves = λ l. o ∙ ap (λ (x : PrintOutcome). x.out) (lacks l);
@@ -105,7 +106,7 @@ module _ (book : List ℕ) (rules : List Rule) (b : Book book rules) where
         fits : next ≤ length entry → print_outcome book records pool entry ≡ print_accepted (take next text) entry
         fits l = outcome ∙ written-fits (take next text) entry many l
 
-        lacks : length entry < next → print_outcome book records pool entry ≡ print_refused 22 next entry
+        lacks : length entry < next → print_outcome book records pool entry ≡ print_refused OutputTooShort next entry
         lacks l = outcome ∙ written_lacks (take next text) entry many l
 
   pub saved_in_any_form : SavedInAnyForm book rules
@@ -151,7 +152,7 @@ module _ (book : List ℕ) (rules : List Rule) (b : Book book rules) where
     long : length after ≡ length before
 
   module _ {text : List ℕ} {place : ℕ} {t : Taken}
-      (c : Turning book text place t.budget t.entry t.exit t.masks t.after (turned.Turned t.tokens t.next t.examined t.finished)) where
+      (c : Turning book text place t.budget t.entry t.exit t.masks t.after (turned t.tokens t.next t.examined t.finished)) where
     counted : length (list_of t.tokens t.exit text) ≡ t.tokens
     counted = ap length (list_is book rules b c) ∙ sym (turn-count book rules b c)
 

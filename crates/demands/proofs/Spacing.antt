@@ -1,4 +1,5 @@
 -- A call of the spacing printer meets none of its refusals exactly where it passes the checks of crates/separated. Assumes nothing.
+use Rattle.std.specs.Prelude.{Ok}
 use mathlib.Core.Path.{◌≡◌, refl, sym, ◌∙◌, ap}
 use mathlib.Core.Bool.{Bool, true, false, ◌&&◌}
 use mathlib.Core.List.{List}
@@ -26,7 +27,6 @@ use Rattle.output.specs.Outcome.{PrintOutcome, print_accepted}
 use Rattle.separated.specs.Outcome.{separated_reading, separated_outcome}
 use Rattle.demands.specs.Words.{Fit, Unused, Unrefused}
 use Rattle.demands.proofs.Untouched.{past_accepted}
-use Rattle.answer.specs.declared.PrintAnswer.TheVariants as print
 
 -- ---- the parts of a call
 
@@ -97,12 +97,12 @@ module _ (book : List ℕ) (rules : List Rule) (reads : read_book book ≡ accep
   bytes = spelled rules sep mode records pool
 
   -- an accepted call
-  printed_passes : (n : ℕ) → (separated_outcome book sep mode records pool out).answer ≡ print.Printed n
+  printed_passes : (n : ℕ) → (separated_outcome book sep mode records pool out).answer ≡ Ok n
       → CallPasses rules sep mode records pool × (length bytes ≤ max_text) × (length bytes ≤ length out) × (n ≡ length bytes)
   printed_passes n e =
       let (p, short, room) = accepted_passes rules sep mode records pool book out reads e in
       let o = passes_accepted rules sep mode records pool book out reads p short room in
-      let q : print.Printed n ≡ print.Printed (length bytes) = sym e ∙ ap (λ (x : PrintOutcome). x.answer) o in
+      let q : Ok n ≡ Ok (length bytes) = sym e ∙ ap (λ (x : PrintOutcome). x.answer) o in
       (p, short, room, cc)
 
   module _ (valid : All ValidRule rules) where
@@ -111,21 +111,21 @@ module _ (book : List ℕ) (rules : List Rule) (reads : read_book book ≡ accep
     unrefused_outcome u =
         passes_accepted rules sep mode records pool book out reads (unrefused_passes valid u) u.not_20 u.not_22
 
-    pub printed_unrefused : (n : ℕ) → (separated_outcome book sep mode records pool out).answer ≡ print.Printed n
+    pub printed_unrefused : (n : ℕ) → (separated_outcome book sep mode records pool out).answer ≡ Ok n
         → Unrefused rules sep mode records pool out × (n ≡ length bytes)
     printed_unrefused n e = let (p, short, room, long) = printed_passes n e in (passes_unrefused valid p short room, long)
 
 -- ---- accepted calls
 
 module _ (book : List ℕ) (sep : TokenRecord) (mode : ℕ) (records pool out : List ℕ) (n : ℕ)
-    (e : (separated_outcome book sep mode records pool out).answer ≡ print.Printed n) where
+    (e : (separated_outcome book sep mode records pool out).answer ≡ Ok n) where
   accepted_book : (rules : List Rule) × (read_book book ≡ accepted rules)
   unfolding separated_outcome
   accepted_book = go (read_book book) refl
     where
       go : (o : Reading) → read_book book ≡ o → (rules : List Rule) × (read_book book ≡ accepted rules)
-      go (refused number place) q =
-          let z : (separated_reading (refused number place) sep mode records pool out).answer ≡ print.Printed n = rw q at e in
+      go (refused reason place) q =
+          let z : (separated_reading (refused reason place) sep mode records pool out).answer ≡ Ok n = rw q at e in
           let y : ◌≡◌ {A = ℕ} 0 1 = cc in
           absurd (omega arith)
       go (accepted rules) q = (rules, q)
@@ -140,8 +140,8 @@ module _ (book : List ℕ) (sep : TokenRecord) (mode : ℕ) (records pool out : 
 
 -- a call that is accepted in mode 1, in another mode
 pub most_outcome : (book : List ℕ) (sep : TokenRecord) (records pool out : List ℕ) (n : ℕ)
-    → (separated_outcome book sep 1 records pool out).answer ≡ print.Printed n
-    → (mode : ℕ) → mode ≤ 2 → (m : ℕ) × ((separated_outcome book sep mode records pool out).answer ≡ print.Printed m) × (m ≤ n)
+    → (separated_outcome book sep 1 records pool out).answer ≡ Ok n
+    → (mode : ℕ) → mode ≤ 2 → (m : ℕ) × ((separated_outcome book sep mode records pool out).answer ≡ Ok m) × (m ≤ n)
 most_outcome book sep records pool out n e mode known =
     let (rules, reads) = accepted_book book sep 1 records pool out n e in
     let (p, short, room, long) = printed_passes book rules reads sep 1 records pool out n e in

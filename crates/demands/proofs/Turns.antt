@@ -1,4 +1,7 @@
 -- Cutting in turns: what the calls say, and that turns repeated to the finish are the single cut. Assumes nothing.
+use Rattle.std.specs.Prelude.{Err}
+use Rattle.answer.specs.declared.Reason.TheVariants.{PastTheText, TextTooLong, TooFewRecords}
+use Rattle.answer.specs.Answers.{lexed, turned}
 use mathlib.Core.Path.{◌≡◌, refl, sym, ap, ◌∙◌, subst}
 use mathlib.Core.Logic.{◌⊎◌, inl, inr}
 use mathlib.Core.Bool.{Bool, true, false}
@@ -46,8 +49,6 @@ use Rattle.demands.specs.Turns.{given, agreed, TurnsBegin, TurnsAreLongestMatch,
 use Rattle.demands.proofs.LongestMatch.{lex-longest}
 use Rattle.demands.proofs.Demands.{valid, tokens_are}
 use Rattle.demands.proofs.Masks.{accepted_is_cut}
-use Rattle.answer.specs.declared.LexAnswer.TheVariants as lexed
-use Rattle.answer.specs.declared.TurnAnswer.TheVariants as turned
 use Rattle.printer.proofs.RoundTrip as trip
 
 -- ---- the reach
@@ -73,26 +74,26 @@ module _ (book text : List ℕ) (place budget : ℕ) (entry masks : List ℕ) wh
   outcome = turn_outcome book text place budget entry masks
 
   -- refused, it leaves what it was lent
-  leaves : (r : Refusal) → outcome.answer ≡ turned.Refused r → (outcome.records ≡ entry) × (outcome.masks ≡ masks)
+  leaves : (r : Refusal) → outcome.answer ≡ Err r → (outcome.records ≡ entry) × (outcome.masks ≡ masks)
   unfolding turn_outcome turn_rules
   leaves r e = go (read_book book) e
     where
       by_rules : (rules : List Rule) (long past few : Bool)
-          → (if long (turn_refused 14 0 entry masks) (if past (turn_refused 27 0 entry masks)
-          (if few (turn_refused 15 (length (turn rules (drop place text) budget).tokens) entry masks)
-          (turn_accepted rules (turn rules (drop place text) budget) text place entry masks)))).answer ≡ turned.Refused r
-          → ((if long (turn_refused 14 0 entry masks) (if past (turn_refused 27 0 entry masks)
-          (if few (turn_refused 15 (length (turn rules (drop place text) budget).tokens) entry masks)
+          → (if long (turn_refused TextTooLong 0 entry masks) (if past (turn_refused PastTheText 0 entry masks)
+          (if few (turn_refused TooFewRecords (length (turn rules (drop place text) budget).tokens) entry masks)
+          (turn_accepted rules (turn rules (drop place text) budget) text place entry masks)))).answer ≡ Err r
+          → ((if long (turn_refused TextTooLong 0 entry masks) (if past (turn_refused PastTheText 0 entry masks)
+          (if few (turn_refused TooFewRecords (length (turn rules (drop place text) budget).tokens) entry masks)
           (turn_accepted rules (turn rules (drop place text) budget) text place entry masks)))).records ≡ entry)
-          × ((if long (turn_refused 14 0 entry masks) (if past (turn_refused 27 0 entry masks)
-          (if few (turn_refused 15 (length (turn rules (drop place text) budget).tokens) entry masks)
+          × ((if long (turn_refused TextTooLong 0 entry masks) (if past (turn_refused PastTheText 0 entry masks)
+          (if few (turn_refused TooFewRecords (length (turn rules (drop place text) budget).tokens) entry masks)
           (turn_accepted rules (turn rules (drop place text) budget) text place entry masks)))).masks ≡ masks)
       by_rules rules true past few q = (refl, refl)
       by_rules rules false true few q = (refl, refl)
       by_rules rules false false true q = (refl, refl)
       by_rules rules false false false q = let y : ◌≡◌ {A = ℕ} 0 1 = cc in absurd (omega arith)
 
-      go : (o : Reading) → (turn_reading o text place budget entry masks).answer ≡ turned.Refused r
+      go : (o : Reading) → (turn_reading o text place budget entry masks).answer ≡ Err r
           → ((turn_reading o text place budget entry masks).records ≡ entry)
           × ((turn_reading o text place budget entry masks).masks ≡ masks)
       go (refused number at) q = (refl, refl)
@@ -123,17 +124,17 @@ module _ (book text : List ℕ) (place budget : ℕ) (entry masks : List ℕ) wh
   unfolding turn_outcome turn_rules
   accepts rules e l p m = rw (e, le-ltb _ _ l, le-ltb _ _ p, le-ltb _ _ m)
 
-  taken : (n next examined : ℕ) (finished : Bool) → outcome.answer ≡ turned.Turned n next examined finished
+  taken : (n next examined : ℕ) (finished : Bool) → outcome.answer ≡ turned n next examined finished
       → Accepted n next examined finished
   unfolding turn_outcome turn_rules
   taken n next examined finished e = go (read_book book) refl e
     where
       passed : (rules : List Rule) (long : Bool) → ltb max_text (length text) ≡ long → (past : Bool) → ltb (length text) place ≡ past
           → (few : Bool) → ltb (room_in entry masks) (length (turn rules (drop place text) budget).tokens) ≡ few
-          → (if long (turn_refused 14 0 entry masks) (if past (turn_refused 27 0 entry masks)
-          (if few (turn_refused 15 (length (turn rules (drop place text) budget).tokens) entry masks)
+          → (if long (turn_refused TextTooLong 0 entry masks) (if past (turn_refused PastTheText 0 entry masks)
+          (if few (turn_refused TooFewRecords (length (turn rules (drop place text) budget).tokens) entry masks)
           (turn_accepted rules (turn rules (drop place text) budget) text place entry masks)))).answer
-          ≡ turned.Turned n next examined finished
+          ≡ turned n next examined finished
           → (long ≡ false) × (past ≡ false) × (few ≡ false)
       passed rules true a past b few d q = let y : ◌≡◌ {A = ℕ} 0 1 = cc in absurd (omega arith)
       passed rules false a true b few d q = let y : ◌≡◌ {A = ℕ} 0 1 = cc in absurd (omega arith)
@@ -141,7 +142,7 @@ module _ (book text : List ℕ) (place budget : ℕ) (entry masks : List ℕ) wh
       passed rules false a false b false d q = (refl, refl, refl)
 
       go : (o : Reading) → read_book book ≡ o
-          → (turn_reading o text place budget entry masks).answer ≡ turned.Turned n next examined finished
+          → (turn_reading o text place budget entry masks).answer ≡ turned n next examined finished
           → Accepted n next examined finished
       go (refused number at) r q = let y : ◌≡◌ {A = ℕ} 0 1 = cc in absurd (omega arith)
       go (accepted rules) r q =
@@ -151,7 +152,7 @@ module _ (book text : List ℕ) (place budget : ℕ) (entry masks : List ℕ) wh
           let i : place ≤ length text = ltb-false _ _ p.1 in
           let m : length (turn rules (drop place text) budget).tokens ≤ room_in entry masks = ltb-false _ _ p.2 in
           let o = accepts rules r l i m in
-          let a : turned.Turned n next examined finished
+          let a : turned n next examined finished
           ≡ (turn_accepted rules (turn rules (drop place text) budget) text place entry masks).answer =
           sym e ∙ ap (λ (x : TurnOutcome). x.answer) o in
           record {
@@ -260,7 +261,7 @@ module _ (book : List ℕ) (rules : List Rule) (b : Book book rules) where
       (all_map ValidRule _ (λ r h. h.tag_below) rules (valid book rules b).rules_valid.each) text))
 
   module _ {text : List ℕ} {place budget : ℕ} {entry exit masks after : List ℕ} {n next examined : ℕ} {finished : Bool}
-      (c : Turning book text place budget entry exit masks after (turned.Turned n next examined finished)) where
+      (c : Turning book text place budget entry exit masks after (turned n next examined finished)) where
     pub acc : Accepted book text place budget entry masks n next examined finished
     acc = taken book text place budget entry masks n next examined finished (sym c.answers)
 
@@ -409,7 +410,7 @@ module _ (book : List ℕ) (rules : List Rule) (b : Book book rules) where
           (length_mask_bytes (masks_of rules small.tokens) ∙ ap (λ (x : ℕ). 4 * x) (length-map small.tokens _ ∙ sym (count c)))
           ∙ sym (masks_are c)
 
-      settled : finished ≡ true → turned.Turned n₁ next₁ examined₁ finished₁ ≡ turned.Turned n next examined finished
+      settled : finished ≡ true → turned n₁ next₁ examined₁ finished₁ ≡ turned n next examined finished
       settled e =
           let q : large ≡ small = extended.settled (sym (finished_is c) ∙ e) in
           let a : n₁ ≡ n = count c₁ ∙ ap (λ (t : Turn). length t.tokens) q ∙ sym (count c) in
@@ -517,7 +518,7 @@ module _ (book : List ℕ) (rules : List Rule) (b : Book book rules) where
     ends,
   )
     where
-      cut : Cut f book text entry exit (lexed.Lexed n place)
+      cut : Cut f book text entry exit (lexed n place)
       cut = accepted_is_cut f book text entry exit masks after n place c
 
       by_rules : trip.Cut book text (records_in f entry) n place

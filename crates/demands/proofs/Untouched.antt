@@ -1,4 +1,7 @@
 -- What stands in the lent buffers: after a refusal what stood there before, and past the count of an accepted call too. Assumes nothing.
+use Rattle.answer.specs.declared.Reason.{Reason}
+use Rattle.std.specs.Prelude.{Ok, Err}
+use Rattle.answer.specs.declared.Reason.TheVariants.{TextTooLong, TooFewRecords}
 use mathlib.Core.Path.{◌≡◌, refl, sym, ◌∙◌, ap}
 use mathlib.Core.Bool.{Bool, true, false}
 use mathlib.Core.Option.{Option, none, some}
@@ -27,24 +30,22 @@ use Rattle.printer.proofs.Accepting.{printed_accepts}
 use Rattle.printer.proofs.RoundTrip.{Cut}
 use Rattle.spacing.specs.Separators.{spelled}
 use Rattle.separated.specs.Outcome.{separated_rules, separated_reading, separated_outcome}
-use Rattle.answer.specs.declared.LexAnswer.TheVariants as lexed
-use Rattle.answer.specs.declared.PrintAnswer.TheVariants as print
 
 -- ---- the cut
 
 module _ (text records : List ℕ) where
   abbrev Leaves : LexOutcome → Type 0
-  Leaves o = (r : Refusal) → o.answer ≡ lexed.Refused r → o.records ≡ records
+  Leaves o = (r : Refusal) → o.answer ≡ Err r → o.records ≡ records
 
   leaves_reading : (o : Reading) → Leaves (lex_reading o text records)
   unfolding lex_rules
-  leaves_reading (refused number place) r e = refl
+  leaves_reading (refused reason place) r e = refl
   leaves_reading (accepted rules) r e = go (ltb max_text (length text)) (ltb (record_count records) count) r e
     where
       count : ℕ
       count = length (lex rules text).tokens
 
-      go : (b c : Bool) → Leaves (if b (lex_refused 14 0 records) (if c (lex_refused 15 count records)
+      go : (b c : Bool) → Leaves (if b (lex_refused TextTooLong 0 records) (if c (lex_refused TooFewRecords count records)
           (lex_accepted (lex rules text) text records)))
       go true c r z = refl
       go false true r z = refl
@@ -65,10 +66,10 @@ module _ (text records : List ℕ) where
 -- ---- the printers, and rewriting
 
 abbrev pub Keeps : List ℕ → PrintOutcome → Type 0
-Keeps out o = (r : Refusal) → o.answer ≡ print.Refused r → o.out ≡ out
+Keeps out o = (r : Refusal) → o.answer ≡ Err r → o.out ≡ out
 
 module _ (out : List ℕ) where
-  pub keeps_if : (t : Bool) (number place : ℕ) (next : PrintOutcome) → Keeps out next → Keeps out (refused_if t number place out next)
+  pub keeps_if : (t : Bool) (reason : Reason) (place : ℕ) (next : PrintOutcome) → Keeps out next → Keeps out (refused_if t reason place out next)
   unfolding refused_if
   keeps_if true number place next h r e = refl
   keeps_if false number place next h r e = h r e
@@ -93,20 +94,20 @@ module _ (out : List ℕ) where
 
   module _ (book : List ℕ) where
     keeps_rewrite : (o : Reading) → Keeps out (rewrite_reading o book out)
-    keeps_rewrite (refused number place) = λ r e. refl
+    keeps_rewrite (refused reason place) = λ r e. refl
     keeps_rewrite (accepted rules) = keeps_up_to max_bytes 1 (rewritten book)
 
     pub rewrite_leaves : Keeps out (rewrite_outcome book out)
     unfolding rewrite_outcome
     rewrite_leaves = keeps_rewrite (read_book book)
 
-    pub rewrite_past : (n : ℕ) → (rewrite_outcome book out).answer ≡ print.Printed n → drop n (rewrite_outcome book out).out ≡ drop n out
+    pub rewrite_past : (n : ℕ) → (rewrite_outcome book out).answer ≡ Ok n → drop n (rewrite_outcome book out).out ≡ drop n out
     rewrite_past n e = let a = rewrite_accepts book out n e in past_accepted _ (rewritten book) n a.count a.outcome
 
   module _ (records pool : List ℕ) where
     keeps_print : (o : Reading) → Keeps out (print_reading o records pool out)
     unfolding print_rules print_checked
-    keeps_print (refused number place) = λ r e. refl
+    keeps_print (refused reason place) = λ r e. refl
     keeps_print (accepted rules) =
         keeps_if _ _ _ _ (keeps_unless _ _ (keeps_if _ _ _ _ (keeps_unless _ _ (keeps_written (join (tokens_of records pool))))))
 
@@ -114,7 +115,7 @@ module _ (out : List ℕ) where
     unfolding print_outcome
     print_leaves book = keeps_print (read_book book)
 
-    pub print_past : (book : List ℕ) (n : ℕ) → (print_outcome book records pool out).answer ≡ print.Printed n
+    pub print_past : (book : List ℕ) (n : ℕ) → (print_outcome book records pool out).answer ≡ Ok n
         → drop n (print_outcome book records pool out).out ≡ drop n out
     print_past book n e =
         let a = printed_accepts book records pool out n e in
@@ -123,7 +124,7 @@ module _ (out : List ℕ) where
     module _ (sep : TokenRecord) (mode : ℕ) where
       keeps_space : (o : Reading) → Keeps out (separated_reading o sep mode records pool out)
       unfolding separated_rules
-      keeps_space (refused number place) = λ r e. refl
+      keeps_space (refused reason place) = λ r e. refl
       keeps_space (accepted rules) =
           keeps_unless _ _ (keeps_up_to max_text 20 (spelled rules sep mode records pool))
 

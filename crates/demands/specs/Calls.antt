@@ -1,10 +1,10 @@
 -- How a token list is lent, and what a call answers and leaves: what the contracts of the operations say of it, and no more.
+use Rattle.answer.specs.declared.Cut.{Cut as Counts}
+use Rattle.answer.specs.declared.Refusal.{Refusal}
+use Rattle.answer.specs.declared.RuleName.{RuleName}
+use Rattle.answer.specs.declared.Turn.{Turn}
+use Rattle.std.specs.Prelude.{Result}
 use Rattle.std.specs.Prelude.{◌≡◌, Bool, List, ℕ, ◌*◌, length, get_or, take, drop}
-use Rattle.answer.specs.declared.BookAnswer.{BookAnswer}
-use Rattle.answer.specs.declared.RuleAnswer.{RuleAnswer}
-use Rattle.answer.specs.declared.LexAnswer.{LexAnswer}
-use Rattle.answer.specs.declared.TurnAnswer.{TurnAnswer}
-use Rattle.answer.specs.declared.PrintAnswer.{PrintAnswer}
 use Rattle.automaton.specs.Choice.{All}
 use Rattle.reader.specs.Reading.{read_by, answer}
 use Rattle.book_reader.specs.Rules.{rule_outcome}
@@ -98,26 +98,26 @@ past_masks slice n m = drop n m
 
 -- A call of a reading, the ordinary or the stricter one, and of asking for a rule by its number, as `book_reader::read` and
 -- `book_reader::read_strict`, and `book_reader::rule`, ensure them.
-pub record Read (strict : Bool) (book : List ℕ) (r : BookAnswer) : Type 0 where
+pub record Read (strict : Bool) (book : List ℕ) (r : Result ℕ Refusal) : Type 0 where
   pub answers : r ≡ answer (read_by strict book)
 
-pub record Ask (book : List ℕ) (index : ℕ) (r : RuleAnswer) : Type 0 where
+pub record Ask (book : List ℕ) (index : ℕ) (r : Result RuleName Refusal) : Type 0 where
   pub answers : r ≡ rule_outcome book index
 
 -- A call of rewriting: the output before and after it, and the answer, as `rewriting::rewrite` ensures it.
-pub record Rewrite (book entry exit : List ℕ) (r : PrintAnswer) : Type 0 where
+pub record Rewrite (book entry exit : List ℕ) (r : Result ℕ Refusal) : Type 0 where
   pub answers : r ≡ (rewrite_outcome book entry).answer
   pub leaves : exit ≡ (rewrite_outcome book entry).out
 
 -- A call that makes a rule of an expression, for a tag and a kind: the output before and after it, and the answer, as `expression_rule::compile`
 -- ensures it (document 02, wish 9).
-pub record Compile (tag kind : ℕ) (text entry exit : List ℕ) (r : PrintAnswer) : Type 0 where
+pub record Compile (tag kind : ℕ) (text entry exit : List ℕ) (r : Result ℕ Refusal) : Type 0 where
   pub answers : r ≡ (compile_outcome tag kind text entry).answer
   pub leaves : exit ≡ (compile_outcome tag kind text entry).out
 
 -- A call of the cut, masks aside: the records lent before and after it, and its answer. Each call with masks (`MaskedCut`) is one, unless
 -- it has fewer masks than tokens (Masks.antt).
-pub record Cut (f : Form) (book text : List ℕ) (entry exit : Lent f) (r : LexAnswer) : Type 0 where
+pub record Cut (f : Form) (book text : List ℕ) (entry exit : Lent f) (r : Result Counts Refusal) : Type 0 where
   pub entry_typed : Typed f entry
   pub exit_typed : Typed f exit
   pub answers : r ≡ (lex_outcome book text (records_in f entry)).answer
@@ -125,7 +125,7 @@ pub record Cut (f : Form) (book text : List ℕ) (entry exit : Lent f) (r : LexA
 
 -- A call of the cut with the masks before and after it (document 02, wish 11). This is what `book_lexer::lex` (bytes), `slices::lex_tokens`
 -- (slice) and, with the bytes of the built-in book, `builtin::lex_builtin` (bytes) ensure.
-pub record MaskedCut (f : Form) (book text : List ℕ) (entry exit : Lent f) (masks after : List ℕ) (r : LexAnswer) : Type 0 where
+pub record MaskedCut (f : Form) (book text : List ℕ) (entry exit : Lent f) (masks after : List ℕ) (r : Result Counts Refusal) : Type 0 where
   pub entry_typed : Typed f entry
   pub exit_typed : Typed f exit
   pub masks_typed : TypedMasks f masks
@@ -136,19 +136,19 @@ pub record MaskedCut (f : Form) (book text : List ℕ) (entry exit : Lent f) (ma
 
 -- A call of a turn with a place and a budget: the records and the masks lent before and after it, and its answer (document 02, wish 1).
 -- This is what `book_turns::lex_within` ensures.
-pub record Turning (book text : List ℕ) (place budget : ℕ) (entry exit masks after : List ℕ) (r : TurnAnswer) : Type 0 where
+pub record Turning (book text : List ℕ) (place budget : ℕ) (entry exit masks after : List ℕ) (r : Result Turn Refusal) : Type 0 where
   pub answers : r ≡ (turn_outcome book text place budget entry masks).answer
   pub leaves : exit ≡ (turn_outcome book text place budget entry masks).records
   pub leaves_masks : after ≡ (turn_outcome book text place budget entry masks).masks
 
 -- A call of the plain printer: the list, its pool, the output before and after the call, and the answer. This is what `book_printer::print`
 -- (bytes) and `slices::print_tokens` (slice) ensure.
-pub record Print (f : Form) (book : List ℕ) (list : Lent f) (pool entry exit : List ℕ) (r : PrintAnswer) : Type 0 where
+pub record Print (f : Form) (book : List ℕ) (list : Lent f) (pool entry exit : List ℕ) (r : Result ℕ Refusal) : Type 0 where
   pub typed : Typed f list
   pub answers : r ≡ (print_outcome book (records_in f list) pool entry).answer
   pub leaves : exit ≡ (print_outcome book (records_in f list) pool entry).out
 
 -- A call of the spacing printer with a separator token and a mode, as `book_separated::print_separated` ensures it.
-pub record Space (book : List ℕ) (sep : TokenRecord) (mode : ℕ) (records pool entry exit : List ℕ) (r : PrintAnswer) : Type 0 where
+pub record Space (book : List ℕ) (sep : TokenRecord) (mode : ℕ) (records pool entry exit : List ℕ) (r : Result ℕ Refusal) : Type 0 where
   pub answers : r ≡ (separated_outcome book sep mode records pool entry).answer
   pub leaves : exit ≡ (separated_outcome book sep mode records pool entry).out

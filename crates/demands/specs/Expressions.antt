@@ -1,8 +1,11 @@
 -- Document 02, wish 9: rules as extended regular expressions. What a call that makes a rule of one answers and writes, and what a reader
 -- makes of the rule.
+use Rattle.answer.specs.declared.Reason.{Reason}
+use Rattle.answer.specs.Refusals.{number_of}
+use Rattle.std.specs.Prelude.{Result, Ok, Err}
+use Rattle.answer.specs.declared.Reason.TheVariants.{BookTooLong, LargeExpression, NoExpression, OutOfRange, OutputTooShort, StartFinal, TooMany, TooManySets}
 use Rattle.std.specs.Prelude.{◌≡◌, ◌⊎◌, ◌↔◌, Bool, true, false, List, [], ◌∷◌, ◌++◌, ℕ, ◌+◌, ◌*◌, ◌<◌, ◌≤◌, length, take, drop}
 use Rattle.answer.specs.declared.Refusal.{Refusal}
-use Rattle.answer.specs.declared.PrintAnswer.{PrintAnswer}
 use Rattle.automaton.specs.Choice.{All, among}
 use Rattle.automaton.specs.Rule.{Transition, Rule, Ranged, matches}
 use Rattle.book.specs.Limits.{max_bytes, max_transitions}
@@ -18,22 +21,21 @@ use Rattle.zagvulem.specs.Numbers.{compile_numbers}
 use Rattle.expression_rule.specs.Reached.{StatesOf, ManyReached}
 use Rattle.expression_rule.specs.Outcome.{max_expression, max_positions, max_depth, many_sets, compiled}
 use Rattle.demands.specs.Calls.{Compile}
-use Rattle.answer.specs.declared.PrintAnswer.TheVariants as print
 
-abbrev pub refused_by : ℕ → ℕ → PrintAnswer
-refused_by number place = print.Refused (record { number = number; place = place })
+abbrev pub refused_by : Reason → ℕ → Result ℕ Refusal
+refused_by reason place = Err (record { reason = reason; place = place })
 
 -- ---- what a call answers: "Turned away, in this order"
 
 -- no refusal but these, and then nothing is written
 abbrev pub RefusedCompile : Type 0
 RefusedCompile =
-    (tag kind : ℕ) (text entry exit : List ℕ) (r : Refusal) → Compile tag kind text entry exit (print.Refused r)
-    → (among r.number compile_numbers ≡ true) × (exit ≡ entry)
+    (tag kind : ℕ) (text entry exit : List ℕ) (r : Refusal) → Compile tag kind text entry exit (Err r)
+    → (among (number_of r.reason) compile_numbers ≡ true) × (exit ≡ entry)
 
 abbrev pub PastTheRule : Type 0
 PastTheRule =
-    (tag kind : ℕ) (text entry exit : List ℕ) (n : ℕ) → Compile tag kind text entry exit (print.Printed n) → drop n exit ≡ drop n entry
+    (tag kind : ℕ) (text entry exit : List ℕ) (n : ℕ) → Compile tag kind text entry exit (Ok n) → drop n exit ≡ drop n entry
 
 -- a tag and a kind that a rule may have, and a text that is not too long
 pub record Asked (tag kind : ℕ) (text : List ℕ) : Type 0 where
@@ -51,37 +53,37 @@ pub record Small (e : Expression) : Type 0 where
 
 -- The order in which a call is turned away. Each line says that what the lines above it name is not so; one of them always holds, as a text
 -- spells an expression or has a first fault (`SpelledOrFaulty`).
-pub record TurnedAway (tag kind : ℕ) (text entry : List ℕ) (r : PrintAnswer) : Type 0 where
-  pub tag_or_kind : (tag ≡ 0) ⊎ (1 < kind) → r ≡ refused_by 6 0
-  pub too_long : 0 < tag → kind ≤ 1 → max_expression < length text → r ≡ refused_by 31 0
-  pub faulty : Asked tag kind text → (place : ℕ) → FirstFault text place → r ≡ refused_by 30 place
-  pub too_large : Asked tag kind text → (e : Expression) → Spells alternatives e text → Large e → r ≡ refused_by 31 0
-  pub too_many : Asked tag kind text → (e : Expression) → Spells alternatives e text → Small e → many_sets e ≡ true → r ≡ refused_by 32 0
+pub record TurnedAway (tag kind : ℕ) (text entry : List ℕ) (r : Result ℕ Refusal) : Type 0 where
+  pub tag_or_kind : (tag ≡ 0) ⊎ (1 < kind) → r ≡ refused_by OutOfRange 0
+  pub too_long : 0 < tag → kind ≤ 1 → max_expression < length text → r ≡ refused_by LargeExpression 0
+  pub faulty : Asked tag kind text → (place : ℕ) → FirstFault text place → r ≡ refused_by NoExpression place
+  pub too_large : Asked tag kind text → (e : Expression) → Spells alternatives e text → Large e → r ≡ refused_by LargeExpression 0
+  pub too_many : Asked tag kind text → (e : Expression) → Spells alternatives e text → Small e → many_sets e ≡ true → r ≡ refused_by TooManySets 0
   pub no_room : Asked tag kind text → (e : Expression) → Spells alternatives e text → Small e → many_sets e ≡ false
-      → length entry < length (compiled tag kind e) → r ≡ refused_by 22 (length (compiled tag kind e))
+      → length entry < length (compiled tag kind e) → r ≡ refused_by OutputTooShort (length (compiled tag kind e))
   pub accepts : Asked tag kind text → (e : Expression) → Spells alternatives e text → Small e → many_sets e ≡ false
-      → length (compiled tag kind e) ≤ length entry → r ≡ print.Printed (length (compiled tag kind e))
+      → length (compiled tag kind e) ≤ length entry → r ≡ Ok (length (compiled tag kind e))
 
 abbrev pub CompileRefusals : Type 0
 CompileRefusals =
-    (tag kind : ℕ) (text entry exit : List ℕ) (r : PrintAnswer) → Compile tag kind text entry exit r → TurnedAway tag kind text entry r
+    (tag kind : ℕ) (text entry exit : List ℕ) (r : Result ℕ Refusal) → Compile tag kind text entry exit r → TurnedAway tag kind text entry r
 
 -- So each answer has its reason: a call ends in one of these ways.
-pub data Ends (tag kind : ℕ) (text entry : List ℕ) (r : PrintAnswer) : Type 0 where
-  six : (tag ≡ 0) ⊎ (1 < kind) → r ≡ refused_by 6 0 → Ends tag kind text entry r
-  long : 0 < tag → kind ≤ 1 → max_expression < length text → r ≡ refused_by 31 0 → Ends tag kind text entry r
-  fault : Asked tag kind text → (place : ℕ) → FirstFault text place → r ≡ refused_by 30 place → Ends tag kind text entry r
-  large : Asked tag kind text → (e : Expression) → Spells alternatives e text → Large e → r ≡ refused_by 31 0 → Ends tag kind text entry r
-  many : Asked tag kind text → (e : Expression) → Spells alternatives e text → Small e → many_sets e ≡ true → r ≡ refused_by 32 0
+pub data Ends (tag kind : ℕ) (text entry : List ℕ) (r : Result ℕ Refusal) : Type 0 where
+  six : (tag ≡ 0) ⊎ (1 < kind) → r ≡ refused_by OutOfRange 0 → Ends tag kind text entry r
+  long : 0 < tag → kind ≤ 1 → max_expression < length text → r ≡ refused_by LargeExpression 0 → Ends tag kind text entry r
+  fault : Asked tag kind text → (place : ℕ) → FirstFault text place → r ≡ refused_by NoExpression place → Ends tag kind text entry r
+  large : Asked tag kind text → (e : Expression) → Spells alternatives e text → Large e → r ≡ refused_by LargeExpression 0 → Ends tag kind text entry r
+  many : Asked tag kind text → (e : Expression) → Spells alternatives e text → Small e → many_sets e ≡ true → r ≡ refused_by TooManySets 0
       → Ends tag kind text entry r
   full : Asked tag kind text → (e : Expression) → Spells alternatives e text → Small e → many_sets e ≡ false
-      → length entry < length (compiled tag kind e) → r ≡ refused_by 22 (length (compiled tag kind e)) → Ends tag kind text entry r
+      → length entry < length (compiled tag kind e) → r ≡ refused_by OutputTooShort (length (compiled tag kind e)) → Ends tag kind text entry r
   made : Asked tag kind text → (e : Expression) → Spells alternatives e text → Small e → many_sets e ≡ false
-      → length (compiled tag kind e) ≤ length entry → r ≡ print.Printed (length (compiled tag kind e)) → Ends tag kind text entry r
+      → length (compiled tag kind e) ≤ length entry → r ≡ Ok (length (compiled tag kind e)) → Ends tag kind text entry r
 
 abbrev pub CallEnds : Type 0
 CallEnds =
-    (tag kind : ℕ) (text entry exit : List ℕ) (r : PrintAnswer) → Compile tag kind text entry exit r → Ends tag kind text entry r
+    (tag kind : ℕ) (text entry exit : List ℕ) (r : Result ℕ Refusal) → Compile tag kind text entry exit r → Ends tag kind text entry r
 
 -- 32 stands for "more than 254 reachable non-empty sets"; where there are not so many, `StatesOf` says that at most 254 are all.
 abbrev pub ManyAreReached : Type 0
@@ -93,8 +95,8 @@ SpelledOrFaulty = (text : List ℕ) → ((e : Expression) × Spells alternatives
 -- 30 stands at "the first byte at which no continuation could be right, or the text's length", and for nothing else
 abbrev pub FirstFaultRefused : Type 0
 FirstFaultRefused =
-    (tag kind : ℕ) (text entry exit : List ℕ) (r : PrintAnswer) → Compile tag kind text entry exit r → Asked tag kind text
-    → (place : ℕ) → (r ≡ refused_by 30 place) ↔ FirstFault text place
+    (tag kind : ℕ) (text entry exit : List ℕ) (r : Result ℕ Refusal) → Compile tag kind text entry exit r → Asked tag kind text
+    → (place : ℕ) → (r ≡ refused_by NoExpression place) ↔ FirstFault text place
 
 -- ---- what is written
 
@@ -104,7 +106,7 @@ pub record Compiles (tag kind : ℕ) (text bytes : List ℕ) : Type 0 where
   pub entry : List ℕ
   pub exit : List ℕ
   pub count : ℕ
-  pub call : Compile tag kind text entry exit (print.Printed count)
+  pub call : Compile tag kind text entry exit (Ok count)
   pub written : bytes ≡ take count exit
 
 -- "a book of it alone"
@@ -134,11 +136,11 @@ pub record Commands (tag kind : ℕ) (bytes finals : List ℕ) (spans : List Tra
 -- What both readings make of a book of it alone: "1 applies above the book limit; failing that, a 513th move meets 5" (4,097th by wish 13);
 -- "failing both, a rule that matches the empty string meets 12"; else it is accepted.
 pub record ReadAlone (tag kind : ℕ) (e : Expression) (bytes finals : List ℕ) (spans : List Transition) (strict : Bool) : Type 0 where
-  pub too_long : max_bytes < length (book_of bytes) → read_by strict (book_of bytes) ≡ refused 1 0
+  pub too_long : max_bytes < length (book_of bytes) → read_by strict (book_of bytes) ≡ refused BookTooLong 0
   pub too_many : length (book_of bytes) ≤ max_bytes → max_transitions < length spans
-      → read_by strict (book_of bytes) ≡ refused 5 (8 + 2 * length finals + 5 * max_transitions)
+      → read_by strict (book_of bytes) ≡ refused TooMany (8 + 2 * length finals + 5 * max_transitions)
   pub takes_empty : length (book_of bytes) ≤ max_bytes → length spans ≤ max_transitions → Matches e []
-      → read_by strict (book_of bytes) ≡ refused 12 (8 + 2 * length finals + 5 * length spans)
+      → read_by strict (book_of bytes) ≡ refused StartFinal (8 + 2 * length finals + 5 * length spans)
   pub accepts : length (book_of bytes) ≤ max_bytes → length spans ≤ max_transitions → (Matches e [] → ⊥)
       → read_by strict (book_of bytes) ≡ accepted (rule_by tag kind finals spans ∷ [])
 

@@ -1,10 +1,12 @@
 -- Document 02, wish 10: STEP is retired. What the stricter reading takes, and what rewriting an old book gives.
+use Rattle.answer.specs.Refusals.{number_of}
+use Rattle.answer.specs.declared.Cut.{Cut as Counts}
+use Rattle.answer.specs.declared.Reason.{Reason}
+use Rattle.answer.specs.declared.RuleName.{RuleName}
+use Rattle.std.specs.Prelude.{Result, Ok, Err}
+use Rattle.answer.specs.declared.Reason.TheVariants.{Retired}
 use Rattle.std.specs.Prelude.{◌≡◌, ◌↔◌, true, false, List, map, ℕ, ◌<◌, ◌≤◌, length, take, drop}
 use Rattle.answer.specs.declared.Refusal.{Refusal}
-use Rattle.answer.specs.declared.BookAnswer.{BookAnswer}
-use Rattle.answer.specs.declared.RuleAnswer.{RuleAnswer}
-use Rattle.answer.specs.declared.LexAnswer.{LexAnswer}
-use Rattle.answer.specs.declared.PrintAnswer.{PrintAnswer}
 use Rattle.automaton.specs.Choice.{among}
 use Rattle.automaton.specs.Rule.{Rule}
 use Rattle.command.specs.Commands.{byte_at}
@@ -17,9 +19,7 @@ use Rattle.lexer.specs.Outcome.{rest_of}
 use Rattle.listing.specs.Lines.{listing}
 use Rattle.zagvulem.specs.Numbers.{strict_numbers, rewrite_numbers}
 use Rattle.demands.specs.Calls.{Form, Lent, Read, Ask, Rewrite, Cut, MaskedCut, Print, Space}
-use Rattle.answer.specs.declared.BookAnswer.TheVariants as read
 use Rattle.command.specs.declared.Command.TheVariants as command
-use Rattle.answer.specs.declared.PrintAnswer.TheVariants as print
 
 -- ---- what a STEP means
 
@@ -38,33 +38,33 @@ StrictAccepts =
 
 -- 33 stands at a STEP; any other refusal is the ordinary reading's.
 abbrev pub StrictRefusesStep : Type 0
-StrictRefusesStep = (book : List ℕ) (place : ℕ) → read_strict book ≡ refused 33 place → (place < length book) × (byte_at book place ≡ 5)
+StrictRefusesStep = (book : List ℕ) (place : ℕ) → read_strict book ≡ refused Retired place → (place < length book) × (byte_at book place ≡ 5)
 
 abbrev pub StrictRefusesAlike : Type 0
 StrictRefusesAlike =
-    (book : List ℕ) (number place : ℕ) → read_strict book ≡ refused number place → (number ≡ 33 → ⊥) → read_book book ≡ refused number place
+    (book : List ℕ) (reason : Reason) (place : ℕ) → read_strict book ≡ refused reason place → (reason ≡ Retired → ⊥) → read_book book ≡ refused reason place
 
 -- A call of it is refused by one of its numbers.
 abbrev pub RefusedStrictly : Type 0
-RefusedStrictly = (book : List ℕ) (r : Refusal) → Read true book (read.Refused r) → among r.number strict_numbers ≡ true
+RefusedStrictly = (book : List ℕ) (r : Refusal) → Read true book (Err r) → among (number_of r.reason) strict_numbers ≡ true
 
 -- ---- calls of rewriting
 
 -- as demand 1 says of the printers
 abbrev pub RefusedRewrite : Type 0
 RefusedRewrite =
-    (book entry exit : List ℕ) (r : Refusal) → Rewrite book entry exit (print.Refused r)
-    → (among r.number rewrite_numbers ≡ true) × (exit ≡ entry)
+    (book entry exit : List ℕ) (r : Refusal) → Rewrite book entry exit (Err r)
+    → (among (number_of r.reason) rewrite_numbers ≡ true) × (exit ≡ entry)
 
 abbrev pub PastTheRewritten : Type 0
-PastTheRewritten = (book entry exit : List ℕ) (n : ℕ) → Rewrite book entry exit (print.Printed n) → drop n exit ≡ drop n entry
+PastTheRewritten = (book entry exit : List ℕ) (n : ℕ) → Rewrite book entry exit (Ok n) → drop n exit ≡ drop n entry
 
 -- An accepted book whose rewritten form is not too long is rewritten where there is room for it.
 abbrev pub RewriteAccepts : Type 0
 RewriteAccepts =
-    (book : List ℕ) (rules : List Rule) (entry exit : List ℕ) (r : PrintAnswer) → Rewrite book entry exit r
+    (book : List ℕ) (rules : List Rule) (entry exit : List ℕ) (r : Result ℕ Refusal) → Rewrite book entry exit r
     → read_book book ≡ accepted rules → length (rewritten book) ≤ max_bytes → length (rewritten book) ≤ length entry
-    → (r ≡ print.Printed (length (rewritten book))) × (take (length (rewritten book)) exit ≡ rewritten book)
+    → (r ≡ Ok (length (rewritten book))) × (take (length (rewritten book)) exit ≡ rewritten book)
 
 -- ---- the rewritten book
 
@@ -73,7 +73,7 @@ pub record Rewrites (old new : List ℕ) : Type 0 where
   pub entry : List ℕ
   pub exit : List ℕ
   pub count : ℕ
-  pub call : Rewrite old entry exit (print.Printed count)
+  pub call : Rewrite old entry exit (Ok count)
   pub written : new ≡ take count exit
 
 -- its commands are those of the old book, in order, with the SPAN that a STEP means in its place
@@ -102,15 +102,15 @@ RewritesTheRules = (old new : List ℕ) → Rewrites old new → (rules : List R
 -- A call by the one book answers and leaves what a call by the other does, whatever is lent and whether it is refused or not; the rest is
 -- handed back, and cutlist prints, alike. (The built-in book's cut is lent no book.)
 pub record Alike (old new : List ℕ) : Type 0 where
-  pub reads : (r : BookAnswer) → Read false old r ↔ Read false new r
-  pub asks : (index : ℕ) (r : RuleAnswer) → Ask old index r ↔ Ask new index r
-  pub cuts : (f : Form) (text : List ℕ) (entry exit : Lent f) (r : LexAnswer) → Cut f old text entry exit r ↔ Cut f new text entry exit r
-  pub cuts_masked : (f : Form) (text : List ℕ) (entry exit : Lent f) (masks after : List ℕ) (r : LexAnswer)
+  pub reads : (r : Result ℕ Refusal) → Read false old r ↔ Read false new r
+  pub asks : (index : ℕ) (r : Result RuleName Refusal) → Ask old index r ↔ Ask new index r
+  pub cuts : (f : Form) (text : List ℕ) (entry exit : Lent f) (r : Result Counts Refusal) → Cut f old text entry exit r ↔ Cut f new text entry exit r
+  pub cuts_masked : (f : Form) (text : List ℕ) (entry exit : Lent f) (masks after : List ℕ) (r : Result Counts Refusal)
       → MaskedCut f old text entry exit masks after r ↔ MaskedCut f new text entry exit masks after r
   pub rests : (text : List ℕ) → rest_of old text ≡ rest_of new text
-  pub prints : (f : Form) (list : Lent f) (pool entry exit : List ℕ) (r : PrintAnswer)
+  pub prints : (f : Form) (list : Lent f) (pool entry exit : List ℕ) (r : Result ℕ Refusal)
       → Print f old list pool entry exit r ↔ Print f new list pool entry exit r
-  pub spaces : (sep : TokenRecord) (mode : ℕ) (records pool entry exit : List ℕ) (r : PrintAnswer)
+  pub spaces : (sep : TokenRecord) (mode : ℕ) (records pool entry exit : List ℕ) (r : Result ℕ Refusal)
       → Space old sep mode records pool entry exit r ↔ Space new sep mode records pool entry exit r
   pub lists : (text records : List ℕ) → listing old text records ≡ listing new text records
 
@@ -120,5 +120,5 @@ OperationsAlike = (old new : List ℕ) → Rewrites old new → Alike old new
 -- Rewritten again, where there is room, the new book is itself.
 abbrev pub RewrittenOnce : Type 0
 RewrittenOnce =
-    (old new : List ℕ) → Rewrites old new → (entry exit : List ℕ) (r : PrintAnswer) → Rewrite new entry exit r → length new ≤ length entry
-    → (r ≡ print.Printed (length new)) × (take (length new) exit ≡ new)
+    (old new : List ℕ) → Rewrites old new → (entry exit : List ℕ) (r : Result ℕ Refusal) → Rewrite new entry exit r → length new ≤ length entry
+    → (r ≡ Ok (length new)) × (take (length new) exit ≡ new)

@@ -1,8 +1,11 @@
 -- Document 02, wish 2: saving while a cut is unfinished. Between two turns the plain printer takes the tokens that they have given, and
 -- writes the text up to the next place.
+use Rattle.answer.specs.declared.Refusal.{Refusal}
+use Rattle.answer.specs.declared.Turn.{Turn}
+use Rattle.std.specs.Prelude.{Result, Ok, Err}
+use Rattle.answer.specs.declared.Reason.TheVariants.{OutputTooShort}
+use Rattle.answer.specs.Answers.{turned}
 use Rattle.std.specs.Prelude.{◌≡◌, Bool, List, [], ◌∷◌, ◌++◌, ℕ, ◌+◌, ◌-◌, ◌*◌, ◌<◌, ◌≤◌, length, take, drop}
-use Rattle.answer.specs.declared.TurnAnswer.{TurnAnswer}
-use Rattle.answer.specs.declared.PrintAnswer.{PrintAnswer}
 use Rattle.automaton.specs.Choice.{All}
 use Rattle.automaton.specs.Rule.{Rule}
 use Rattle.book.specs.Limits.{max_text}
@@ -12,8 +15,6 @@ use Rattle.record.specs.Masks.{mask_count}
 use Rattle.demands.specs.Calls.{Form, bytes, Lent, structs_in, list_in, Turning, Print}
 use Rattle.demands.specs.Words.{Book}
 use Rattle.demands.specs.Turns.{Taken, FromTo, given}
-use Rattle.answer.specs.declared.TurnAnswer.TheVariants as turned
-use Rattle.answer.specs.declared.PrintAnswer.TheVariants as print
 
 -- ---- the records of turns
 
@@ -41,11 +42,11 @@ InOneSlice count before (t ∷ ts) total after =
 -- ---- what saving answers and leaves
 
 -- With room for the bytes before the next place it is accepted and writes just these; with less it is refused by 22, which names them.
-pub record Saves (text : List ℕ) (next : ℕ) (entry exit : List ℕ) (r : PrintAnswer) : Type 0 where
+pub record Saves (text : List ℕ) (next : ℕ) (entry exit : List ℕ) (r : Result ℕ Refusal) : Type 0 where
   pub next_within : next ≤ length text
-  pub accepts : next ≤ length entry → r ≡ print.Printed next
+  pub accepts : next ≤ length entry → r ≡ Ok next
   pub writes : next ≤ length entry → exit ≡ take next text ++ drop next entry
-  pub needs : length entry < next → r ≡ print.Refused (record { number = 22; place = next })
+  pub needs : length entry < next → r ≡ Err (record { reason = OutputTooShort; place = next })
   pub leaves : length entry < next → exit ≡ entry
 
 module _ (book : List ℕ) (rules : List Rule) where
@@ -54,27 +55,27 @@ module _ (book : List ℕ) (rules : List Rule) where
   abbrev pub SavedBetweenTurns : Type 0
   SavedBetweenTurns = (text : List ℕ) (ts : List Taken) (next : ℕ) → FromTo book text 0 ts next
       → (before after : List ℕ) (total : ℕ) → InOneSlice 0 before ts total after
-      → (entry exit : List ℕ) (r : PrintAnswer) → Print bytes book (take (10 * total) after) text entry exit r
+      → (entry exit : List ℕ) (r : Result ℕ Refusal) → Print bytes book (take (10 * total) after) text entry exit r
       → Saves text next entry exit r
 
   -- or a copy of them,
   abbrev pub SavedFromCopies : Type 0
   SavedFromCopies = (text : List ℕ) (ts : List Taken) (next : ℕ) → FromTo book text 0 ts next
-      → (entry exit : List ℕ) (r : PrintAnswer) → Print bytes book (stored ts) text entry exit r → Saves text next entry exit r
+      → (entry exit : List ℕ) (r : Result ℕ Refusal) → Print bytes book (stored ts) text entry exit r → Saves text next entry exit r
 
   -- or the same list in any form, wherever a pool holds it.
   abbrev pub SavedInAnyForm : Type 0
   SavedInAnyForm = (text : List ℕ) (ts : List Taken) (next : ℕ) → FromTo book text 0 ts next
-      → (f : Form) (list : Lent f) (pool entry exit : List ℕ) (r : PrintAnswer) → Print f book list pool entry exit r
+      → (f : Form) (list : Lent f) (pool entry exit : List ℕ) (r : Result ℕ Refusal) → Print f book list pool entry exit r
       → All (InPool pool) (structs_in f list) → list_in f list pool ≡ given ts text → Saves text next entry exit r
 
   -- A record and a mask for each byte of the text are enough: no turn in such a slice is refused, however many there were before it.
   abbrev pub RoomForTurns : Type 0
   RoomForTurns = (text : List ℕ) (ts : List Taken) (place : ℕ) → FromTo book text 0 ts place → length text ≤ max_text
       → (before after : List ℕ) (total : ℕ) → InOneSlice 0 before ts total after → length text ≤ record_count before
-      → (budget : ℕ) (exit masks masks₁ : List ℕ) (r : TurnAnswer)
+      → (budget : ℕ) (exit masks masks₁ : List ℕ) (r : Result Turn Refusal)
       → Turning book text place budget (drop (10 * total) after) exit masks masks₁ r → length text - place ≤ mask_count masks
-      → (n : ℕ) × (next : ℕ) × (examined : ℕ) × (finished : Bool) × (r ≡ turned.Turned n next examined finished)
+      → (n : ℕ) × (next : ℕ) × (examined : ℕ) × (finished : Bool) × (r ≡ turned n next examined finished)
 
 -- ---- together
 

@@ -1,7 +1,11 @@
 -- Document 02, wish 1: cutting in turns. What the calls of a turn say, how turns of different budgets agree, and that turns repeated to the
 -- finish are the single cut.
+use Rattle.answer.specs.Refusals.{number_of}
+use Rattle.answer.specs.declared.Turn.{Turn}
+use Rattle.std.specs.Prelude.{Result, Err}
+use Rattle.answer.specs.declared.Reason.TheVariants.{PastTheText, TextTooLong, TooFewRecords}
+use Rattle.answer.specs.Answers.{lexed, turned}
 use Rattle.std.specs.Prelude.{◌≡◌, ◌⊎◌, ◌↔◌, Bool, true, false, List, [], ◌∷◌, ◌++◌, ℕ, ◌+◌, ◌-◌, ◌*◌, ◌<◌, ◌≤◌, length, take, drop}
-use Rattle.answer.specs.declared.TurnAnswer.{TurnAnswer}
 use Rattle.answer.specs.declared.Refusal.{Refusal}
 use Rattle.automaton.specs.Choice.{if, All, among}
 use Rattle.automaton.specs.Rule.{Rule, walk}
@@ -17,8 +21,6 @@ use Rattle.turns.specs.Turn.{turn}
 use Rattle.zagvulem.specs.Numbers.{turn_numbers}
 use Rattle.demands.specs.Calls.{Form, Lent, first_in, list_in, mask_bytes_in, MaskedCut, Turning}
 use Rattle.demands.specs.Words.{Book, Unmatched, LongestMatch}
-use Rattle.answer.specs.declared.LexAnswer.TheVariants as lexed
-use Rattle.answer.specs.declared.TurnAnswer.TheVariants as turned
 
 -- ---- the reach
 
@@ -40,13 +42,13 @@ ReachIsFewest = (rules : List Rule) (text : List ℕ) → ReachOf rules text (re
 -- a refused turn is refused by one of its numbers, and leaves the records and the masks as they were
 abbrev pub RefusedTurn : Type 0
 RefusedTurn = (book text : List ℕ) (place budget : ℕ) (entry exit masks after : List ℕ) (r : Refusal)
-    → Turning book text place budget entry exit masks after (turned.Refused r)
-    → (among r.number turn_numbers ≡ true) × (exit ≡ entry) × (after ≡ masks)
+    → Turning book text place budget entry exit masks after (Err r)
+    → (among (number_of r.reason) turn_numbers ≡ true) × (exit ≡ entry) × (after ≡ masks)
 
 -- an accepted one leaves what lies past those of its own tokens
 abbrev pub PastTheTurn : Type 0
 PastTheTurn = (book text : List ℕ) (place budget : ℕ) (entry exit masks after : List ℕ) (n next examined : ℕ) (finished : Bool)
-    → Turning book text place budget entry exit masks after (turned.Turned n next examined finished)
+    → Turning book text place budget entry exit masks after (turned n next examined finished)
     → (drop (10 * n) exit ≡ drop (10 * n) entry) × (drop (4 * n) after ≡ drop (4 * n) masks)
 
 -- ---- the refusals behind those of the book
@@ -54,32 +56,32 @@ PastTheTurn = (book text : List ℕ) (place budget : ℕ) (entry exit masks afte
 module _ (book : List ℕ) (rules : List Rule) (reads : read_book book ≡ accepted rules) where
   -- a text that is too long, wherever the place lies
   abbrev pub TurnTooLong : Type 0
-  TurnTooLong = (text : List ℕ) (place budget : ℕ) (entry exit masks after : List ℕ) (r : TurnAnswer)
+  TurnTooLong = (text : List ℕ) (place budget : ℕ) (entry exit masks after : List ℕ) (r : Result Turn Refusal)
       → Turning book text place budget entry exit masks after r → max_text < length text
-      → r ≡ turned.Refused (record { number = 14; place = 0 })
+      → r ≡ Err (record { reason = TextTooLong; place = 0 })
 
   -- a place past the text, however few records and masks there are
   abbrev pub PlacePastText : Type 0
-  PlacePastText = (text : List ℕ) (place budget : ℕ) (entry exit masks after : List ℕ) (r : TurnAnswer)
+  PlacePastText = (text : List ℕ) (place budget : ℕ) (entry exit masks after : List ℕ) (r : Result Turn Refusal)
       → Turning book text place budget entry exit masks after r → length text ≤ max_text → length text < place
-      → r ≡ turned.Refused (record { number = 27; place = 0 })
+      → r ≡ Err (record { reason = PastTheText; place = 0 })
 
   -- fewer records, or fewer masks, than the turn has tokens of its own
   abbrev pub TurnTooFew : Type 0
-  TurnTooFew = (text : List ℕ) (place budget : ℕ) (entry exit masks after : List ℕ) (r : TurnAnswer)
+  TurnTooFew = (text : List ℕ) (place budget : ℕ) (entry exit masks after : List ℕ) (r : Result Turn Refusal)
       → Turning book text place budget entry exit masks after r → length text ≤ max_text → place ≤ length text
       → (record_count entry < length (turn rules (drop place text) budget).tokens)
       ⊎ (mask_count masks < length (turn rules (drop place text) budget).tokens)
-      → r ≡ turned.Refused (record { number = 15; place = length (turn rules (drop place text) budget).tokens })
+      → r ≡ Err (record { reason = TooFewRecords; place = length (turn rules (drop place text) budget).tokens })
 
   -- in every other case it is accepted
   abbrev pub TurnIsAccepted : Type 0
-  TurnIsAccepted = (text : List ℕ) (place budget : ℕ) (entry exit masks after : List ℕ) (r : TurnAnswer)
+  TurnIsAccepted = (text : List ℕ) (place budget : ℕ) (entry exit masks after : List ℕ) (r : Result Turn Refusal)
       → Turning book text place budget entry exit masks after r → length text ≤ max_text → place ≤ length text
       → length (turn rules (drop place text) budget).tokens ≤ record_count entry
       → length (turn rules (drop place text) budget).tokens ≤ mask_count masks
       → (next : ℕ) × (examined : ℕ) × (finished : Bool)
-      × (r ≡ turned.Turned (length (turn rules (drop place text) budget).tokens) next examined finished)
+      × (r ≡ turned (length (turn rules (drop place text) budget).tokens) next examined finished)
 
 -- ---- what an accepted turn says
 
@@ -111,7 +113,7 @@ list_of n exit text = tokens_of (take (10 * n) exit) text
 module _ (book : List ℕ) (rules : List Rule) where
   abbrev pub TurnSays : Type 0
   TurnSays = (text : List ℕ) (place budget : ℕ) (entry exit masks after : List ℕ) (n next examined : ℕ) (finished : Bool)
-      → Turning book text place budget entry exit masks after (turned.Turned n next examined finished)
+      → Turning book text place budget entry exit masks after (turned n next examined finished)
       → Says rules text place budget (list_of n exit text) next examined finished
       × (take (4 * n) after ≡ mask_bytes (masks_of rules (list_of n exit text)))
 
@@ -122,11 +124,11 @@ module _ (book : List ℕ) (rules : List Rule) where
   abbrev pub LargerExtends : Type 0
   LargerExtends = (text : List ℕ) (place budget larger : ℕ) → budget ≤ larger
       → (entry exit masks after : List ℕ) (n next examined : ℕ) (finished : Bool)
-      → Turning book text place budget entry exit masks after (turned.Turned n next examined finished)
+      → Turning book text place budget entry exit masks after (turned n next examined finished)
       → (entry₁ exit₁ masks₁ after₁ : List ℕ) (n₁ next₁ examined₁ : ℕ) (finished₁ : Bool)
-      → Turning book text place larger entry₁ exit₁ masks₁ after₁ (turned.Turned n₁ next₁ examined₁ finished₁)
+      → Turning book text place larger entry₁ exit₁ masks₁ after₁ (turned n₁ next₁ examined₁ finished₁)
       → (n ≤ n₁) × (take (10 * n) exit₁ ≡ take (10 * n) exit) × (take (4 * n) after₁ ≡ take (4 * n) after)
-      × (finished ≡ true → turned.Turned n₁ next₁ examined₁ finished₁ ≡ turned.Turned n next examined finished)
+      × (finished ≡ true → turned n₁ next₁ examined₁ finished₁ ≡ turned n next examined finished)
 
   -- No byte behind what the budget allows plays a part: where two texts are the same so far, and both go on, both turns answer and store
   -- the same.
@@ -134,10 +136,10 @@ module _ (book : List ℕ) (rules : List Rule) where
   LooksNoFurther = (text other : List ℕ) (place budget : ℕ) → take (place + budget) text ≡ take (place + budget) other
       → place + budget < length text → place + budget < length other
       → (entry exit masks after : List ℕ) (n next examined : ℕ) (finished : Bool)
-      → Turning book text place budget entry exit masks after (turned.Turned n next examined finished)
+      → Turning book text place budget entry exit masks after (turned n next examined finished)
       → (entry₁ exit₁ masks₁ after₁ : List ℕ) (n₁ next₁ examined₁ : ℕ) (finished₁ : Bool)
-      → Turning book other place budget entry₁ exit₁ masks₁ after₁ (turned.Turned n₁ next₁ examined₁ finished₁)
-      → (turned.Turned n₁ next₁ examined₁ finished₁ ≡ turned.Turned n next examined finished)
+      → Turning book other place budget entry₁ exit₁ masks₁ after₁ (turned n₁ next₁ examined₁ finished₁)
+      → (turned n₁ next₁ examined₁ finished₁ ≡ turned n next examined finished)
       × (take (10 * n) exit₁ ≡ take (10 * n) exit) × (take (4 * n) after₁ ≡ take (4 * n) after)
 
 -- ---- turns one after the other
@@ -158,7 +160,7 @@ pub record Taken : Type 0 where
 abbrev pub FromTo : List ℕ → List ℕ → ℕ → List Taken → ℕ → Type 0
 FromTo book text place [] last = place ≡ last
 FromTo book text place (t ∷ ts) last =
-    Turning book text place t.budget t.entry t.exit t.masks t.after (turned.Turned t.tokens t.next t.examined t.finished)
+    Turning book text place t.budget t.entry t.exit t.masks t.after (turned t.tokens t.next t.examined t.finished)
     × FromTo book text t.next ts last
 
 -- the last of them is finished
@@ -193,7 +195,7 @@ module _ (book : List ℕ) (rules : List Rule) where
   abbrev pub TurnsAreCut : Type 0
   TurnsAreCut = (text : List ℕ) (ts : List Taken) (last : ℕ) → FromTo book text 0 ts last → Finish ts
       → (f : Form) (entry exit : Lent f) (masks after : List ℕ) (n place : ℕ)
-      → MaskedCut f book text entry exit masks after (lexed.Lexed n place)
+      → MaskedCut f book text entry exit masks after (lexed n place)
       → (given ts text ≡ list_in f (first_in f n exit) text) × (agreed ts ≡ take (4 * n) (mask_bytes_in f after)) × (last ≡ place)
 
 -- ---- together

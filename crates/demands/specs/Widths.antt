@@ -1,5 +1,6 @@
 -- Document 02, wish 13: states of two bytes. What is said of cuts and printers is said of every rule that a book may hold; here stands
 -- which states those have.
+use Rattle.answer.specs.declared.Reason.TheVariants.{OutOfRange, TooMany, TwiceOrMissing}
 use Rattle.std.specs.Prelude.{◌≡◌, ◌⊎◌, List, ℕ, ◌+◌, ◌<◌, ◌≤◌, leb, length}
 use Rattle.big_endian.specs.Numbers.{two_at}
 use Rattle.command.specs.Commands.{byte_at, decode}
@@ -28,9 +29,9 @@ OneSpan =
 
 -- A state above 4,095 is refused by 6: before 8, and of a move after 5.
 pub record RefusedState (d : Draft) (s at len : ℕ) : Type 0 where
-  pub start : apply d (command.Start s) at len ≡ refuses 6 at
-  pub error : apply d (command.Error s) at len ≡ refuses 6 at
-  pub final : apply d (command.Final s) at len ≡ refuses 6 at
+  pub start : apply d (command.Start s) at len ≡ refuses OutOfRange at
+  pub error : apply d (command.Error s) at len ≡ refuses OutOfRange at
+  pub final : apply d (command.Final s) at len ≡ refuses OutOfRange at
 
 abbrev pub NoSuchState : Type 0
 NoSuchState = (d : Draft) (s at len : ℕ) → 4095 < s → RefusedState d s at len
@@ -38,12 +39,12 @@ NoSuchState = (d : Draft) (s at len : ℕ) → 4095 < s → RefusedState d s at 
 abbrev pub NoSuchMove : Type 0
 NoSuchMove =
     (d : Draft) (from low high to at len : ℕ) → (4095 < from) ⊎ (4095 < to)
-    → apply d (command.Span from low high to) at len ≡ check (leb 4096 (length d.transitions)) 5 at (refuses 6 at)
+    → apply d (command.Span from low high to) at len ≡ check (leb 4096 (length d.transitions)) TooMany at (refuses OutOfRange at)
 
 -- One up to 4,095 is taken, a second START or ERROR apart.
 pub record TakenState (d : Draft) (s at len : ℕ) : Type 0 where
-  pub start : apply d (command.Start s) at len ≡ check (is_set d.start) 8 at (goes (with_start d s))
-  pub error : apply d (command.Error s) at len ≡ check (is_set d.error) 8 at (goes (with_error d s))
+  pub start : apply d (command.Start s) at len ≡ check (is_set d.start) TwiceOrMissing at (goes (with_start d s))
+  pub error : apply d (command.Error s) at len ≡ check (is_set d.error) TwiceOrMissing at (goes (with_error d s))
   pub final : apply d (command.Final s) at len ≡ goes (with_final d s)
 
 abbrev pub EveryState : Type 0

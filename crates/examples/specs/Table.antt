@@ -1,6 +1,8 @@
 -- The table of examples: a book's bytes, what is asked, and what document 01 says it gives.
+use Rattle.answer.specs.declared.Refusal.{Refusal}
+use Rattle.std.specs.Prelude.{Result as Answer, Ok, Err}
+use Rattle.answer.specs.Refusals.{number_of}
 use Rattle.std.specs.Prelude.{◌≡◌, List, [], ◌∷◌, ◌++◌, ℕ, ◌-◌, length, take, replicate}
-use Rattle.answer.specs.declared.PrintAnswer.{PrintAnswer}
 use Rattle.automaton.specs.Choice.{All}
 use Rattle.reader.specs.Reading.{Reading, accepted, refused, read_book}
 use Rattle.longest_match.specs.Lexer.{Token, Lexed, lex, join}
@@ -10,7 +12,6 @@ use Rattle.printer.specs.Outcome.{print_outcome}
 use Rattle.separated.specs.Outcome.{separated_outcome}
 use Rattle.listing.specs.Lines.{listing, record_bytes}
 use Rattle.examples.specs.Books.{book_a, book_b, book_c}
-use Rattle.answer.specs.declared.PrintAnswer.TheVariants as answer
 
 -- what is asked of a book
 pub data Question : Type 0 where
@@ -36,16 +37,16 @@ abbrev pub cut_result : Lexed → List ℕ → Result
 cut_result c text = tokens c.tokens (length text - length c.rest)
 
 abbrev pub cut_by : Reading → List ℕ → Result
-cut_by (refused number place) text = refusal number place
+cut_by (refused reason place) text = refusal (number_of reason) place
 cut_by (accepted rules) text = cut_result (lex rules text) text
 
 -- room for more bytes than any example writes
 abbrev pub room : List ℕ
 room = replicate 16 0
 
-abbrev pub print_result : PrintAnswer → List ℕ → Result
-print_result (answer.Printed n) out = bytes (take n out)
-print_result (answer.Refused f) out = refusal f.number f.place
+abbrev pub print_result : Answer ℕ Refusal → List ℕ → Result
+print_result (Ok n) out = bytes (take n out)
+print_result (Err f) out = refusal (number_of f.reason) f.place
 
 abbrev pub print_by : PrintOutcome → Result
 print_by o = print_result o.answer o.out

@@ -1,4 +1,7 @@
 -- What a call answers, case by case in the order of its refusals, and what an accepted call has written. Assumes nothing.
+use Rattle.answer.specs.declared.Reason.{Reason}
+use Rattle.std.specs.Prelude.{Ok, Err}
+use Rattle.answer.specs.declared.Reason.TheVariants.{LargeExpression, NoExpression, OutOfRange, OutputTooShort, TooManySets}
 use mathlib.Core.Path.{◌≡◌, refl, sym, ap, ◌∙◌}
 use mathlib.Core.Bool.{Bool, true, false, ◌||◌}
 use mathlib.Core.List.{List}
@@ -10,7 +13,6 @@ use Rattle.output.specs.Outcome.{PrintOutcome, print_refused, print_accepted, re
 use Rattle.expression.specs.Expression.{Expression}
 use Rattle.expression.specs.Reading.{Reading, right, wrong, read_expression}
 use Rattle.expression_rule.specs.Outcome.{max_expression, many_sets, compiled, is_too_large, compile_reading, compile_outcome}
-use Rattle.answer.specs.declared.PrintAnswer.TheVariants as print
 
 -- ---- each case
 
@@ -24,12 +26,12 @@ module _ (tag kind : ℕ) (text out : List ℕ) where
   abbrev long : Bool
   long = ltb max_expression (length text)
 
-  pub wrong_rule_lem : wrong_rule ≡ true → outcome ≡ print_refused 6 0 out
+  pub wrong_rule_lem : wrong_rule ≡ true → outcome ≡ print_refused OutOfRange 0 out
   unfolding compile_outcome refused_if
   wrong_rule_lem h = rw h
 
   module _ (r : wrong_rule ≡ false) where
-    pub text_long : long ≡ true → outcome ≡ print_refused 31 0 out
+    pub text_long : long ≡ true → outcome ≡ print_refused LargeExpression 0 out
     unfolding compile_outcome refused_if
     text_long h = rw (r, h)
 
@@ -38,16 +40,16 @@ module _ (tag kind : ℕ) (text out : List ℕ) where
       unfolding compile_outcome refused_if
       text_read = rw (r, s)
 
-      pub text_wrong : {place : ℕ} → read_expression text ≡ wrong place → outcome ≡ print_refused 30 place out
+      pub text_wrong : {place : ℕ} → read_expression text ≡ wrong place → outcome ≡ print_refused NoExpression place out
       text_wrong h = text_read ∙ rw h
 
       module _ {e : Expression} (reads : read_expression text ≡ right e) where
-        pub expression_large : is_too_large e ≡ true → outcome ≡ print_refused 31 0 out
+        pub expression_large : is_too_large e ≡ true → outcome ≡ print_refused LargeExpression 0 out
         unfolding refused_if
         expression_large h = text_read ∙ rw (reads, h)
 
         module _ (small : is_too_large e ≡ false) where
-          pub sets_many : many_sets e ≡ true → outcome ≡ print_refused 32 0 out
+          pub sets_many : many_sets e ≡ true → outcome ≡ print_refused TooManySets 0 out
           unfolding refused_if
           sets_many h = text_read ∙ rw (reads, small, h)
 
@@ -55,7 +57,7 @@ module _ (tag kind : ℕ) (text out : List ℕ) where
           unfolding refused_if
           sets_few h = text_read ∙ ap (λ (x : Reading). compile_reading tag kind x out) reads ∙ pass small h
             where
-              pass : {a b : Bool} {next : PrintOutcome} → a ≡ false → b ≡ false → refused_if a 31 0 out (refused_if b 32 0 out next) ≡ next
+              pass : {a b : Bool} {next : PrintOutcome} → a ≡ false → b ≡ false → refused_if a LargeExpression 0 out (refused_if b TooManySets 0 out next) ≡ next
               pass p q = rw (p, q)
 
 -- ---- an accepted call
@@ -74,45 +76,45 @@ record Passes (t : Bool) (o next : PrintOutcome) : Type 0 where
   not_refused : t ≡ false
   same : o ≡ next
 
-passes : (t : Bool) (number place : ℕ) (out : List ℕ) (next : PrintOutcome) (n : ℕ)
-    → (refused_if t number place out next).answer ≡ print.Printed n → Passes t (refused_if t number place out next) next
+passes : (t : Bool) (reason : Reason) (place : ℕ) (out : List ℕ) (next : PrintOutcome) (n : ℕ)
+    → (refused_if t reason place out next).answer ≡ Ok n → Passes t (refused_if t reason place out next) next
 unfolding refused_if
 passes true number place out next n e = let y : ◌≡◌ {A = ℕ} 0 1 = cc in absurd (omega arith)
 passes false number place out next n e = record { not_refused = refl; same = refl }
 
-pub makes : (tag kind : ℕ) (text out : List ℕ) (n : ℕ) → (compile_outcome tag kind text out).answer ≡ print.Printed n
+pub makes : (tag kind : ℕ) (text out : List ℕ) (n : ℕ) → (compile_outcome tag kind text out).answer ≡ Ok n
     → Makes tag kind text out n
 unfolding compile_outcome
 makes tag kind text out n e = by_reading (read_expression text) refl
   where
     first : Passes (eqb tag 0 || ltb 1 kind) (compile_outcome tag kind text out)
-        (refused_if (ltb max_expression (length text)) 31 0 out (compile_reading tag kind (read_expression text) out))
-    first = passes _ 6 0 out _ n e
+        (refused_if (ltb max_expression (length text)) LargeExpression 0 out (compile_reading tag kind (read_expression text) out))
+    first = passes _ OutOfRange 0 out _ n e
 
     second : Passes (ltb max_expression (length text))
-        (refused_if (ltb max_expression (length text)) 31 0 out (compile_reading tag kind (read_expression text) out))
+        (refused_if (ltb max_expression (length text)) LargeExpression 0 out (compile_reading tag kind (read_expression text) out))
         (compile_reading tag kind (read_expression text) out)
-    second = passes _ 31 0 out _ n (sym (ap (λ (o : PrintOutcome). o.answer) first.same) ∙ e)
+    second = passes _ LargeExpression 0 out _ n (sym (ap (λ (o : PrintOutcome). o.answer) first.same) ∙ e)
 
     whole : compile_outcome tag kind text out ≡ compile_reading tag kind (read_expression text) out
     whole = first.same ∙ second.same
 
     by_reading : (r : Reading) → read_expression text ≡ r → Makes tag kind text out n
     by_reading (wrong place) h =
-        let q : print.Refused (record { number = 30; place = place }) ≡ print.Printed n =
+        let q : Err (record { reason = NoExpression; place = place }) ≡ Ok n =
         sym (ap (λ (o : PrintOutcome). o.answer) (whole ∙ ap (λ (x : Reading). compile_reading tag kind x out) h)) ∙ e in
         let y : ◌≡◌ {A = ℕ} 0 1 = cc in absurd (omega arith)
     by_reading (right x) h =
         let o : compile_outcome tag kind text out ≡ compile_reading tag kind (right x) out =
         whole ∙ ap (λ (y : Reading). compile_reading tag kind y out) h in
-        let a = passes (is_too_large x) 31 0 out (refused_if (many_sets x) 32 0 out (written (compiled tag kind x) out)) n
+        let a = passes (is_too_large x) LargeExpression 0 out (refused_if (many_sets x) TooManySets 0 out (written (compiled tag kind x) out)) n
         (sym (ap (λ (y : PrintOutcome). y.answer) o) ∙ e) in
-        let b = passes (many_sets x) 32 0 out (written (compiled tag kind x) out) n
+        let b = passes (many_sets x) TooManySets 0 out (written (compiled tag kind x) out) n
         (sym (ap (λ (y : PrintOutcome). y.answer) (o ∙ a.same)) ∙ e) in
-        let c = passes (ltb (length out) (length (compiled tag kind x))) 22 (length (compiled tag kind x)) out
+        let c = passes (ltb (length out) (length (compiled tag kind x))) OutputTooShort (length (compiled tag kind x)) out
         (print_accepted (compiled tag kind x) out) n (sym (ap (λ (y : PrintOutcome). y.answer) (o ∙ a.same ∙ b.same)) ∙ e) in
         let all : compile_outcome tag kind text out ≡ print_accepted (compiled tag kind x) out = o ∙ a.same ∙ b.same ∙ c.same in
-        let q : print.Printed (length (compiled tag kind x)) ≡ print.Printed n = sym (ap (λ (y : PrintOutcome). y.answer) all) ∙ e in
+        let q : Ok (length (compiled tag kind x)) ≡ Ok n = sym (ap (λ (y : PrintOutcome). y.answer) all) ∙ e in
         record {
           expression = x;
           reads = h;

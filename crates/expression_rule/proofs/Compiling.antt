@@ -1,4 +1,8 @@
 -- What the layers below have read, noted and found is what the outcome says. Assumes nothing.
+use Rattle.answer.specs.declared.Reason.{Reason}
+use Rattle.answer.specs.declared.Refusal.{Refusal}
+use Rattle.std.specs.Prelude.{Result, Err}
+use Rattle.answer.specs.declared.Reason.TheVariants.{LargeExpression, TooManySets}
 use mathlib.Core.Path.{◌≡◌, refl, sym, ap, subst, ◌∙◌}
 use mathlib.Core.Bool.{Bool, true, false, ◌||◌}
 use mathlib.Core.List.{List, [], ◌∷◌}
@@ -11,8 +15,6 @@ use lib.Dec.{ltb, eqb}
 use lib.ListN.{length, get_or, take, replicate}
 use lib.Seq.{ext_get_or}
 use Rattle.automaton.specs.Choice.{if, All}
-use Rattle.answer.specs.declared.PrintAnswer.{PrintAnswer}
-use Rattle.answer.specs.declared.PrintAnswer.TheVariants as answer
 use Rattle.output.specs.Outcome.{PrintOutcome, print_refused, refused_if, written}
 use Rattle.output.specs.Layers.{PrintAnswered}
 use Rattle.expression.specs.Expression.{Expression}
@@ -42,12 +44,12 @@ use Rattle.expression_rule.proofs.Fitting.{table-length, table_rows}
 
 -- ---- an answer
 
-pub answered : {o : PrintOutcome} {number place : ℕ} {r : PrintAnswer} {out : List ℕ} → o ≡ print_refused number place out
-    → r ≡ answer.Refused (record { number = number; place = place }) → PrintAnswered o r out
+pub answered : {o : PrintOutcome} {reason : Reason} {place : ℕ} {r : Result ℕ Refusal} {out : List ℕ} → o ≡ print_refused reason place out
+    → r ≡ Err (record { reason = reason; place = place }) → PrintAnswered o r out
 answered e h = rw e (record { answer = h; out = refl })
 
 -- a right expression's outcome is the call's
-pub passed : (tag kind : ℕ) (text out : List ℕ) {e : Expression} {r : PrintAnswer} {exit : List ℕ} → eqb tag 0 || ltb 1 kind ≡ false
+pub passed : (tag kind : ℕ) (text out : List ℕ) {e : Expression} {r : Result ℕ Refusal} {exit : List ℕ} → eqb tag 0 || ltb 1 kind ≡ false
     → ltb max_expression (length text) ≡ false → read_expression text ≡ right e → PrintAnswered (compile_right tag kind e out) r exit
     → PrintAnswered (compile_outcome tag kind text out) r exit
 passed tag kind text out {e} {r} {exit} fine short reads h =
@@ -140,11 +142,11 @@ mistaken text {place} d = go (read_expression text) refl
 -- ---- what was found
 
 module _ (tag kind : ℕ) {e : Expression} {part : Part} {takers follow : List ℕ} (h : Holds e part takers follow) (out : List ℕ) where
-  pub many_positions : 64 < part.end → compile_right tag kind e out ≡ print_refused 31 0 out
+  pub many_positions : 64 < part.end → compile_right tag kind e out ≡ print_refused LargeExpression 0 out
   unfolding refused_if
   many_positions l = rw (lt-ltb 64 (size e) (omega (arith, h.end)))
 
-  pub too_deep : part.end ≤ 64 → 16 < part.depth → compile_right tag kind e out ≡ print_refused 31 0 out
+  pub too_deep : part.end ≤ 64 → 16 < part.depth → compile_right tag kind e out ≡ print_refused LargeExpression 0 out
   unfolding refused_if
   too_deep k l = rw (le-ltb 64 (size e) (omega (arith, h.end)), lt-ltb 16 (depth e) (omega (arith, h.deep)))
 
@@ -152,7 +154,7 @@ module _ (tag kind : ℕ) {e : Expression} {part : Part} {takers follow : List �
     small : is_too_large e ≡ false
     small = rw (le-ltb 64 (size e) (omega (arith, h.end)), le-ltb 16 (depth e) (omega (arith, h.deep)))
 
-    pub many_sets_lem : are_too_many part.first follow takers ≡ true → compile_right tag kind e out ≡ print_refused 32 0 out
+    pub many_sets_lem : are_too_many part.first follow takers ≡ true → compile_right tag kind e out ≡ print_refused TooManySets 0 out
     unfolding refused_if
     many_sets_lem m =
         let t : many_sets e ≡ true = rw (sym h.firsts, sym (h.follow_all long), sym (h.takers_all wide)) m in

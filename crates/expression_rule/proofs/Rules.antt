@@ -1,4 +1,5 @@
 -- The rule of an expression's table matches what the expression matches; what a reader makes of a book of it alone. Assumes nothing.
+use Rattle.answer.specs.declared.Reason.TheVariants.{BookTooLong, StartFinal, TooMany}
 use mathlib.Core.Path.{◌≡◌, sym, ◌∙◌}
 use mathlib.Core.Bool.{Bool, true, false}
 use mathlib.Core.Logic.{◌↔◌}
@@ -57,15 +58,15 @@ module _ {e : Expression} {firsts lasts : ℕ} {empty : Bool} {follow takers : L
         table_fits tag kind finals (rows_of firsts follow takers) nonzero below plain (table_finals firsts follow takers lasts empty few)
         (table_rows firsts follow takers few s.takers_size)
 
-    pub read_too_long : max_bytes < length book → read_by strict book ≡ refused 1 0
+    pub read_too_long : max_bytes < length book → read_by strict book ≡ refused BookTooLong 0
     read_too_long l = rule_too_long strict tag kind finals spans l
 
     module _ (short : length book ≤ max_bytes) where
-      pub read_too_many : max_transitions < length spans → read_by strict book ≡ refused 5 (8 + 2 * length finals + 5 * max_transitions)
+      pub read_too_many : max_transitions < length spans → read_by strict book ≡ refused TooMany (8 + 2 * length finals + 5 * max_transitions)
       read_too_many l = rule_too_many strict tag kind finals spans fit short l
 
       module _ (room : length spans ≤ max_transitions) where
-        pub read_nullable : nullable e ≡ true → read_by strict book ≡ refused 12 (8 + 2 * length finals + 5 * length spans)
+        pub read_nullable : nullable e ≡ true → read_by strict book ≡ refused StartFinal (8 + 2 * length finals + 5 * length spans)
         read_nullable h = rule-start-final strict tag kind finals spans fit short room (start-final-nullable ∙ h)
 
         pub read_accepted : nullable e ≡ false → read_by strict book ≡ accepted (rule ∷ [])

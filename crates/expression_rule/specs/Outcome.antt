@@ -1,4 +1,5 @@
 -- Making a rule of an expression (document 02, wish 9), as a function from what a call is lent to what it answers and leaves behind.
+use Rattle.answer.specs.declared.Reason.TheVariants.{LargeExpression, NoExpression, OutOfRange, TooManySets}
 use Rattle.std.specs.Prelude.{Bool, ◌||◌, List, [], ◌∷◌, ◌++◌, ℕ, zero, suc, eqb, ltb, length}
 use Rattle.output.specs.Outcome.{PrintOutcome, print_refused, refused_if, written}
 use Rattle.expression.specs.Expression.{Expression}
@@ -59,15 +60,15 @@ abbrev pub is_too_large : Expression → Bool
 is_too_large e = ltb max_positions (size e) || ltb max_depth (depth e)
 
 abbrev pub compile_right : ℕ → ℕ → Expression → List ℕ → PrintOutcome
-compile_right tag kind e out = refused_if (is_too_large e) 31 0 out (refused_if (many_sets e) 32 0 out (written (compiled tag kind e) out))
+compile_right tag kind e out = refused_if (is_too_large e) LargeExpression 0 out (refused_if (many_sets e) TooManySets 0 out (written (compiled tag kind e) out))
 
 abbrev pub compile_reading : ℕ → ℕ → Reading → List ℕ → PrintOutcome
-compile_reading tag kind (wrong place) out = print_refused 30 place out
+compile_reading tag kind (wrong place) out = print_refused NoExpression place out
 compile_reading tag kind (right e) out = compile_right tag kind e out
 
 -- 6, 31 by the text's length, 30, 31 by positions or depth, 32, 22
 unfoldable pub compile_outcome : ℕ → ℕ → List ℕ → List ℕ → PrintOutcome
 compile_outcome tag kind text out =
-    refused_if (eqb tag 0 || ltb 1 kind) 6 0 out
-    (refused_if (ltb max_expression (length text)) 31 0 out
+    refused_if (eqb tag 0 || ltb 1 kind) OutOfRange 0 out
+    (refused_if (ltb max_expression (length text)) LargeExpression 0 out
     (compile_reading tag kind (read_expression text) out))

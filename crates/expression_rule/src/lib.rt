@@ -10,9 +10,8 @@ ghost use Rattle.output.specs.Layers.{PrintAnswered};
 ghost use Rattle.expression_rule.specs.Outcome.{compile_outcome, compile_right};
 ghost use Rattle.expression_rule.specs.Layers.{Holds, Stood};
 
-use answer::{PrintAnswer, Refusal};
-use position_reader::{Part, Read};
-use subsets::Explored;
+use answer::{Reason, Refusal};
+use position_reader::Part;
 
 // The bytes of an expression, its positions, and its parentheses within each other, at most.
 #[derive(Clone, Copy)]
@@ -28,23 +27,23 @@ impl Limits {
 
 // Makes a rule of an expression: the number of bytes of its commands, which stand at the start of `out`, or the refusal: 6, 31, 30, 31, 32,
 // 22. Every other byte of `out` stays as it was.
-pub fn compile(tag: u16, kind: u32, text: &[u8], out: &mut [u8]) -> PrintAnswer
+pub fn compile(tag: u16, kind: u32, text: &[u8], out: &mut [u8]) -> Result<usize, Refusal>
     ensures { PrintAnswered (compile_outcome tag kind text.now out.old) result out.new }
 {
     if tag == 0 {
-        return PrintAnswer::refused(Refusal::OUT_OF_RANGE, 0);
+        return Err(Reason::OutOfRange.at(0));
     }
     if 1 < kind {
-        return PrintAnswer::refused(Refusal::OUT_OF_RANGE, 0);
+        return Err(Reason::OutOfRange.at(0));
     }
     if Limits::BYTES < text.len() {
-        return PrintAnswer::refused(Refusal::LARGE_EXPRESSION, 0);
+        return Err(Reason::LargeExpression.at(0));
     }
     let mut takers = [0u64; 256];
     let mut follow = [0u64; 64];
     match expression_reader::read_expression(text, &mut takers, &mut follow) {
-        Read::Right(part) => compile_part(tag, kind as u8, part, &takers, &follow, out),
-        Read::Wrong(place) => PrintAnswer::refused(Refusal::NO_EXPRESSION, place),
+        Ok(part) => compile_part(tag, kind as u8, part, &takers, &follow, out),
+        Err(place) => Err(Reason::NoExpression.at(place)),
     }
 }
 
@@ -56,24 +55,24 @@ fn compile_part(
     takers: &[u64; 256],
     follow: &[u64; 64],
     out: &mut [u8],
-) -> PrintAnswer
+) -> Result<usize, Refusal>
     ensures { (e : Expression) → Holds e part takers.now follow.now
         → PrintAnswered (compile_right tag kind e out.old) result out.new }
 {
     if Limits::POSITIONS < part.end {
-        return PrintAnswer::refused(Refusal::LARGE_EXPRESSION, 0);
+        return Err(Reason::LargeExpression.at(0));
     }
     if Limits::DEPTH < part.depth {
-        return PrintAnswer::refused(Refusal::LARGE_EXPRESSION, 0);
+        return Err(Reason::LargeExpression.at(0));
     }
     tell_sizes(takers, follow);
     let mut sets = [0u64; 256];
     let mut targets = [0u8; 65536];
     match subsets::explore(part.first, follow, takers, &mut sets, &mut targets) {
-        Explored::States(count) => write_states(
+        Some(count) => write_states(
             tag, kind, part.last, part.empty, &sets, count, &targets, out,
         ),
-        Explored::TooMany => PrintAnswer::refused(Refusal::TOO_MANY_SETS, 0),
+        None => Err(Reason::TooManySets.at(0)),
     }
 }
 
@@ -93,7 +92,7 @@ fn write_states(
     count: usize,
     targets: &[u8; 65536],
     out: &mut [u8],
-) -> PrintAnswer
+) -> Result<usize, Refusal>
     requires { count ≤ 254 }
     ensures { (rows : List (List ℕ)) → Stood rows targets.now count
         → PrintAnswered (written (table_bytes tag kind (finals_of last empty (take count sets.now)) rows) out.old)

@@ -1,4 +1,7 @@
 -- How the answers of the code come to the outcome. Assumes nothing.
+use Rattle.std.specs.Prelude.{Err}
+use Rattle.answer.specs.declared.Reason.TheVariants.{TextTooLong, TooFewRecords}
+use Rattle.answer.specs.Answers.{lexed}
 use mathlib.Core.Path.{◌≡◌, refl, sym}
 use mathlib.Core.Bool.{Bool, true, false}
 use mathlib.Core.List.{List}
@@ -18,7 +21,6 @@ use Rattle.record.specs.Masks.{mask_count}
 use Rattle.lexer.specs.Layers.{Room, RecordsRoom, Fills, LexAnswered, RestAt}
 use Rattle.lexer.specs.Outcome.{lex_rules, rest_rules}
 use Rattle.lexer.specs.Masked.{masked_rules}
-use Rattle.answer.specs.declared.LexAnswer.TheVariants as lexed
 
 -- how many tokens there is room for, in records and in masks
 abbrev pub room_in : List ℕ → List ℕ → ℕ
@@ -26,12 +28,12 @@ room_in records masks = min (record_count records) (mask_count masks)
 
 module _ (rules : List Rule) (text records masks : List ℕ) where
   pub answered_long : max_text < length text
-      → LexAnswered (masked_rules rules text records masks) (lexed.Refused (record { number = 14; place = 0 })) records masks
+      → LexAnswered (masked_rules rules text records masks) (Err (record { reason = TextTooLong; place = 0 })) records masks
   unfolding lex_rules masked_rules
   answered_long l = rw (lt-ltb _ _ l) (record { answer = refl; records = refl; masks = refl })
 
   pub answered_few : {tokens rest : ℕ} → length text ≤ max_text → Cuts rules text tokens rest → room_in records masks < tokens
-      → LexAnswered (masked_rules rules text records masks) (lexed.Refused (record { number = 15; place = tokens })) records masks
+      → LexAnswered (masked_rules rules text records masks) (Err (record { reason = TooFewRecords; place = tokens })) records masks
   unfolding lex_rules masked_rules
   answered_few {tokens} {rest} l c f = go (ltb (record_count records) tokens) refl
     where
@@ -39,7 +41,7 @@ module _ (rules : List Rule) (text records masks : List ℕ) where
       e = c.tokens_are
 
       go : (b : Bool) → ltb (record_count records) tokens ≡ b
-          → LexAnswered (masked_rules rules text records masks) (lexed.Refused (record { number = 15; place = tokens })) records masks
+          → LexAnswered (masked_rules rules text records masks) (Err (record { reason = TooFewRecords; place = tokens })) records masks
       go true q = rw (le-ltb _ _ l, ← e, q) (record { answer = refl; records = refl; masks = refl })
       go false q =
           let few : mask_count masks < tokens = omega (arith, ltb-false (record_count records) tokens q) in
@@ -48,7 +50,7 @@ module _ (rules : List Rule) (text records masks : List ℕ) where
   pub answered_lexed : {tokens rest : ℕ} {records-exit masks-exit : List ℕ} → length text ≤ max_text
       → length (lex rules text).tokens ≤ room_in records masks
       → Cuts rules text tokens rest → Fills rules text records records-exit masks masks-exit
-      → LexAnswered (masked_rules rules text records masks) (lexed.Lexed tokens rest) records-exit masks-exit
+      → LexAnswered (masked_rules rules text records masks) (lexed tokens rest) records-exit masks-exit
   unfolding lex_rules masked_rules
   answered_lexed l m c w =
       let a : length (lex rules text).tokens ≤ record_count records = omega arith in

@@ -1,4 +1,8 @@
 -- A cut with masks beside the same one without: what both answer and leave. Assumes nothing.
+use Rattle.answer.specs.declared.Cut.{Cut}
+use Rattle.std.specs.Prelude.{Result, Err}
+use Rattle.answer.specs.declared.Reason.TheVariants.{TextTooLong, TooFewRecords}
+use Rattle.answer.specs.Answers.{lexed}
 use mathlib.Core.Path.{◌≡◌, refl, sym, subst}
 use mathlib.Core.Logic.{◌⊎◌, inl, inr}
 use mathlib.Core.Bool.{Bool, true, false}
@@ -9,7 +13,6 @@ use lib.Dec.{ltb}
 use lib.ListN.{length, drop}
 use borrow.Author.Tests.{le-ltb, ltb-true, ltb-false}
 use Rattle.answer.specs.declared.Refusal.{Refusal}
-use Rattle.answer.specs.declared.LexAnswer.{LexAnswer}
 use Rattle.automaton.specs.Choice.{if}
 use Rattle.automaton.specs.Rule.{Rule}
 use Rattle.book.specs.Limits.{max_text}
@@ -20,7 +23,6 @@ use Rattle.record.specs.Records.{record_count}
 use Rattle.record.specs.Masks.{mask_bytes, mask_count}
 use Rattle.lexer.specs.Outcome.{LexOutcome, lex_refused, lex_accepted, lex_rules, lex_reading, lex_outcome}
 use Rattle.lexer.specs.Masked.{MaskedOutcome, masked_refused, with_masks, masked_rules, masked_reading, masked_outcome}
-use Rattle.answer.specs.declared.LexAnswer.TheVariants as lexed
 
 -- ---- from any answer and what is stored beside it
 
@@ -32,52 +34,52 @@ pub record Same (o : LexOutcome) (m : MaskedOutcome) : Type 0 where
 -- Refused, all stands as it did; where the same call without masks is not refused, it has n tokens, and they are too many for the masks.
 pub record Refuses (o : LexOutcome) (m : MaskedOutcome) (records masks : List ℕ) (f : Refusal) : Type 0 where
   pub keeps : m.masks ≡ masks
-  pub why : ((o.answer ≡ lexed.Refused f) × (m.records ≡ o.records))
-      ⊎ ((n : ℕ) × (place : ℕ) × (o.answer ≡ lexed.Lexed n place) × (mask_count masks < n) × (f ≡ record { number = 15; place = n })
+  pub why : ((o.answer ≡ Err f) × (m.records ≡ o.records))
+      ⊎ ((n : ℕ) × (place : ℕ) × (o.answer ≡ lexed n place) × (mask_count masks < n) × (f ≡ record { reason = TooFewRecords; place = n })
       × (m.records ≡ records))
 
 -- Accepted, the masks are enough, and those of the tokens stand in front of what stood there.
 pub record Accepts (o : LexOutcome) (m : MaskedOutcome) (agreed masks : List ℕ) (n place : ℕ) : Type 0 where
   pub same : Same o m
-  pub cut : o.answer ≡ lexed.Lexed n place
+  pub cut : o.answer ≡ lexed n place
   pub enough : n ≤ mask_count masks
   pub leaves : m.masks ≡ mask_bytes agreed ++ drop (4 * n) masks
 
 module _ (stored agreed records masks : List ℕ) where
-  abbrev outcome : LexAnswer → LexOutcome
+  abbrev outcome : Result Cut Refusal → LexOutcome
   outcome a = record { answer = a; records = stored }
 
-  abbrev masked : LexAnswer → MaskedOutcome
+  abbrev masked : Result Cut Refusal → MaskedOutcome
   masked a = with_masks a stored agreed records masks
 
-  with_enough : (a : LexAnswer) → ((n place : ℕ) → a ≡ lexed.Lexed n place → n ≤ mask_count masks) → Same (outcome a) (masked a)
-  with_enough (lexed.Refused f) h = record { answers = refl; stores = refl }
-  with_enough (lexed.Lexed n place) h = rw (le-ltb _ _ (h n place refl)) (record { answers = refl; stores = refl })
+  with_enough : (a : Result Cut Refusal) → ((n place : ℕ) → a ≡ lexed n place → n ≤ mask_count masks) → Same (outcome a) (masked a)
+  with_enough (Err f) h = record { answers = refl; stores = refl }
+  with_enough (lexed n place) h = rw (le-ltb _ _ (h n place refl)) (record { answers = refl; stores = refl })
 
-  with_refused : (a : LexAnswer) (f : Refusal) → (masked a).answer ≡ lexed.Refused f → Refuses (outcome a) (masked a) records masks f
-  with_refused (lexed.Refused g) f e = record { keeps = refl; why = inl (e, refl) }
-  with_refused (lexed.Lexed n place) f e = go (ltb (mask_count masks) n) refl e
+  with_refused : (a : Result Cut Refusal) (f : Refusal) → (masked a).answer ≡ Err f → Refuses (outcome a) (masked a) records masks f
+  with_refused (Err g) f e = record { keeps = refl; why = inl (e, refl) }
+  with_refused (lexed n place) f e = go (ltb (mask_count masks) n) refl e
     where
       go : (b : Bool) → ltb (mask_count masks) n ≡ b
-          → (if b (masked_refused (record { number = 15; place = n }) records masks)
-          (record { answer = lexed.Lexed n place; records = stored; masks = mask_bytes agreed ++ drop (4 * n) masks })).answer
-          ≡ lexed.Refused f
-          → Refuses (outcome (lexed.Lexed n place)) (masked (lexed.Lexed n place)) records masks f
+          → (if b (masked_refused (record { reason = TooFewRecords; place = n }) records masks)
+          (record { answer = lexed n place; records = stored; masks = mask_bytes agreed ++ drop (4 * n) masks })).answer
+          ≡ Err f
+          → Refuses (outcome (lexed n place)) (masked (lexed n place)) records masks f
       go true q z =
-          let w : record { number = 15; place = n } ≡ f = cc in
+          let w : record { reason = TooFewRecords; place = n } ≡ f = cc in
           rw q (record { keeps = refl; why = inr (n, place, refl, ltb-true _ _ q, sym w, refl) })
       go false q z = let y : ◌≡◌ {A = ℕ} 0 1 = cc in absurd (omega arith)
 
-  with_lexed : (a : LexAnswer) (n place : ℕ) → (masked a).answer ≡ lexed.Lexed n place
+  with_lexed : (a : Result Cut Refusal) (n place : ℕ) → (masked a).answer ≡ lexed n place
       → Accepts (outcome a) (masked a) agreed masks n place
-  with_lexed (lexed.Refused g) n place e = let y : ◌≡◌ {A = ℕ} 0 1 = cc in absurd (omega arith)
-  with_lexed (lexed.Lexed m at) n place e = go (ltb (mask_count masks) m) refl e
+  with_lexed (Err g) n place e = let y : ◌≡◌ {A = ℕ} 0 1 = cc in absurd (omega arith)
+  with_lexed (lexed m at) n place e = go (ltb (mask_count masks) m) refl e
     where
       go : (b : Bool) → ltb (mask_count masks) m ≡ b
-          → (if b (masked_refused (record { number = 15; place = m }) records masks)
-          (record { answer = lexed.Lexed m at; records = stored; masks = mask_bytes agreed ++ drop (4 * m) masks })).answer
-          ≡ lexed.Lexed n place
-          → Accepts (outcome (lexed.Lexed m at)) (masked (lexed.Lexed m at)) agreed masks n place
+          → (if b (masked_refused (record { reason = TooFewRecords; place = m }) records masks)
+          (record { answer = lexed m at; records = stored; masks = mask_bytes agreed ++ drop (4 * m) masks })).answer
+          ≡ lexed n place
+          → Accepts (outcome (lexed m at)) (masked (lexed m at)) agreed masks n place
       go true q z = let y : ◌≡◌ {A = ℕ} 0 1 = cc in absurd (omega arith)
       go false q z =
           let k : m ≡ n = cc in
@@ -91,15 +93,15 @@ module _ (stored agreed records masks : List ℕ) where
 -- ---- by the bytes of a book
 
 -- an accepted cut has no more tokens than there are records
-lexed_fits : (book text records : List ℕ) (n place : ℕ) → (lex_outcome book text records).answer ≡ lexed.Lexed n place
+lexed_fits : (book text records : List ℕ) (n place : ℕ) → (lex_outcome book text records).answer ≡ lexed n place
     → n ≤ record_count records
 unfolding lex_outcome lex_rules
 lexed_fits book text records n place e = go (read_book book) e
   where
     by_rules : (rules : List Rule) (long few : Bool) → ltb (record_count records) (length (lex rules text).tokens) ≡ few
-        → (if long (lex_refused 14 0 records)
-        (if few (lex_refused 15 (length (lex rules text).tokens) records) (lex_accepted (lex rules text) text records))).answer
-        ≡ lexed.Lexed n place
+        → (if long (lex_refused TextTooLong 0 records)
+        (if few (lex_refused TooFewRecords (length (lex rules text).tokens) records) (lex_accepted (lex rules text) text records))).answer
+        ≡ lexed n place
         → n ≤ record_count records
     by_rules rules true few f q = let y : ◌≡◌ {A = ℕ} 0 1 = cc in absurd (omega arith)
     by_rules rules false true f q = let y : ◌≡◌ {A = ℕ} 0 1 = cc in absurd (omega arith)
@@ -107,7 +109,7 @@ lexed_fits book text records n place e = go (read_book book) e
         let k : length (lex rules text).tokens ≡ n = cc in
         subst (λ (x : ℕ). x ≤ record_count records) k (ltb-false _ _ f)
 
-    go : (o : Reading) → (lex_reading o text records).answer ≡ lexed.Lexed n place → n ≤ record_count records
+    go : (o : Reading) → (lex_reading o text records).answer ≡ lexed n place → n ≤ record_count records
     go (refused number at) q = let y : ◌≡◌ {A = ℕ} 0 1 = cc in absurd (omega arith)
     go (accepted rules) q = by_rules rules (ltb max_text (length text)) _ refl q
 
@@ -119,13 +121,13 @@ module _ (book text records masks : List ℕ) where
   beside = masked_outcome book text records masks
 
   -- where the masks are enough for the tokens, there is no difference
-  pub masked_same : ((n place : ℕ) → plain.answer ≡ lexed.Lexed n place → n ≤ mask_count masks) → Same plain beside
+  pub masked_same : ((n place : ℕ) → plain.answer ≡ lexed n place → n ≤ mask_count masks) → Same plain beside
   unfolding lex_outcome masked_outcome masked_rules
   masked_same h = go (read_book book) h
     where
-      go : (o : Reading) → ((n place : ℕ) → (lex_reading o text records).answer ≡ lexed.Lexed n place → n ≤ mask_count masks)
+      go : (o : Reading) → ((n place : ℕ) → (lex_reading o text records).answer ≡ lexed n place → n ≤ mask_count masks)
           → Same (lex_reading o text records) (masked_reading o text records masks)
-      go (refused number place) q = record { answers = refl; stores = refl }
+      go (refused reason place) q = record { answers = refl; stores = refl }
       go (accepted rules) q =
           with_enough (lex_rules rules text records).records (masks_of rules (lex rules text).tokens) records masks
           (lex_rules rules text records).answer q
@@ -134,24 +136,24 @@ module _ (book text records masks : List ℕ) where
   pub masked_room : record_count records ≤ mask_count masks → Same plain beside
   masked_room l = masked_same (λ n place e. omega (arith, lexed_fits book text records n place e))
 
-  pub masked_refused_lem : (f : Refusal) → beside.answer ≡ lexed.Refused f → Refuses plain beside records masks f
+  pub masked_refused_lem : (f : Refusal) → beside.answer ≡ Err f → Refuses plain beside records masks f
   unfolding lex_outcome masked_outcome masked_rules
   masked_refused_lem f e = go (read_book book) e
     where
-      go : (o : Reading) → (masked_reading o text records masks).answer ≡ lexed.Refused f
+      go : (o : Reading) → (masked_reading o text records masks).answer ≡ Err f
           → Refuses (lex_reading o text records) (masked_reading o text records masks) records masks f
-      go (refused number place) q = record { keeps = refl; why = inl (q, refl) }
+      go (refused reason place) q = record { keeps = refl; why = inl (q, refl) }
       go (accepted rules) q =
           with_refused (lex_rules rules text records).records (masks_of rules (lex rules text).tokens) records masks
           (lex_rules rules text records).answer f q
 
-  pub masked_lexed : (n place : ℕ) → beside.answer ≡ lexed.Lexed n place
+  pub masked_lexed : (n place : ℕ) → beside.answer ≡ lexed n place
       → (rules : List Rule) × ((read_book book ≡ accepted rules)
       × Accepts plain beside (masks_of rules (lex rules text).tokens) masks n place)
   unfolding lex_outcome masked_outcome masked_rules
   masked_lexed n place e = go (read_book book) refl e
     where
-      go : (o : Reading) → read_book book ≡ o → (masked_reading o text records masks).answer ≡ lexed.Lexed n place
+      go : (o : Reading) → read_book book ≡ o → (masked_reading o text records masks).answer ≡ lexed n place
           → (rules : List Rule) × ((o ≡ accepted rules)
           × Accepts (lex_reading o text records) (masked_reading o text records masks) (masks_of rules (lex rules text).tokens) masks n
           place)

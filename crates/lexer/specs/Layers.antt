@@ -1,6 +1,8 @@
 -- What the layers of the code ask and answer between themselves. Nobody needs to believe it: the operations' contracts do not rest on it.
+use Rattle.answer.specs.declared.Cut.{Cut}
+use Rattle.answer.specs.declared.Refusal.{Refusal}
+use Rattle.std.specs.Prelude.{Result}
 use Rattle.std.specs.Prelude.{◌≡◌, List, ◌++◌, ℕ, ◌*◌, ◌≤◌, length, drop}
-use Rattle.answer.specs.declared.LexAnswer.{LexAnswer}
 use Rattle.automaton.specs.Rule.{Rule}
 use Rattle.automaton.specs.Layers.{Holds, Held}
 use Rattle.longest_match.specs.Lexer.{lex}
@@ -30,7 +32,7 @@ pub record Fills (rules : List Rule) (text entry exit masks-entry masks-exit : L
 -- ---- Module by_rules, and the operations.
 
 -- an answer, and what the records and the masks hold afterwards, are those of the outcome
-pub record LexAnswered (o : MaskedOutcome) (r : LexAnswer) (records-exit masks-exit : List ℕ) : Type 0 where
+pub record LexAnswered (o : MaskedOutcome) (r : Result Cut Refusal) (records-exit masks-exit : List ℕ) : Type 0 where
   pub answer : r ≡ o.answer
   pub records : records-exit ≡ o.records
   pub masks : masks-exit ≡ o.masks

@@ -5,7 +5,7 @@ ghost use Rattle.automaton.specs.Layers.{Holds};
 ghost use Rattle.longest_match.specs.Layers.{Cuts};
 ghost use Rattle.lexer.specs.Layers.{RecordsRoom, Fills};
 
-use longest_match::Cut;
+use answer::Cut;
 
 // How `text` is cut, with a record and a mask of each token stored from the starts of `records` and `masks`.
 pub fn fill(table: &[u64], text: &[u8], records: &mut [u8], masks: &mut [u8]) -> Cut
@@ -18,13 +18,10 @@ pub fn fill(table: &[u64], text: &[u8], records: &mut [u8], masks: &mut [u8]) ->
     let mut tokens = 0;
     let mut place = 0;
     while place < text.len() {
-        let c = longest_match::choose_with(table, text, place, text.len(), &mut lengths);
-        if c.len == 0 {
-            return Cut {
-                tokens,
-                rest: place,
-            };
-        }
+        let Some(c) = longest_match::choose_with(table, text, place, text.len(), &mut lengths)
+        else {
+            break;
+        };
         let tag = automaton::tag_of(table, c.rule);
         let len = c.len;
         record::put_record(records, tokens, tag, place, len);

@@ -1,4 +1,8 @@
 -- The lines of an outcome fit the buffer: each has at most 24 bytes. Assumes nothing.
+use Rattle.answer.specs.declared.Cut.{Cut}
+use Rattle.answer.specs.declared.Refusal.{Refusal}
+use Rattle.std.specs.Prelude.{Result}
+use Rattle.answer.specs.declared.Reason.TheVariants.{TextTooLong, TooFewRecords}
 use mathlib.Core.Path.{◌≡◌, refl, sym, ◌∙◌, ap}
 use mathlib.Core.Bool.{Bool, true, false}
 use mathlib.Core.List.{List, [], ◌∷◌, ◌++◌}
@@ -10,7 +14,6 @@ use lib.ListN.{length, get_or, drop, length-append, get_or-append}
 use lib.Seq.{get_or-take, get_or-drop}
 use borrow.Author.Tests.{ltb-false}
 use Rattle.big_endian.proofs.Numbers.{four_value}
-use Rattle.answer.specs.declared.LexAnswer.{LexAnswer}
 use Rattle.automaton.specs.Choice.{if}
 use Rattle.automaton.specs.Rule.{Rule}
 use Rattle.book.specs.Limits.{max_text}
@@ -145,14 +148,14 @@ module _ (text records out : List ℕ) (size : length records ≡ record_bytes) 
       cut = lex_accepted (lex rules text) text records
 
       go : (t : Bool) → ltb max_text (length text) ≡ t → (u : Bool) → ltb (record_count records) count ≡ u
-          → OutcomeFits (if t (lex_refused 14 0 records) (if u (lex_refused 15 count records) cut)) text out
+          → OutcomeFits (if t (lex_refused TextTooLong 0 records) (if u (lex_refused TooFewRecords count records) cut)) text out
       go true e u f = omega arith
       go false e true f = omega arith
       go false e false f = fit_accepted rules text records (ltb-false _ _ e) out size room (ltb-false _ _ f)
 
   fit_reading : (o : Reading) → OutcomeFits (lex_reading o text records) text out
   fit_reading (accepted rules) = fit_rules rules
-  fit_reading (refused number place) = omega arith
+  fit_reading (refused reason place) = omega arith
 
   -- the lines of every outcome fit
   fit_outcome : (book : List ℕ) → OutcomeFits (lex_outcome book text records) text out
@@ -161,7 +164,7 @@ module _ (text records out : List ℕ) (size : length records ≡ record_bytes) 
 
 -- ---- the whole listing, of an answer and records that are those of the outcome
 
-module _ (book text records : List ℕ) {exit : List ℕ} {r : LexAnswer}
+module _ (book text records : List ℕ) {exit : List ℕ} {r : Result Cut Refusal}
     (a : r ≡ (lex_outcome book text records).answer) (b : exit ≡ (lex_outcome book text records).records) where
   pub fit_answer : (out : List ℕ) → length records ≡ record_bytes → length out ≡ output_bytes → LinesFit r exit (length text) out
   fit_answer out size room = rw (a, b) (fit_outcome text records out size (omega arith) book)

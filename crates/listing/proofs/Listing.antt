@@ -1,4 +1,7 @@
 -- The lines of records, one behind the other. Assumes nothing.
+use Rattle.answer.specs.declared.Cut.{Cut}
+use Rattle.std.specs.Prelude.{Result, Err}
+use Rattle.answer.specs.Answers.{lexed}
 use mathlib.Core.Path.{◌≡◌, refl, sym, ◌∙◌, subst}
 use mathlib.Core.List.{List, [], ◌∷◌, ◌++◌}
 use mathlib.Core.Bool.{Bool, true, false}
@@ -9,8 +12,6 @@ use lib.Dec.{ltb}
 use lib.ListN.{length, length-append}
 use borrow.Author.Tests.{ltb-true, ltb-false}
 use Rattle.answer.specs.declared.Refusal.{Refusal}
-use Rattle.answer.specs.declared.LexAnswer.{LexAnswer}
-use Rattle.answer.specs.declared.LexAnswer.TheVariants.{Lexed, Refused}
 use Rattle.listing.specs.Decimal.{decimal, field, blank, line_end, last_two}
 use Rattle.listing.specs.Layers.{Room, Puts, refused_bytes, LinesFit}
 use Rattle.listing.proofs.Putting.{puts_nothing, puts_then, room_second, digits}
@@ -70,21 +71,21 @@ module _ {entry records out : List ℕ} {n at k : ℕ} (g : Going entry records 
 
 -- ---- by the answer
 
-module _ {a : LexAnswer} {tokens rest : ℕ} (e : a ≡ Lexed tokens rest) (records : List ℕ) (len : ℕ) where
+module _ {a : Result Cut Refusal} {tokens rest : ℕ} (e : a ≡ lexed tokens rest) (records : List ℕ) (len : ℕ) where
   pub fit_lexed : {out : List ℕ} → LinesFit a records len out
       → (10 * tokens ≤ length records) × (rest ≤ len) × Room 0 (record_lines records tokens ++ rest_line rest (len - rest)) out
-  fit_lexed {out} f = subst (λ (x : LexAnswer). LinesFit x records len out) e f
+  fit_lexed {out} f = subst (λ (x : Result Cut Refusal). LinesFit x records len out) e f
 
   pub puts_lexed : {out after : List ℕ} {end : ℕ} → Puts out 0 (record_lines records tokens ++ rest_line rest (len - rest)) end after
       → Puts out 0 (lines_of a records len) end after
-  puts_lexed {out} {after} {end} p = subst (λ (x : LexAnswer). Puts out 0 (lines_of x records len) end after) (sym e) p
+  puts_lexed {out} {after} {end} p = subst (λ (x : Result Cut Refusal). Puts out 0 (lines_of x records len) end after) (sym e) p
 
-module _ {a : LexAnswer} {f : Refusal} (e : a ≡ Refused f) (records : List ℕ) (len : ℕ) where
+module _ {a : Result Cut Refusal} {f : Refusal} (e : a ≡ Err f) (records : List ℕ) (len : ℕ) where
   pub room_refused : {out : List ℕ} → LinesFit a records len out → f.number < 256 → f.place < 18446744073709551616
       → Room 0 (refused_line f.number f.place) out
   unfolding refused_line last_two
   room_refused {out} t l m =
-      let room : refused_bytes ≤ length out = subst (λ (x : LexAnswer). LinesFit x records len out) e t in
+      let room : refused_bytes ≤ length out = subst (λ (x : Result Cut Refusal). LinesFit x records len out) e t in
       record {
         room = omega (
           arith,
@@ -100,4 +101,4 @@ module _ {a : LexAnswer} {f : Refusal} (e : a ≡ Refused f) (records : List ℕ
 
   pub puts_refused : {out after : List ℕ} {end : ℕ} → Puts out 0 (refused_line f.number f.place) end after
       → Puts out 0 (lines_of a records len) end after
-  puts_refused {out} {after} {end} p = subst (λ (x : LexAnswer). Puts out 0 (lines_of x records len) end after) (sym e) p
+  puts_refused {out} {after} {end} p = subst (λ (x : Result Cut Refusal). Puts out 0 (lines_of x records len) end after) (sym e) p

@@ -1,8 +1,9 @@
 -- What the functions of this crate ask and answer between themselves. Nobody needs to believe it: of these a caller of `list` reads only
 -- `output_bytes`, the size of the buffer that it lends.
+use Rattle.answer.specs.declared.Cut.{Cut}
+use Rattle.answer.specs.declared.Refusal.{Refusal}
+use Rattle.std.specs.Prelude.{Result, Ok, Err}
 use Rattle.std.specs.Prelude.{◌≡◌, List, ◌++◌, ℕ, ◌+◌, ◌≤◌, ◌-◌, ◌*◌, length, take, drop}
-use Rattle.answer.specs.declared.LexAnswer.{LexAnswer}
-use Rattle.answer.specs.declared.LexAnswer.TheVariants.{Lexed, Refused}
 use Rattle.listing.specs.Lines.{rest_line, record_lines}
 
 -- ---- writing a text into a buffer
@@ -27,7 +28,7 @@ abbrev pub refused_bytes : ℕ
 refused_bytes = 33
 
 -- the records and the rest that an answer tells of are there, and there is room for the lines
-abbrev pub LinesFit : LexAnswer → List ℕ → ℕ → List ℕ → Type 0
-LinesFit (Refused f) records len out = refused_bytes ≤ length out
-LinesFit (Lexed tokens rest) records len out =
-    (10 * tokens ≤ length records) × (rest ≤ len) × Room 0 (record_lines records tokens ++ rest_line rest (len - rest)) out
+abbrev pub LinesFit : Result Cut Refusal → List ℕ → ℕ → List ℕ → Type 0
+LinesFit (Err f) records len out = refused_bytes ≤ length out
+LinesFit (Ok cut) records len out =
+    (10 * cut.tokens ≤ length records) × (cut.rest ≤ len) × Room 0 (record_lines records cut.tokens ++ rest_line cut.rest (len - cut.rest)) out

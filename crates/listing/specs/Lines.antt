@@ -1,8 +1,10 @@
 -- What the program cutlist prints, as bytes in ASCII (document 01, 'Sheets of examples'): for each token a line of its number, tag, place
 -- and length in decimal, then a line for the rest; or one line for a refusal.
+use Rattle.answer.specs.Refusals.{number_of}
+use Rattle.answer.specs.declared.Cut.{Cut}
+use Rattle.answer.specs.declared.Refusal.{Refusal}
+use Rattle.std.specs.Prelude.{Result, Ok, Err}
 use Rattle.std.specs.Prelude.{List, [], ◌∷◌, ◌++◌, ℕ, ◌+◌, zero, suc, ◌-◌, length}
-use Rattle.answer.specs.declared.LexAnswer.{LexAnswer}
-use Rattle.answer.specs.declared.LexAnswer.TheVariants.{Lexed, Refused}
 use Rattle.longest_match.specs.Lexer.{Token}
 use Rattle.record.specs.Tokens.{record_at}
 use Rattle.lexer.specs.Outcome.{lex_outcome}
@@ -42,9 +44,9 @@ record_lines records zero = []
 record_lines records (suc n) = record_lines records n ++ record_line records n
 
 -- the lines of an answer and the records beside it, for a text of so many bytes
-abbrev pub lines_of : LexAnswer → List ℕ → ℕ → List ℕ
-lines_of (Refused f) records len = refused_line f.number f.place
-lines_of (Lexed tokens rest) records len = record_lines records tokens ++ rest_line rest (len - rest)
+abbrev pub lines_of : Result Cut Refusal → List ℕ → ℕ → List ℕ
+lines_of (Err f) records len = refused_line (number_of f.reason) f.place
+lines_of (Ok cut) records len = record_lines records cut.tokens ++ rest_line cut.rest (len - cut.rest)
 
 -- room for 6,000 records
 abbrev pub record_bytes : ℕ

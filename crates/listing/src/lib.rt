@@ -11,7 +11,7 @@ ghost use Rattle.lexer.specs.Masked.{masked_outcome};
 ghost use Rattle.listing.specs.Layers.{Room, Puts, LinesFit};
 ghost use Rattle.listing.specs.Lines.{word_line, record_lines, lines_of, listing};
 
-use answer::LexAnswer;
+use answer::{Cut, Refusal};
 
 // The bytes of the 6,000 records and masks that are lent to `list`, and of the output, which no listing passes.
 pub const RECORD_BYTES: usize = 60000;
@@ -37,26 +37,30 @@ fn put_records(out: &mut [u8], records: &[u8], n: usize) -> usize
     ensures { Puts out.old 0 (record_lines records.now n) result out.new }
 {
     let mut at = 0;
-    let mut k = 0;
-    while k < n {
+    for k in 0..n {
         at = crate::lines::put_record(out, at, records, k);
-        k += 1;
     }
     at
 }
 
 // The lines of an answer and the records beside it, for a text of `len` bytes.
-fn put_lines(out: &mut [u8], answer: LexAnswer, records: &[u8], len: usize) -> usize
+fn put_lines(out: &mut [u8], answer: Result<Cut, Refusal>, records: &[u8], len: usize) -> usize
     requires { LinesFit answer records.now len out.old }
     ensures { Puts out.old 0 (lines_of answer records.now len) result out.new }
 {
     match answer {
-        LexAnswer::Lexed { tokens, rest } => {
-            let at = put_records(out, records, tokens);
-            put_line(out, at, b"rest ", rest, len - rest)
+        Ok(cut) => {
+            let at = put_records(out, records, cut.tokens);
+            put_line(out, at, b"rest ", cut.rest, len - cut.rest)
         }
-        LexAnswer::Refused(refusal) => {
-            put_line(out, 0, b"refused ", refusal.number as usize, refusal.place)
+        Err(refusal) => {
+            put_line(
+                out,
+                0,
+                b"refused ",
+                refusal.reason.number() as usize,
+                refusal.place,
+            )
         }
     }
 }

@@ -9,6 +9,8 @@ ghost use Rattle.automaton.specs.Rule.{Rule};
 ghost use Rattle.automaton.specs.Layers.{rule_room, Holds, Held};
 ghost use Rattle.longest_match.specs.Layers.{part, Chooses, Agrees, Picks, Walks, Cuts};
 
+use answer::Cut;
+
 // What is chosen at the start of a text: the number of the rule, how many bytes it takes, and the mask of all rules that match just these
 // bytes, bit k for rule number k; all 0 for no rule.
 #[derive(Clone, Copy)]
@@ -105,13 +107,6 @@ fn choose_among(table: &[u64], lengths: &[usize]) -> Choice
 {
     let rules = automaton::count_of(table);
     crate::steps::choose_from(&lengths[..rules])
-}
-
-// A cut of a text: how many tokens it has, and the place of the rest.
-#[derive(Clone, Copy)]
-pub struct Cut {
-    pub tokens: usize,
-    pub rest: usize,
 }
 
 // How `text` is cut, with nothing written.

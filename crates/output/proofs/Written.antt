@@ -1,4 +1,7 @@
 -- Answers that are those of `written`, and outcomes that are accepted. Assumes nothing.
+use Rattle.answer.specs.declared.Reason.{Reason}
+use Rattle.std.specs.Prelude.{Result, Ok, Err}
+use Rattle.answer.specs.declared.Reason.TheVariants.{OutputTooShort}
 use mathlib.Core.Path.{◌≡◌, refl, ◌∙◌}
 use mathlib.Core.Bool.{Bool, true, false}
 use mathlib.Core.Option.{Option, none, some}
@@ -10,26 +13,24 @@ use lib.Dec.{ltb}
 use lib.ListN.{length, take, drop}
 use borrow.Author.Tests.{lt-ltb, le-ltb, ltb-true, ltb-false}
 use Rattle.answer.specs.declared.Refusal.{Refusal}
-use Rattle.answer.specs.declared.PrintAnswer.{PrintAnswer}
 use Rattle.output.specs.Outcome.{PrintOutcome, print_refused, print_accepted, refused_if, unless, written, written_up_to}
 use Rattle.output.specs.Layers.{PrintAnswered, WritesOut}
-use Rattle.answer.specs.declared.PrintAnswer.TheVariants as answer
 
 -- ---- what is written
 
 module _ (bytes out : List ℕ) {total : ℕ} (e : total ≡ length bytes) where
-  pub written_short : length out < total → {r : PrintAnswer} → r ≡ answer.Refused (record { number = 22; place = total })
+  pub written_short : length out < total → {r : Result ℕ Refusal} → r ≡ Err (record { reason = OutputTooShort; place = total })
       → PrintAnswered (written bytes out) r out
   unfolding refused_if
   written_short l a = rw (← e, lt-ltb _ _ l) (record { answer = a; out = refl })
 
   pub written-whole : total ≤ length out → {exit : List ℕ} → exit ≡ bytes ++ drop total out
-      → PrintAnswered (written bytes out) (answer.Printed total) exit
+      → PrintAnswered (written bytes out) (Ok total) exit
   unfolding refused_if
   written-whole l p = rw (← e, le-ltb _ _ l) (record { answer = refl; out = p })
 
   -- the whole outcome
-  pub written_lacks : length out < total → written bytes out ≡ print_refused 22 total out
+  pub written_lacks : length out < total → written bytes out ≡ print_refused OutputTooShort total out
   unfolding refused_if
   written_lacks l = rw (← e, lt-ltb _ _ l)
 
@@ -38,7 +39,7 @@ module _ (bytes out : List ℕ) {total : ℕ} (e : total ≡ length bytes) where
   written-fits l = rw (← e, le-ltb _ _ l)
 
   -- what `write` leaves of the bytes that stand in a scratch from `at` on
-  pub written_out : (scratch : List ℕ) (at : ℕ) → take total (drop at scratch) ≡ bytes → {r : PrintAnswer} {exit : List ℕ}
+  pub written_out : (scratch : List ℕ) (at : ℕ) → take total (drop at scratch) ≡ bytes → {r : Result ℕ Refusal} {exit : List ℕ}
       → WritesOut scratch at total out r exit → PrintAnswered (written bytes out) r exit
   written_out scratch at s {r} {exit} h = go (ltb (length out) total) refl
     where
@@ -50,15 +51,15 @@ module _ (bytes out : List ℕ) {total : ℕ} (e : total ≡ length bytes) where
 
 -- ---- an accepted outcome passes each check
 
-pub check_printed : (t : Bool) (number place : ℕ) (out : List ℕ) (next : PrintOutcome) (n : ℕ)
-    → (refused_if t number place out next).answer ≡ answer.Printed n
-    → (t ≡ false) × (next.answer ≡ answer.Printed n)
+pub check_printed : (t : Bool) (reason : Reason) (place : ℕ) (out : List ℕ) (next : PrintOutcome) (n : ℕ)
+    → (refused_if t reason place out next).answer ≡ Ok n
+    → (t ≡ false) × (next.answer ≡ Ok n)
 unfolding refused_if
 check_printed true number place out next n e = let z : ◌≡◌ {A = ℕ} 0 1 = cc in absurd (omega arith)
 check_printed false number place out next n e = (refl, e)
 
-pub unless_printed : (o : Option Refusal) (out : List ℕ) (next : PrintOutcome) (n : ℕ) → (unless o out next).answer ≡ answer.Printed n
-    → (o ≡ none) × (next.answer ≡ answer.Printed n)
+pub unless_printed : (o : Option Refusal) (out : List ℕ) (next : PrintOutcome) (n : ℕ) → (unless o out next).answer ≡ Ok n
+    → (o ≡ none) × (next.answer ≡ Ok n)
 unfolding unless
 unless_printed (some f) out next n e = let z : ◌≡◌ {A = ℕ} 0 1 = cc in absurd (omega arith)
 unless_printed none out next n e = (refl, e)
@@ -66,12 +67,12 @@ unless_printed none out next n e = (refl, e)
 -- ---- up to a limit
 
 module _ (most number : ℕ) (bytes out : List ℕ) where
-  pub up_to_long : most < length bytes → {r : PrintAnswer} → r ≡ answer.Refused (record { number = number; place = 0 })
+  pub up_to_long : most < length bytes → {r : Result ℕ Refusal} → r ≡ Err (record { number = number; place = 0 })
       → PrintAnswered (written_up_to most number bytes out) r out
   unfolding written_up_to refused_if
   up_to_long l a = rw (lt-ltb _ _ l) (record { answer = a; out = refl })
 
-  pub up_to_fitting : length bytes ≤ most → {r : PrintAnswer} {exit : List ℕ} → PrintAnswered (written bytes out) r exit
+  pub up_to_fitting : length bytes ≤ most → {r : Result ℕ Refusal} {exit : List ℕ} → PrintAnswered (written bytes out) r exit
       → PrintAnswered (written_up_to most number bytes out) r exit
   unfolding written_up_to refused_if
   up_to_fitting l a = rw (le-ltb _ _ l) a
@@ -81,7 +82,7 @@ module _ (most number : ℕ) (bytes out : List ℕ) where
   unfolding written_up_to refused_if
   up_to_accepts l m = rw (le-ltb _ _ l, le-ltb _ _ m)
 
-  pub up_to_printed : {n : ℕ} → (written_up_to most number bytes out).answer ≡ answer.Printed n
+  pub up_to_printed : {n : ℕ} → (written_up_to most number bytes out).answer ≡ Ok n
       → (length bytes ≤ most) × (length bytes ≤ length out)
   unfolding written_up_to
   up_to_printed {n} e =

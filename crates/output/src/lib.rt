@@ -7,7 +7,7 @@ ghost use Rattle.std.proofs.Math.Seq.{paste};
 ghost use Rattle.record.specs.Tokens.{bytes_in, InPool};
 ghost use Rattle.output.specs.Layers.{Stands, WritesOut};
 
-use answer::{PrintAnswer, Refusal};
+use answer::{Reason, Refusal};
 use record::TokenRecord;
 
 // Copies `len` bytes of `from`, from `place` on, to `to` from `at` on.
@@ -15,35 +15,22 @@ pub fn copy(from: &[u8], place: usize, len: usize, to: &mut [u8], at: usize)
     requires { (place + len ≤ length from.now) × (at + len ≤ length to.old) }
     ensures { to.new ≡ paste to.old at (drop place from.now) len }
 {
-    let mut i = 0;
-    while i < len {
-        to[at + i] = from[place + i];
-        i += 1;
-    }
+    to[at..at + len].copy_from_slice(&from[place..place + len]);
 }
 
-// Where what is written begins, or that there is no room for it.
-#[derive(Clone, Copy)]
-pub enum Placed {
-    At(usize),
-    Full,
-}
-
-// Stores `len` bytes of the pool, from `place` on, in front of what is written from `at` on.
-fn put_before(pool: &[u8], place: usize, len: usize, scratch: &mut [u8], at: usize) -> Placed
+// Stores `len` bytes of the pool, from `place` on, in front of what is written from `at` on: where what is written then begins, or that
+// there is no room for it.
+fn put_before(pool: &[u8], place: usize, len: usize, scratch: &mut [u8], at: usize) -> Option<usize>
     requires { (place + len ≤ length pool.now) × (at ≤ length scratch.old) }
     ensures { Stands result (take len (drop place pool.now) ++ drop at scratch.old) scratch.new }
 {
-    if at < len {
-        return Placed::Full;
-    }
-    let start = at - len;
+    let start = at.checked_sub(len)?;
     copy(pool, place, len, scratch, start);
-    Placed::At(start)
+    Some(start)
 }
 
 // Stores the bytes of a token in front of what is written from `at` on.
-pub fn put_token(pool: &[u8], token: TokenRecord, scratch: &mut [u8], at: usize) -> Placed
+pub fn put_token(pool: &[u8], token: TokenRecord, scratch: &mut [u8], at: usize) -> Option<usize>
     requires in_pool { InPool pool.now token }
     requires at_in_bounds { at ≤ length scratch.old }
     ensures { Stands result (bytes_in pool.now token ++ drop at scratch.old) scratch.new }
@@ -58,7 +45,7 @@ pub fn put_both(
     separator: TokenRecord,
     scratch: &mut [u8],
     at: usize,
-) -> Placed
+) -> Option<usize>
     requires in_pool { InPool pool.now token }
     requires in_pool_2 { InPool pool.now separator }
     requires at_in_bounds { at ≤ length scratch.old }
@@ -66,20 +53,18 @@ pub fn put_both(
         (bytes_in pool.now token ++ (bytes_in pool.now separator ++ drop at scratch.old))
         scratch.new }
 {
-    match put_token(pool, separator, scratch, at) {
-        Placed::At(start) => put_token(pool, token, scratch, start),
-        Placed::Full => Placed::Full,
-    }
+    let start = put_token(pool, separator, scratch, at)?;
+    put_token(pool, token, scratch, start)
 }
 
 // Writes `total` bytes of the scratch, from `at` on, to the start of `out`.
-pub fn write(scratch: &[u8], at: usize, total: usize, out: &mut [u8]) -> PrintAnswer
+pub fn write(scratch: &[u8], at: usize, total: usize, out: &mut [u8]) -> Result<usize, Refusal>
     requires { at + total ≤ length scratch.now }
     ensures { WritesOut scratch.now at total out.old result out.new }
 {
     if out.len() < total {
-        return PrintAnswer::refused(Refusal::OUTPUT_TOO_SHORT, total);
+        return Err(Reason::OutputTooShort.at(total));
     }
     copy(scratch, at, total, out, 0);
-    PrintAnswer::Printed(total)
+    Ok(total)
 }

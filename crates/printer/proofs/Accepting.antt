@@ -1,4 +1,6 @@
 -- When the plain printer accepts, and what it then writes. Assumes nothing.
+use Rattle.std.specs.Prelude.{Ok}
+use Rattle.answer.specs.declared.Reason.TheVariants.{ReadOn}
 use mathlib.Core.Path.{◌≡◌, refl, sym, ap, ◌∙◌}
 use mathlib.Core.Bool.{Bool, true, false, ◌||◌}
 use mathlib.Core.Option.{none}
@@ -29,7 +31,6 @@ use Rattle.token_list.proofs.Passes.{faultless_front}
 use Rattle.output.specs.Outcome.{PrintOutcome, print_accepted, refused_if, unless, written}
 use Rattle.output.proofs.Written.{written-fits, check_printed, unless_printed}
 use Rattle.printer.specs.Outcome.{print_checked, print_rules, print_reading, print_outcome}
-use Rattle.answer.specs.declared.PrintAnswer.TheVariants as print
 
 -- ---- an accepted outcome passes each check
 
@@ -47,7 +48,7 @@ module _ (rules : List Rule) (records pool out : List ℕ) where
   passes_written p = rw (le-ltb _ _ p.few, p.faultless, le-ltb _ _ p.short, p.apart)
 
   -- and nothing else
-  pub printed_passes : {n : ℕ} → (print_rules rules records pool out).answer ≡ print.Printed n
+  pub printed_passes : {n : ℕ} → (print_rules rules records pool out).answer ≡ Ok n
       → Passes rules records pool × (length (join (tokens_of records pool)) ≤ length out)
   unfolding print_rules print_checked
   printed_passes {n} e =
@@ -75,13 +76,13 @@ pub book_written : (book records pool out : List ℕ) (rules : List Rule) → re
 unfolding print_outcome
 book_written book records pool out rules e p = rw e (passes_written rules records pool out p)
 
-pub printed_accepts : (book records pool out : List ℕ) (n : ℕ) → (print_outcome book records pool out).answer ≡ print.Printed n
+pub printed_accepts : (book records pool out : List ℕ) (n : ℕ) → (print_outcome book records pool out).answer ≡ Ok n
     → Accepts book records pool out n
 unfolding print_outcome
 printed_accepts book records pool out n e = go (read_book book) refl e
   where
-    go : (o : Reading) → read_book book ≡ o → (print_reading o records pool out).answer ≡ print.Printed n → Accepts book records pool out n
-    go (refused number place) q z = let y : ◌≡◌ {A = ℕ} 0 1 = cc in absurd (omega arith)
+    go : (o : Reading) → read_book book ≡ o → (print_reading o records pool out).answer ≡ Ok n → Accepts book records pool out n
+    go (refused reason place) q z = let y : ◌≡◌ {A = ℕ} 0 1 = cc in absurd (omega arith)
     go (accepted rules) q z =
         let p = printed_passes rules records pool out z in
         let o = book_written book records pool out rules q p.0 ∙ written-fits (join (tokens_of records pool)) out refl p.1 in
@@ -89,7 +90,7 @@ printed_accepts book records pool out n e = go (read_book book) refl e
         record { rules = rules; reads = q; passes = p.0; count = cc; outcome = o }
 
 -- the bytes written are the tokens' bytes joined
-pub written_joins : (book records pool out : List ℕ) (n : ℕ) → (print_outcome book records pool out).answer ≡ print.Printed n
+pub written_joins : (book records pool out : List ℕ) (n : ℕ) → (print_outcome book records pool out).answer ≡ Ok n
     → take n (print_outcome book records pool out).out ≡ join (tokens_of records pool)
 written_joins book records pool out n e =
     let a = printed_accepts book records pool out n e in
@@ -110,7 +111,7 @@ apart-front : (rules : List Rule) (t : Token) (ts : List Token) (k : ℕ) → fi
 unfolding first_extended refuse
 apart-front rules t ts k e = go (extends rules t.bytes (join ts)) e
   where
-    go : (b : Bool) → refuse b 21 k (first_extended rules ts (suc k)) ≡ none → (b ≡ false) × (first_extended rules ts (suc k) ≡ none)
+    go : (b : Bool) → refuse b ReadOn k (first_extended rules ts (suc k)) ≡ none → (b ≡ false) × (first_extended rules ts (suc k) ≡ none)
     go true z = nothing z refl
     go false z = (refl, z)
 

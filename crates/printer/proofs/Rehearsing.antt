@@ -1,5 +1,6 @@
 -- The rehearsal: from the extent, the joined bytes and the first token that is not read back; and what is wrong with a list.
 -- Assumes nothing.
+use Rattle.answer.specs.declared.Reason.TheVariants.{OutputTooLong, ReadOn}
 use mathlib.Core.Path.{◌≡◌, refl, sym, ap, ◌∙◌, subst}
 use mathlib.Core.Option.{Option, none, some}
 use mathlib.Core.List.{List}
@@ -38,7 +39,7 @@ module _ (rules : List Rule) (records pool : List ℕ) where
   trouble_fault {f} e = go (first_fault (fault_of rules pool) (records_of records) 0) e
     where
       go : (o : Option Refusal) → checked.Refused f ≡ checked_of o
-          → or o (refuse (ltb max_text (length (join (tokens_of records pool)))) 20 0 (first_extended rules (tokens_of records pool) 0))
+          → or o (refuse (ltb max_text (length (join (tokens_of records pool)))) OutputTooLong 0 (first_extended rules (tokens_of records pool) 0))
           ≡ some f
       go none z = let y : ◌≡◌ {A = ℕ} 0 1 = cc in absurd (omega arith)
       go (some g) z = let y : g ≡ f = cc in ap some y
@@ -52,7 +53,7 @@ module _ (rules : List Rule) (records pool : List ℕ) where
       go (some g) q z = let y : ◌≡◌ {A = ℕ} 0 1 = cc in absurd (omega arith)
 
   module _ (f : Faultless rules records pool) where
-    trouble_long : max_text < length (join (tokens_of records pool)) → trouble rules records pool ≡ some (record { number = 20; place = 0 })
+    trouble_long : max_text < length (join (tokens_of records pool)) → trouble rules records pool ≡ some (record { reason = OutputTooLong; place = 0 })
     unfolding trouble refuse
     trouble_long l = rw (f, lt-ltb _ _ l)
 
@@ -73,15 +74,15 @@ module _ (rules : List Rule) (records pool scratch : List ℕ) where
       }
 
   pub rehearses_beyond : (All (InPool pool) (records_of records) → max_text < length (join (tokens_of records pool))) → {r : Rehearsed} → r
-      ≡ rehearsed.Wrong (record { number = 20; place = 0 })
+      ≡ rehearsed.Wrong (record { reason = OutputTooLong; place = 0 })
       → Rehearses rules records pool scratch r
-  rehearses_beyond s = rehearses_wrong (record { number = 20; place = 0 })
+  rehearses_beyond s = rehearses_wrong (record { reason = OutputTooLong; place = 0 })
       (λ f. trouble_long rules records pool f (s (faultless_pool rules pool (records_of records) 0 f)))
 
   module _ {n k : ℕ} (s : Spanned records pool n) (b : ReadsBack rules records pool k) where
-    pub rehearses_on : k < record_count records → {r : Rehearsed} → r ≡ rehearsed.Wrong (record { number = 21; place = k })
+    pub rehearses_on : k < record_count records → {r : Rehearsed} → r ≡ rehearsed.Wrong (record { reason = ReadOn; place = k })
         → Rehearses rules records pool scratch r
-    rehearses_on l = rehearses_wrong (record { number = 21; place = k })
+    rehearses_on l = rehearses_wrong (record { reason = ReadOn; place = k })
         (λ f. trouble_on rules records pool f (omega (arith, s.bytes, s.short)) (b.first l f))
 
     pub rehearses_clean : record_count records ≤ k → take n scratch ≡ join (tokens_of records pool)

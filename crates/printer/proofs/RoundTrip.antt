@@ -1,4 +1,7 @@
 -- Demand 3 on the plain printer, of the outcomes of `lex` and `print`. Assumes nothing.
+use Rattle.std.specs.Prelude.{Ok, Err}
+use Rattle.answer.specs.declared.Reason.TheVariants.{TextTooLong, TooFewRecords}
+use Rattle.answer.specs.Answers.{lexed}
 use mathlib.Core.Path.{◌≡◌, refl, sym, ap, ◌∙◌}
 use mathlib.Core.Logic.{◌↔◌}
 use mathlib.Core.Bool.{Bool, true, false}
@@ -31,8 +34,6 @@ use Rattle.printer.specs.Outcome.{print_outcome}
 use Rattle.printer.proofs.Accepting.{Accepts, book_written, printed_accepts, written_joins, passes_printable}
 use Rattle.printer.proofs.Accepting.{printable_faultless, printable_apart}
 use Rattle.printer.proofs.ReadBack.{Storable, records_say, records_inside, records_count}
-use Rattle.answer.specs.declared.LexAnswer.TheVariants as lexed
-use Rattle.answer.specs.declared.PrintAnswer.TheVariants as print
 
 -- ---- an accepted book
 
@@ -68,29 +69,29 @@ pub cut_accepts : (book text room : List ℕ) (rules : List Rule) → read_book 
 unfolding lex_outcome lex_rules
 cut_accepts book text room rules e s r = rw (e, le-ltb _ _ s, le-ltb _ _ r)
 
-pub lexed_cut : (book text room : List ℕ) (n place : ℕ) → (lex_outcome book text room).answer ≡ lexed.Lexed n place
+pub lexed_cut : (book text room : List ℕ) (n place : ℕ) → (lex_outcome book text room).answer ≡ lexed n place
     → Cut book text room n place
 unfolding lex_outcome lex_rules
 lexed_cut book text room n place e = go (read_book book) refl e
   where
     long : (rules : List Rule) (b : Bool) → ltb max_text (length text) ≡ b → (c : Bool)
         → ltb (record_count room) (length (lex rules text).tokens) ≡ c
-        → (if b (record { answer = lexed.Refused (record { number = 14; place = 0 }); records = room })
-        (if c (record { answer = lexed.Refused (record { number = 15; place = length (lex rules text).tokens }); records = room })
-        (lex_accepted (lex rules text) text room))).answer ≡ lexed.Lexed n place
+        → (if b (record { answer = Err (record { reason = TextTooLong; place = 0 }); records = room })
+        (if c (record { answer = Err (record { reason = TooFewRecords; place = length (lex rules text).tokens }); records = room })
+        (lex_accepted (lex rules text) text room))).answer ≡ lexed n place
         → (b ≡ false) × (c ≡ false)
     long rules true p c q z = let y : ◌≡◌ {A = ℕ} 0 1 = cc in absurd (omega arith)
     long rules false p true q z = let y : ◌≡◌ {A = ℕ} 0 1 = cc in absurd (omega arith)
     long rules false p false q z = (refl, refl)
 
-    go : (o : Reading) → read_book book ≡ o → (lex_reading o text room).answer ≡ lexed.Lexed n place → Cut book text room n place
+    go : (o : Reading) → read_book book ≡ o → (lex_reading o text room).answer ≡ lexed n place → Cut book text room n place
     go (refused number at) q z = let y : ◌≡◌ {A = ℕ} 0 1 = cc in absurd (omega arith)
     go (accepted rules) q z =
         let t = long rules (ltb max_text (length text)) refl (ltb (record_count room) (length (lex rules text).tokens)) refl z in
         let s : length text ≤ max_text = ltb-false _ _ t.0 in
         let r : length (lex rules text).tokens ≤ record_count room = ltb-false _ _ t.1 in
         let o = cut_accepts book text room rules q s r in
-        let a : lexed.Lexed n place ≡ lexed.Lexed (length (lex rules text).tokens) (length text - length (lex rules text).rest) =
+        let a : lexed n place ≡ lexed (length (lex rules text).tokens) (length text - length (lex rules text).rest) =
         sym e ∙ ap (λ (x : LexOutcome). x.answer) o in
         record { rules = rules; reads = q; short = s; enough = r; count = cc; place_is = cc; outcome = o }
 
@@ -130,7 +131,7 @@ module _ (book : List ℕ) (bytes : All (λ (b : ℕ). b < 256) book) where
 
   -- two accepted lists are equal exactly when the bytes written are
   pub equal_lists : (records pool out : List ℕ) (n : ℕ) (records₁ pool₁ out₁ : List ℕ) (n₁ : ℕ)
-      → (print_outcome book records pool out).answer ≡ print.Printed n → (print_outcome book records₁ pool₁ out₁).answer ≡ print.Printed n₁
+      → (print_outcome book records pool out).answer ≡ Ok n → (print_outcome book records₁ pool₁ out₁).answer ≡ Ok n₁
       → (tokens_of records pool ≡ tokens_of records₁ pool₁)
       ↔ (take n (print_outcome book records pool out).out ≡ take n₁ (print_outcome book records₁ pool₁ out₁).out)
   equal_lists records pool out n records₁ pool₁ out₁ n₁ e e₁ =
@@ -162,7 +163,7 @@ module _ (book : List ℕ) (bytes : All (λ (b : ℕ). b < 256) book) where
       → record_count records ≤ max_tokens
       → All (InPool pool) (records_of records) → length (join (tokens_of records pool)) ≤ max_text
       → length (join (tokens_of records pool)) ≤ length out
-      → ((n : ℕ) × ((print_outcome book records pool out).answer ≡ print.Printed n)) ↔ Printable rules (tokens_of records pool)
+      → ((n : ℕ) × ((print_outcome book records pool out).answer ≡ Ok n)) ↔ Printable rules (tokens_of records pool)
   accepts_printable rules e records pool out few inside short room = (
     λ q. let a = printed_accepts book records pool out q.0 q.1 in rw (same_rules book e a.reads) (passes_printable a.passes),
     λ p. (
@@ -178,10 +179,10 @@ module _ (book : List ℕ) (bytes : All (λ (b : ℕ). b < 256) book) where
   output_lexes records pool out n a = printed_lexes a.rules (tokens_of records pool) (valid_empty (valid a.reads).rules_valid)
       (passes_printable a.passes)
 
-  pub output_cut : (records pool out : List ℕ) (n : ℕ) → (print_outcome book records pool out).answer ≡ print.Printed n
+  pub output_cut : (records pool out : List ℕ) (n : ℕ) → (print_outcome book records pool out).answer ≡ Ok n
       → (text : List ℕ) → take n (print_outcome book records pool out).out ≡ text
       → (room : List ℕ) → length (tokens_of records pool) ≤ record_count room
-      → ((lex_outcome book text room).answer ≡ lexed.Lexed (length (tokens_of records pool)) (length text))
+      → ((lex_outcome book text room).answer ≡ lexed (length (tokens_of records pool)) (length text))
       × (tokens_of (take (10 * length (tokens_of records pool)) (lex_outcome book text room).records) text ≡ tokens_of records pool)
   output_cut records pool out n e text t room enough =
       let a = printed_accepts book records pool out n e in
@@ -190,9 +191,9 @@ module _ (book : List ℕ) (bytes : All (λ (b : ℕ). b < 256) book) where
       let s : length text ≤ max_text = rw j a.passes.short in
       let o : lex_outcome book text room ≡ lex_accepted (lex a.rules text) text room = cut_accepts book text room a.rules a.reads
       s (rw x enough) in
-      let y : (lex_outcome book text room).answer ≡ lexed.Lexed (length (tokens_of records pool)) (length text - 0) = rw (o, x) in
+      let y : (lex_outcome book text room).answer ≡ lexed (length (tokens_of records pool)) (length text - 0) = rw (o, x) in
       let z : length text - 0 ≡ length text = omega arith in
-      let w : (lex_outcome book text room).answer ≡ lexed.Lexed (length (tokens_of records pool)) (length text) = rw z at y in
+      let w : (lex_outcome book text room).answer ≡ lexed (length (tokens_of records pool)) (length text) = rw z at y in
       let c = lexed_cut book text room (length (tokens_of records pool)) (length text) w in
       (w, stored_say c a.rules a.reads ∙ ap (λ (q : Lexed). q.tokens) x)
 
@@ -220,9 +221,9 @@ module _ (book : List ℕ) (bytes : All (λ (b : ℕ). b < 256) book) where
         ∙ rw (cut_says, cut_joins) (written-fits text out refl l)
 
   -- a text that is cut without a rest is printed from the records that the cut stores
-  pub cut_printed : (text room out : List ℕ) (n : ℕ) → (lex_outcome book text room).answer ≡ lexed.Lexed n (length text)
+  pub cut_printed : (text room out : List ℕ) (n : ℕ) → (lex_outcome book text room).answer ≡ lexed n (length text)
       → length text ≤ length out
-      → ((print_outcome book (take (10 * n) (lex_outcome book text room).records) text out).answer ≡ print.Printed (length text))
+      → ((print_outcome book (take (10 * n) (lex_outcome book text room).records) text out).answer ≡ Ok (length text))
       × (take (length text) (print_outcome book (take (10 * n) (lex_outcome book text room).records) text out).out ≡ text)
   cut_printed text room out n e l =
       let c = lexed_cut book text room n (length text) e in

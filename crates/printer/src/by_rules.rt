@@ -6,8 +6,7 @@ ghost use Rattle.printer.specs.Outcome.{print_rules};
 ghost use Rattle.output.specs.Layers.{PrintAnswered};
 ghost use Rattle.printer.specs.Layers.{Roomy};
 
-use crate::rehearsal::Rehearsed;
-use answer::{PrintAnswer, Refusal};
+use answer::{Reason, Refusal};
 use book::Book;
 
 // The bytes are joined in the scratch. The list is rehearsed, and only one with which something is wrong is asked what that is.
@@ -17,19 +16,17 @@ pub fn print_rules(
     pool: &[u8],
     scratch: &mut [u8],
     out: &mut [u8],
-) -> PrintAnswer
+) -> Result<usize, Refusal>
     requires held { Held table.now }
     requires roomy { Roomy records.now pool.now scratch.old }
     ensures { (rs : List Rule) → Holds table.now rs
         → PrintAnswered (print_rules rs records.now pool.now out.old) result out.new }
 {
     if Book::TOKENS < records.len() / 10 {
-        return PrintAnswer::refused(Refusal::TOO_MANY_TOKENS, 0);
+        return Err(Reason::TooManyTokens.at(0));
     }
     match crate::rehearsal::rehearse(table, records, pool, scratch) {
-        Rehearsed::Clean(total) => output::write(scratch, 0, total, out),
-        Rehearsed::Wrong(found) => {
-            PrintAnswer::Refused(crate::rehearsal::find_refusal(table, records, pool, found))
-        }
+        Ok(total) => output::write(scratch, 0, total, out),
+        Err(found) => { Err(crate::rehearsal::find_refusal(table, records, pool, found)) }
     }
 }

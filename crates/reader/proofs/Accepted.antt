@@ -1,4 +1,5 @@
 -- Every accepted book is valid. Assumes nothing.
+use Rattle.answer.specs.declared.Reason.TheVariants.{BookTooLong, CutOff}
 use mathlib.Core.Path.{◌≡◌, refl, sym, subst}
 use mathlib.Core.Bool.{Bool, true, false, not, ◌&&◌}
 use mathlib.Core.List.{List, []}
@@ -120,7 +121,7 @@ module _ (bytes : List ℕ) (at : ℕ) (inside : Bool) (byte : (i : ℕ) → byt
 
 abbrev GoodReading : Reading → Type 0
 GoodReading (accepted rules) = Valid rules
-GoodReading (refused number place) = Unit {0}
+GoodReading (refused reason place) = Unit {0}
 
 read_good : (n : ℕ) (bytes : List ℕ) (at : ℕ) (d : Draft) → ((i : ℕ) → byte_at bytes i < 256) → Fine d
     → GoodReading (read_from false n bytes at d)
@@ -134,7 +135,7 @@ read_good (suc n) bytes at d byte f =
         → GoodReading (go_on v (read_from false n bytes m))
     verdict (goes e) m ih g = ih e g
     verdict (accepts rules) m ih g = g
-    verdict (refuses number place) m ih g = tt
+    verdict (refuses reason place) m ih g = tt
 
     taken : (c : Decoded) → Found bytes at d.inside c → ((m : ℕ) (e : Draft) → Fine e → GoodReading (read_from false n bytes m e))
         → GoodReading (take_in c d at (length bytes) (read_from false n bytes))
@@ -145,7 +146,7 @@ read_good (suc n) bytes at d byte f =
         verdict (apply d c at (length bytes)) cursor.at (ih cursor.at) (apply_good d c at (length bytes) f h.ranged h.stands)
 
     go : (t : Bool) (c : Decoded) → Found bytes at d.inside c → ((m : ℕ) (e : Draft) → Fine e → GoodReading (read_from false n bytes m e))
-        → GoodReading (if t (take_in c d at (length bytes) (read_from false n bytes)) (refused 2 (length bytes)))
+        → GoodReading (if t (take_in c d at (length bytes) (read_from false n bytes)) (refused CutOff (length bytes)))
     go true c h ih = taken c h ih
     go false c h ih = tt
 
@@ -155,6 +156,6 @@ pub accepted_valid : (bytes : List ℕ) (rules : List Rule) → ((i : ℕ) → b
 unfolding read_by
 accepted_valid bytes rules byte e = subst GoodReading e (go (ltb max_bytes (length bytes)))
   where
-    go : (t : Bool) → GoodReading (if t (refused 1 0) (read_from false (length bytes) bytes 0 (between [])))
+    go : (t : Bool) → GoodReading (if t (refused BookTooLong 0) (read_from false (length bytes) bytes 0 (between [])))
     go true = tt
     go false = read_good (length bytes) bytes 0 (between []) byte fine_start

@@ -1,30 +1,29 @@
 -- What the answer of loading says of the book, and of the table. Assumes nothing.
+use Rattle.std.specs.Prelude.{Result, Ok, Err}
 use mathlib.Core.Path.{◌≡◌, refl, sym, ◌∙◌}
 use mathlib.Core.Bool.{Bool}
 use mathlib.Core.List.{List}
 use Prim.Native.Nat.{ℕ}
 use native.Mathlib.Omega.{arith}
 use Rattle.answer.specs.declared.Refusal.{Refusal}
-use Rattle.answer.specs.declared.BookAnswer.{BookAnswer}
 use Rattle.automaton.specs.Rule.{Rule}
 use Rattle.automaton.specs.Layers.{Holds, Held}
 use Rattle.reader.specs.Reading.{Reading, accepted, refused, read_by, answer}
 use Rattle.reader.specs.Layers.{LoadedBy}
-use Rattle.answer.specs.declared.BookAnswer.TheVariants as book
 
 -- ---- what an answer says of the reading
 
-pub answer_accepted : (o : Reading) {n : ℕ} → book.Accepted n ≡ answer o → (rules : List Rule) × (o ≡ accepted rules)
+pub answer_accepted : (o : Reading) {n : ℕ} → Ok n ≡ answer o → (rules : List Rule) × (o ≡ accepted rules)
 answer_accepted (accepted rules) e = (rules, refl)
-answer_accepted (refused number place) e = let z : ◌≡◌ {A = ℕ} 0 1 = cc in absurd (omega arith)
+answer_accepted (refused reason place) e = let z : ◌≡◌ {A = ℕ} 0 1 = cc in absurd (omega arith)
 
-pub answer_refused : (o : Reading) {f : Refusal} → book.Refused f ≡ answer o → o ≡ refused f.number f.place
+pub answer_refused : (o : Reading) {f : Refusal} → Err f ≡ answer o → o ≡ refused f.number f.place
 answer_refused (accepted rules) e = let z : ◌≡◌ {A = ℕ} 0 1 = cc in absurd (omega arith)
-answer_refused (refused number place) {f} e = let y : f ≡ record { number = number; place = place } = cc in rw y
+answer_refused (refused reason place) {f} e = let y : f ≡ record { reason = reason; place = place } = cc in rw y
 
 -- ---- and of the table
 
-module _ {strict : Bool} {bytes tb : List ℕ} {b : BookAnswer} {n : ℕ} (l : LoadedBy strict bytes b tb) (a : b ≡ book.Accepted n) where
+module _ {strict : Bool} {bytes tb : List ℕ} {b : Result ℕ Refusal} {n : ℕ} (l : LoadedBy strict bytes b tb) (a : b ≡ Ok n) where
   -- the rules of an accepted book are in the table
   pub loaded_rules : (rules : List Rule) × ((read_by strict bytes ≡ accepted rules) × Holds tb rules)
   loaded_rules =
@@ -35,6 +34,6 @@ module _ {strict : Bool} {bytes tb : List ℕ} {b : BookAnswer} {n : ℕ} (l : L
   loaded_held = record { rules = loaded_rules.0; holds = loaded_rules.1.1 }
 
 -- a book whose reading answers a refusal is refused so
-pub loaded_refusal : {strict : Bool} {bytes tb : List ℕ} {b : BookAnswer} {f : Refusal} → LoadedBy strict bytes b tb → b ≡ book.Refused f
+pub loaded_refusal : {strict : Bool} {bytes tb : List ℕ} {b : Result ℕ Refusal} {f : Refusal} → LoadedBy strict bytes b tb → b ≡ Err f
     → read_by strict bytes ≡ refused f.number f.place
 loaded_refusal {strict} {bytes} l a = answer_refused (read_by strict bytes) (sym a ∙ l.answered)

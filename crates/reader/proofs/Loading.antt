@@ -1,4 +1,8 @@
 -- The loop of `load`: the rest of the book decides as the whole does. Assumes nothing.
+use Rattle.answer.specs.declared.Reason.{Reason}
+use Rattle.answer.specs.declared.Refusal.{Refusal}
+use Rattle.std.specs.Prelude.{Result, Ok, Err}
+use Rattle.answer.specs.declared.Reason.TheVariants.{BookTooLong, CutOff}
 use mathlib.Core.Path.{◌≡◌, refl, sym, ◌∙◌, ap, subst}
 use mathlib.Core.Bool.{Bool, true, false}
 use mathlib.Core.List.{List, []}
@@ -9,7 +13,6 @@ use lib.ListN.{replicate, length-replicate, get_or-replicate, length, get_or, se
 use lib.Seq.{get_or-set_same, get_or-set_other}
 use borrow.Author.Count.{below_more}
 use borrow.Author.Tests.{lt-ltb, le-ltb, leb-true, leb-false}
-use Rattle.answer.specs.declared.BookAnswer.{BookAnswer}
 use Rattle.automaton.specs.Rule.{Rule, overlaps, state_count}
 use Rattle.automaton.specs.Layers.{edge_start, Holds}
 use Rattle.command.specs.declared.Command.{Command}
@@ -30,12 +33,11 @@ use Rattle.reader.specs.Layers.{large_table, Lent, LoadedBy, Going, Copied}
 use Rattle.reader.proofs.Accepted.{Commanded, Found, command_found}
 use Rattle.reader.proofs.Walking.{not_accepted}
 use Rattle.command.specs.declared.Decoded.TheVariants as decoded
-use Rattle.answer.specs.declared.BookAnswer.TheVariants as answers
 
 -- ---- answers
 
-pub loaded_refused : {strict : Bool} {bytes tb : List ℕ} {r : BookAnswer} {number place : ℕ} → read_by strict bytes ≡ refused number place
-    → r ≡ answers.Refused (record { number = number; place = place }) → LoadedBy strict bytes r tb
+pub loaded_refused : {strict : Bool} {bytes tb : List ℕ} {r : Result ℕ Refusal} {reason : Reason} {place : ℕ} → read_by strict bytes ≡ refused reason place
+    → r ≡ Err (record { reason = reason; place = place }) → LoadedBy strict bytes r tb
 loaded_refused e q =
     record {
       answered = q ∙ ap answer (sym e);
@@ -43,14 +45,14 @@ loaded_refused e q =
     }
 
 loaded_accepted : {strict : Bool} {bytes tb : List ℕ} {k : ℕ} {rules : List Rule} → read_by strict bytes ≡ accepted rules
-    → k ≡ length rules → Holds tb rules → LoadedBy strict bytes (answers.Accepted k) tb
+    → k ≡ length rules → Holds tb rules → LoadedBy strict bytes (Ok k) tb
 loaded_accepted {tb = tb} {rules = rules} e q t =
     record {
-      answered = ap answers.Accepted q ∙ ap answer (sym e);
+      answered = ap Ok q ∙ ap answer (sym e);
       holds = λ others z. let y : rules ≡ others = cc in subst (Holds tb) y t;
     }
 
-pub read_too_long : (strict : Bool) (bytes : List ℕ) → max_bytes < length bytes → read_by strict bytes ≡ refused 1 0
+pub read_too_long : (strict : Bool) (bytes : List ℕ) → max_bytes < length bytes → read_by strict bytes ≡ refused BookTooLong 0
 unfolding read_by
 read_too_long strict bytes l = rw (lt-ltb _ _ l)
 
@@ -74,13 +76,13 @@ going_start {bytes} lent f l e z =
 
 -- the book stops before END
 read_stops : (strict : Bool) (n : ℕ) (bytes : List ℕ) (at : ℕ) (d : Draft) → length bytes ≤ at
-    → read_from strict n bytes at d ≡ refused 2 (length bytes)
+    → read_from strict n bytes at d ≡ refused CutOff (length bytes)
 unfolding read_from
 read_stops strict zero bytes at d l = refl
 read_stops strict (suc n) bytes at d l = rw (le-ltb _ _ l)
 
 pub going_stops : {strict : Bool} {bytes tb rows : List ℕ} {at : ℕ} {b : Book} → Going strict bytes tb rows at b → length bytes ≤ at
-    → read_by strict bytes ≡ refused 2 (length bytes)
+    → read_by strict bytes ≡ refused CutOff (length bytes)
 going_stops {strict} {bytes} g l = g.same ∙ read_stops strict g.steps bytes _ g.draft l
 
 -- one step more is taken, as `take_in` says of what stands there
@@ -113,8 +115,8 @@ pub record Here (strict : Bool) (bytes tb rows : List ℕ) (at : ℕ) (b : Book)
 -- what its outcome says of the book: reading goes on behind it, the book is answered, or it still stands there and cells are too few
 abbrev pub Leaves : Bool → List ℕ → List ℕ → List ℕ → ℕ → Book → ℕ → Progress → Type 0
 Leaves strict bytes tb rows at b next (On b₁) = Going strict bytes tb rows next b₁
-Leaves strict bytes tb rows at b next (Done k) = LoadedBy strict bytes (answers.Accepted k) tb
-Leaves strict bytes tb rows at b next (Refused f) = LoadedBy strict bytes (answers.Refused f) tb
+Leaves strict bytes tb rows at b next (Done k) = LoadedBy strict bytes (Ok k) tb
+Leaves strict bytes tb rows at b next (Refused f) = LoadedBy strict bytes (Err f) tb
 Leaves strict bytes tb rows at b next Narrow = Going strict bytes tb rows at b × (length rows < state_count)
 
 module _ {strict : Bool} {bytes tb rows : List ℕ} {at : ℕ} {b : Book} {c : Command} {cursor : Cursor}
@@ -164,10 +166,10 @@ module _ {strict : Bool} {bytes tb rows : List ℕ} {at : ℕ} {b : Book} {c : C
       go (accepts rules) (Done n) q (h, t) = loaded_accepted q h t
       go (accepts rules) (Refused f) q h = absurd h
       go (accepts rules) Narrow q h = still h
-      go (refuses number place) (On b₁) q h = absurd h
-      go (refuses number place) (Done n) q h = absurd h
-      go (refuses number place) (Refused f) q h = loaded_refused q (ap answers.Refused h)
-      go (refuses number place) Narrow q h = still h
+      go (refuses reason place) (On b₁) q h = absurd h
+      go (refuses reason place) (Done n) q h = absurd h
+      go (refuses reason place) (Refused f) q h = loaded_refused q (ap Err h)
+      go (refuses reason place) Narrow q h = still h
 
 -- ---- tables of zeros
 

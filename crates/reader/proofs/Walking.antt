@@ -1,5 +1,7 @@
 -- From one command to the next: what is read where a command stands, and that one stands wherever an accepted book is read on; and how
 -- far the stricter reading goes with the ordinary one. Assumes nothing.
+use Rattle.answer.specs.declared.Reason.{Reason}
+use Rattle.answer.specs.declared.Reason.TheVariants.{BookTooLong, CutOff, Retired}
 use mathlib.Core.Path.{◌≡◌, refl}
 use mathlib.Core.Bool.{Bool, true, false, ◌&&◌}
 use mathlib.Core.List.{List, []}
@@ -19,7 +21,7 @@ use Rattle.reader.specs.Reading.{Reading, accepted, refused, go_on, take_in, rea
 use Rattle.command.specs.declared.Decoded.TheVariants as decoded
 
 -- a reading is not both
-pub not_accepted : {A : Type 0} {number place : ℕ} {rules : List Rule} → refused number place ≡ accepted rules → A
+pub not_accepted : {A : Type 0} {reason : Reason} {place : ℕ} {rules : List Rule} → refused reason place ≡ accepted rules → A
 not_accepted e = let z : ◌≡◌ {A = ℕ} 0 1 = cc in absurd (omega arith)
 
 -- ---- a command
@@ -56,7 +58,7 @@ module _ (strict : Bool) (bytes : List ℕ) (at : ℕ) (d : Draft) where
       go : (m : Bool) → ltb at (length bytes) ≡ m → (p : Bool) → placed code d.inside ≡ p → (o : Bool) → retired strict code ≡ o
           → (l : Bool) → leb next (length bytes) ≡ l
           → if m (take_in (if p (if o decoded.Retired (if l (decoded.Command (decode bytes at code) (record { at = next })) decoded.CutOff))
-          decoded.Misplaced) d at (length bytes) (read_from strict n bytes)) (refused 2 (length bytes)) ≡ accepted rules
+          decoded.Misplaced) d at (length bytes) (read_from strict n bytes)) (refused CutOff (length bytes)) ≡ accepted rules
           → Takes × (on_by n ≡ accepted rules)
       go true a true b false c true h z =
           (record { more = ltb-true at (length bytes) a; stands = b; taken = c; within = leb-true next (length bytes) h }, z)
@@ -70,7 +72,7 @@ module _ (strict : Bool) (bytes : List ℕ) (at : ℕ) (d : Draft) where
 -- it comes to the same, or refuses a STEP
 pub data Stricter (bytes : List ℕ) (strictly ordinarily : Reading) : Type 0 where
   alike : strictly ≡ ordinarily → Stricter bytes strictly ordinarily
-  retires : (place : ℕ) → place < length bytes → byte_at bytes place ≡ 5 → strictly ≡ refused 33 place
+  retires : (place : ℕ) → place < length bytes → byte_at bytes place ≡ 5 → strictly ≡ refused Retired place
       → Stricter bytes strictly ordinarily
 
 stricter_from : (n : ℕ) (bytes : List ℕ) (at : ℕ) (d : Draft) → Stricter bytes (read_from true n bytes at d) (read_from false n bytes at d)
@@ -88,7 +90,7 @@ stricter_from (suc n) bytes at d =
         → Stricter bytes (go_on v (read_from true n bytes (next false bytes at d))) (go_on v (read_from false n bytes (next false bytes at d)))
     decided (goes e) ih = ih e
     decided (accepts rules) ih = alike refl
-    decided (refuses number place) ih = alike refl
+    decided (refuses reason place) ih = alike refl
 
     here : Decoded
     here = decoded.Command (decode bytes at (byte_at bytes at)) (record { at = next false bytes at d })
@@ -96,7 +98,7 @@ stricter_from (suc n) bytes at d =
     taking : (strict m p o l : Bool) → Reading
     taking strict m p o l =
         if m (take_in (if p (if (strict && o) decoded.Retired (if l here decoded.CutOff)) decoded.Misplaced) d at (length bytes)
-        (read_from strict n bytes)) (refused 2 (length bytes))
+        (read_from strict n bytes)) (refused CutOff (length bytes))
 
     go : (m : Bool) → ltb at (length bytes) ≡ m → (p o : Bool) → eqb (byte_at bytes at) 5 ≡ o → (l : Bool) → After
         → Stricter bytes (taking true m p o l) (taking false m p o l)
@@ -110,7 +112,7 @@ pub stricter : (bytes : List ℕ) → Stricter bytes (read_strict bytes) (read_b
 unfolding read_by
 stricter bytes = go (ltb max_bytes (length bytes))
   where
-    go : (t : Bool) → Stricter bytes (if t (refused 1 0) (read_from true (length bytes) bytes 0 (between [])))
-        (if t (refused 1 0) (read_from false (length bytes) bytes 0 (between [])))
+    go : (t : Bool) → Stricter bytes (if t (refused BookTooLong 0) (read_from true (length bytes) bytes 0 (between [])))
+        (if t (refused BookTooLong 0) (read_from false (length bytes) bytes 0 (between [])))
     go true = alike refl
     go false = stricter_from (length bytes) bytes 0 (between [])

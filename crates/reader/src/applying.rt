@@ -2,6 +2,7 @@
 ghost use Rattle.std.specs.Prelude.{◌≡◌, ◌<◌, length};
 ghost use Rattle.book.specs.Layers.{Represented, Takes, stands_inside, edge_limit};
 
+use answer::Refusal;
 use book::moving::Move;
 use book::{Book, Progress};
 use command::Command;
@@ -14,7 +15,7 @@ pub fn apply(
     len: usize,
     table: &mut [u64],
     rows: &mut [u32],
-) -> Progress
+) -> Result<Progress, Refusal>
     requires represented { Represented state table.old rows.old }
     requires inside_value { (state.inside ≡ stands_inside command) × (state.edges < length table.old) × (state.edges < edge_limit) × (at < len) }
     ensures { Takes state command at len result table.old rows.old table.new rows.new }

@@ -9,16 +9,16 @@ ghost use Rattle.automaton.specs.Rule.{state_count};
 ghost use Rattle.book.specs.Layers.{Fresh};
 ghost use Rattle.reader.specs.Layers.{Lent, LoadedBy, Loaded, Going, Copied, Stops};
 
-use answer::{BookAnswer, Refusal};
+use answer::{Reason, Refusal};
 use automaton::STATES;
 use book::{Book, Progress};
-use command::{Cursor, Decoded};
+use command::Cursor;
 
 // The states for which a call has cells at once: those of one byte.
 const NARROW: usize = 256;
 
 // Checks a book and fills the table with its rules; where the book is refused, what it holds is of no account.
-pub fn load(book: &[u8], table: &mut [u64]) -> BookAnswer
+pub fn load(book: &[u8], table: &mut [u64]) -> Result<usize, Refusal>
     requires { Lent (length book.now) table.old }
     ensures { Loaded book.now result table.new }
 {
@@ -26,7 +26,7 @@ pub fn load(book: &[u8], table: &mut [u64]) -> BookAnswer
 }
 
 // The same by the reading that `strict` names.
-pub fn load_by(strict: bool, book: &[u8], table: &mut [u64]) -> BookAnswer
+pub fn load_by(strict: bool, book: &[u8], table: &mut [u64]) -> Result<usize, Refusal>
     requires { Lent (length book.now) table.old }
     ensures { LoadedBy strict book.now result table.new }
 {
@@ -36,24 +36,29 @@ pub fn load_by(strict: bool, book: &[u8], table: &mut [u64]) -> BookAnswer
 
 // The same with the cells of the open rule's states, all zero. Most books have no state past them; one that has is read on with a cell for
 // every state.
-fn load_rows(strict: bool, book: &[u8], table: &mut [u64], rows: &mut [u32]) -> BookAnswer
+fn load_rows(
+    strict: bool,
+    book: &[u8],
+    table: &mut [u64],
+    rows: &mut [u32],
+) -> Result<usize, Refusal>
     requires lent { Lent (length book.now) table.old }
     requires fresh { Fresh table.old rows.old }
     ensures { LoadedBy strict book.now result table.new }
 {
     if Book::BYTES < book.len() {
-        return BookAnswer::refused(Refusal::BOOK_TOO_LONG, 0);
+        return Err(Reason::BookTooLong.at(0));
     }
-    match read_on(strict, book, table, rows, Cursor::new(), Book::new()) {
-        Stop::Answered(answer) => answer,
+    match read_on(strict, book, table, rows, Cursor::new(), Book::new())? {
+        Stop::Accepted(rules) => Ok(rules),
         Stop::Narrow(cursor, state) => load_wide(strict, book, table, rows, cursor, state),
     }
 }
 
-// Why `read_on` stops: the book is answered, or the command at the cursor needs a cell that is not there.
+// Why `read_on` stops: the book is accepted, or the command at the cursor needs a cell that is not there.
 #[derive(Clone, Copy)]
 enum Stop {
-    Answered(BookAnswer),
+    Accepted(usize),
     Narrow(Cursor, Book),
 }
 
@@ -65,7 +70,7 @@ fn read_on(
     rows: &mut [u32],
     start: Cursor,
     begun: Book,
-) -> Stop
+) -> Result<Stop, Refusal>
     requires { Going strict book.now table.old rows.old start.at begun }
     ensures { Stops strict book.now table.new rows.new result }
 {
@@ -75,26 +80,20 @@ fn read_on(
     while cursor.at < len {
         let at = cursor.at;
         match cursor.command(strict, book, state.inside) {
-            Decoded::Misplaced => return Stop::Answered(BookAnswer::refused(
-                Refusal::MISPLACED,
-                at,
-            )),
-            Decoded::Retired => return Stop::Answered(BookAnswer::refused(Refusal::RETIRED, at)),
-            Decoded::CutOff => return Stop::Answered(BookAnswer::refused(Refusal::CUT_OFF, at)),
-            Decoded::Command(command, next) => match crate::applying::apply(
-                state, command, at, len, table, rows,
-            ) {
-                Progress::On(on) => {
-                    state = on;
-                    cursor = next;
+            Err(reason) => return Err(reason.at(at)),
+            Ok(read) => {
+                match crate::applying::apply(state, read.command, at, len, table, rows)? {
+                    Progress::On(on) => {
+                        state = on;
+                        cursor = read.next;
+                    }
+                    Progress::Done(rules) => return Ok(Stop::Accepted(rules)),
+                    Progress::Narrow => return Ok(Stop::Narrow(cursor, state)),
                 }
-                Progress::Done(rules) => return Stop::Answered(BookAnswer::Accepted(rules)),
-                Progress::Refused(refusal) => return Stop::Answered(BookAnswer::Refused(refusal)),
-                Progress::Narrow => return Stop::Narrow(cursor, state),
-            },
+            }
         }
     }
-    Stop::Answered(BookAnswer::refused(Refusal::CUT_OFF, len))
+    Err(Reason::CutOff.at(len))
 }
 
 // Reads on with a cell for each state that a rule may have, the first of them as they stand in `rows`.
@@ -105,16 +104,16 @@ fn load_wide(
     rows: &[u32],
     cursor: Cursor,
     state: Book,
-) -> BookAnswer
+) -> Result<usize, Refusal>
     requires { Going strict book.now table.old rows.now cursor.at state × (length rows.now < state_count) }
     ensures { LoadedBy strict book.now result table.new }
 {
     let mut wide = [0u32; STATES];
     copy_cells(rows, &mut wide);
-    match read_on(strict, book, table, &mut wide, cursor, state) {
-        Stop::Answered(answer) => answer,
+    match read_on(strict, book, table, &mut wide, cursor, state)? {
+        Stop::Accepted(rules) => Ok(rules),
         // never: there is a cell for each state
-        Stop::Narrow(_, _) => BookAnswer::Accepted(0),
+        Stop::Narrow(_, _) => Ok(0),
     }
 }
 
@@ -122,9 +121,5 @@ fn copy_cells(from: &[u32], to: &mut [u32])
     requires { length from.now ≤ length to.old }
     ensures { Copied from.now to.old to.new (length from.now) }
 {
-    let mut i = 0;
-    while i < from.len() {
-        to[i] = from[i];
-        i += 1;
-    }
+    to[..from.len()].copy_from_slice(from);
 }

@@ -53,12 +53,5 @@ pub fn put_mask(masks: &mut [u8], k: usize, mask: u32)
 pub fn room(records: &[u8], masks: &[u8]) -> usize
     ensures { result ≡ min (record_count records.now) (mask_count masks.now) }
 {
-    least(records.len() / 10, masks.len() / 4)
-}
-
-// The smaller of two numbers.
-pub fn least(a: usize, b: usize) -> usize
-    ensures { result ≡ min a b }
-{
-    if a < b { a } else { b }
+    (records.len() / 10).min(masks.len() / 4)
 }

@@ -1,4 +1,5 @@
 -- What an accepted call of rewriting has written. Assumes nothing.
+use Rattle.std.specs.Prelude.{Ok}
 use mathlib.Core.Path.{◌≡◌, refl, sym, ap, ◌∙◌}
 use mathlib.Core.List.{List}
 use Prim.Native.Nat.{ℕ, ◌≤◌}
@@ -11,7 +12,6 @@ use Rattle.output.specs.Outcome.{PrintOutcome, print_accepted}
 use Rattle.output.proofs.Written.{up_to_accepts, up_to_printed}
 use Rattle.rewriting.specs.Rewritten.{rewritten}
 use Rattle.rewriting.specs.Outcome.{rewrite_reading, rewrite_outcome}
-use Rattle.answer.specs.declared.PrintAnswer.TheVariants as print
 
 pub record Accepts (book out : List ℕ) (n : ℕ) : Type 0 where
   pub rules : List Rule
@@ -25,14 +25,14 @@ pub book_rewritten : (book out : List ℕ) {rules : List Rule} → read_book boo
 unfolding rewrite_outcome
 book_rewritten book out e l m = rw e (up_to_accepts max_bytes 1 (rewritten book) out l m)
 
-pub rewrite_accepts : (book out : List ℕ) (n : ℕ) → (rewrite_outcome book out).answer ≡ print.Printed n → Accepts book out n
+pub rewrite_accepts : (book out : List ℕ) (n : ℕ) → (rewrite_outcome book out).answer ≡ Ok n → Accepts book out n
 unfolding rewrite_outcome
 rewrite_accepts book out n e = go (read_book book) refl e
   where
-    go : (o : Reading) → read_book book ≡ o → (rewrite_reading o book out).answer ≡ print.Printed n → Accepts book out n
-    go (refused number place) q z = let y : ◌≡◌ {A = ℕ} 0 1 = cc in absurd (omega arith)
+    go : (o : Reading) → read_book book ≡ o → (rewrite_reading o book out).answer ≡ Ok n → Accepts book out n
+    go (refused reason place) q z = let y : ◌≡◌ {A = ℕ} 0 1 = cc in absurd (omega arith)
     go (accepted rules) q z =
         let a = up_to_printed max_bytes 1 (rewritten book) out z in
         let o = book_rewritten book out q a.0 a.1 in
-        let y : print.Printed n ≡ print.Printed (length (rewritten book)) = sym e ∙ ap (λ (x : PrintOutcome). x.answer) o in
+        let y : Ok n ≡ Ok (length (rewritten book)) = sym e ∙ ap (λ (x : PrintOutcome). x.answer) o in
         record { rules = rules; reads = q; short = a.0; count = cc; outcome = o }

@@ -1,4 +1,5 @@
 -- The rewritten book is read as the old one, command by command. Assumes nothing.
+use Rattle.answer.specs.declared.Reason.TheVariants.{BookTooLong}
 use mathlib.Core.Path.{◌≡◌, refl, sym, ap, subst, ◌∙◌}
 use mathlib.Core.Bool.{Bool, true, false}
 use mathlib.Core.List.{List, [], ◌∷◌, ◌++◌, append_assoc, map, flatten}
@@ -37,7 +38,7 @@ pub record Taken (strict : Bool) (command : List ℕ) : Type 0 where
 abbrev Ends : ℕ → ℕ → Verdict → Type 0
 Ends at len (goes d) = Unit {0}
 Ends at len (accepts rules) = len ≤ at + 1
-Ends at len (refuses number place) = Unit {0}
+Ends at len (refuses reason place) = Unit {0}
 
 apply-ends : (d : Draft) (c : Command) (at len : ℕ) → Ends at len (apply d c at len)
 apply-ends d c at len =
@@ -69,7 +70,7 @@ module _ (strict : Bool) (bytes : List ℕ) where
           → go_on v (read_from strict n bytes after) ≡ accepted rules → All (Taken strict) (commands_in m (drop after bytes))
       go (goes e) l ih y = ih e y
       go (accepts rs) l ih y = rw (drop_of_length-le bytes {i = after} (omega arith), commands_none m) tt
-      go (refuses number place) l ih y = not_accepted y
+      go (refuses reason place) l ih y = not_accepted y
 
 pub book_taken : (strict : Bool) (book : List ℕ) {rules : List Rule} → read_by strict book ≡ accepted rules
     → (length book ≤ max_bytes) × All (Taken strict) (commands_of book)
@@ -77,7 +78,7 @@ unfolding read_by
 book_taken strict book {rules} e = go (ltb max_bytes (length book)) refl e
   where
     go : (t : Bool) → ltb max_bytes (length book) ≡ t
-        → if t (refused 1 0) (read_from strict (length book) book 0 (between [])) ≡ accepted rules
+        → if t (refused BookTooLong 0) (read_from strict (length book) book 0 (between [])) ≡ accepted rules
         → (length book ≤ max_bytes) × All (Taken strict) (commands_of book)
     go true l z = not_accepted z
     go false l z = (ltb-false max_bytes (length book) l, commands_taken strict book (length book) (length book) 0 (between []) z)
@@ -157,7 +158,7 @@ module _ (pre p after : List ℕ) (w : Whole p) where
 abbrev Like : Verdict → Verdict → Type 0
 Like (goes d) v = v ≡ goes d
 Like (accepts rules) v = v ≡ accepts rules
-Like (refuses number place) v = Unit {0}
+Like (refuses reason place) v = Unit {0}
 
 module _ (p : List ℕ) where
   modern_stands : (inside : Bool) → placed (byte_at p 0) inside ≡ true → placed (byte_at (modern p) 0) inside ≡ true
@@ -225,7 +226,7 @@ module _ (strict : Bool) where
           → go_on v₁ (read_from strict m new (length (pre₁ ++ modern p))) ≡ accepted rules
       go (goes e) v₁ s y ih = rw s (rw append_assoc at (ih e (rw append_assoc y)))
       go (accepts rs) v₁ s y ih = rw s y
-      go (refuses number place) v₁ s y ih = not_accepted y
+      go (refuses reason place) v₁ s y ih = not_accepted y
 
 -- ---- the book
 
@@ -244,7 +245,7 @@ rewritten_read strict book {rules} e l = rw (le-ltb _ _ l) (go (ltb max_bytes (l
     longer : length book ≤ length (rewritten book)
     longer = omega (arith, grows (commands_of book) whole, ap length same)
 
-    go : (t : Bool) → if t (refused 1 0) (read_from false (length book) book 0 (between [])) ≡ accepted rules
+    go : (t : Bool) → if t (refused BookTooLong 0) (read_from false (length book) book 0 (between [])) ≡ accepted rules
         → read_from strict (length (rewritten book)) (rewritten book) 0 (between []) ≡ accepted rules
     go true z = not_accepted z
     go false z =

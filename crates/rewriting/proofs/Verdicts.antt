@@ -1,5 +1,7 @@
 -- One command, at two places: what it comes to is the same but for a refusal's place, and for END, which looks whether the book ends.
 -- Assumes nothing.
+use Rattle.answer.specs.declared.Reason.{Reason}
+use Rattle.answer.specs.declared.Reason.TheVariants.{BytesAfterEnd}
 use mathlib.Core.Path.{◌≡◌, refl}
 use mathlib.Core.Bool.{Bool, true, false, ◌||◌}
 use Prim.Native.Nat.{ℕ, ◌+◌, ◌≤◌}
@@ -13,10 +15,10 @@ use Rattle.command.specs.declared.Command.TheVariants.{Rule as RULE, Start, Erro
 use Rattle.book.specs.Limits.{max_rules, max_transitions}
 use Rattle.book.specs.Draft.{Draft, is_set, is_unset, state_of, tagged, is_empty, no_state, Verdict, goes, accepts, refuses, check, move, apply}
 
-module _ (R : Verdict → Verdict → Type 0) (refusing : (number place : ℕ) (v : Verdict) → R (refuses number place) v)
+module _ (R : Verdict → Verdict → Type 0) (refusing : (reason : Reason) (place : ℕ) (v : Verdict) → R (refuses reason place) v)
     (going : (d : Draft) → R (goes d) (goes d)) where
   check_both : (t : Bool) (number place place₁ : ℕ) (v w : Verdict) → (t ≡ false → R v w)
-      → R (check t number place v) (check t number place₁ w)
+      → R (check t reason place v) (check t number place₁ w)
   unfolding check
   check_both true number place place₁ v w h = refusing number place _
   check_both false number place place₁ v w h = h refl
@@ -47,6 +49,6 @@ module _ (R : Verdict → Verdict → Type 0) (refusing : (number place : ℕ) (
     apply_both End {len} {len₁} h = check_both (is_empty d.rules) _ _ _ _ _ (λ _. go (ltb (at + 1) len) refl)
       where
         go : (t : Bool) → ltb (at + 1) len ≡ t
-            → R (check t 4 (at + 1) (accepts d.rules)) (check (ltb (at₁ + 1) len₁) 4 (at₁ + 1) (accepts d.rules))
+            → R (check t BytesAfterEnd (at + 1) (accepts d.rules)) (check (ltb (at₁ + 1) len₁) BytesAfterEnd (at₁ + 1) (accepts d.rules))
         go true e = refusing _ _ _
         go false e = let k = h (ltb-false (at + 1) len e) in rw (le-ltb _ _ k.0) k.1

@@ -11,35 +11,33 @@ ghost use Rattle.rewriting.specs.Rewritten.{span_of, modern, rewritten};
 ghost use Rattle.rewriting.specs.Outcome.{rewrite_outcome};
 ghost use Rattle.rewriting.specs.Layers.{Readable, Fitting, Standing};
 
-use answer::{BookAnswer, PrintAnswer, Refusal};
+use answer::{Reason, Refusal};
 use book::Book;
 use command::Command;
 
 // Rewrites a book: the number of bytes, which stand at the start of `out`, or the refusal: those of reading, 1 where the longer book
 // passes the limit, 22. Every other byte of `out` stays as it was.
-pub fn rewrite(book: &[u8], out: &mut [u8]) -> PrintAnswer
+pub fn rewrite(book: &[u8], out: &mut [u8]) -> Result<usize, Refusal>
     ensures value { result ≡ (rewrite_outcome book.now out.old).answer }
     ensures out_after { out.new ≡ (rewrite_outcome book.now out.old).out }
 {
-    match book_reader::read(book) {
-        BookAnswer::Accepted(_) => rewrite_accepted(book, out),
-        BookAnswer::Refused(refusal) => PrintAnswer::Refused(refusal),
-    }
+    book_reader::read(book)?;
+    rewrite_accepted(book, out)
 }
 
-fn rewrite_accepted(book: &[u8], out: &mut [u8]) -> PrintAnswer
+fn rewrite_accepted(book: &[u8], out: &mut [u8]) -> Result<usize, Refusal>
     requires { Readable book.now }
-    ensures { PrintAnswered (written_up_to max_bytes 1 (rewritten book.now) out.old) result out.new }
+    ensures { PrintAnswered (written_up_to max_bytes Reason.BookTooLong (rewritten book.now) out.old) result out.new }
 {
     let total = measure(book);
     if Book::BYTES < total {
-        return PrintAnswer::refused(Refusal::BOOK_TOO_LONG, 0);
+        return Err(Reason::BookTooLong.at(0));
     }
     if out.len() < total {
-        return PrintAnswer::refused(Refusal::OUTPUT_TOO_SHORT, total);
+        return Err(Reason::OutputTooShort.at(total));
     }
     write_commands(book, out);
-    PrintAnswer::Printed(total)
+    Ok(total)
 }
 
 // The number of bytes of the rewritten book: one more for each STEP.

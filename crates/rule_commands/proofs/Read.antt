@@ -1,4 +1,5 @@
 -- What a reader makes of a book that is the commands of one rule: by the limits and by whether the start is final. Assumes nothing.
+use Rattle.answer.specs.declared.Reason.TheVariants.{BookTooLong, StartFinal, TooMany}
 use mathlib.Core.Path.{◌≡◌, refl, ap, subst, ◌∙◌}
 use mathlib.Core.Bool.{Bool, true, false}
 use mathlib.Core.List.{List, [], ◌∷◌, ◌++◌, append_assoc, map, flatten, reverse, reverse_aux}
@@ -129,16 +130,16 @@ module _ (strict : Bool) (bytes : List ℕ) where
     comes_many : (spans : List Transition) (room : ℕ) {at : ℕ} (rest : List ℕ) {fs : List ℕ} {ts : List Transition}
         → All (Ranged error_state) spans
         → length ts + room ≡ max_transitions → room < length spans
-        → Comes at (spans_bytes spans ++ rest) (draft fs ts) (refused 5 (at + 5 * room))
+        → Comes at (spans_bytes spans ++ rest) (draft fs ts) (refused TooMany (at + 5 * room))
     unfolding flatten apply move check
     comes_many [] room rest h q l = absurd (omega arith)
     comes_many (t ∷ spans) zero {at} rest {fs} {ts} (g, h) q l =
         comes_end (omega arith)
         (λ n f. read_span strict bytes at (draft fs ts) n f refl
-        ∙ rw (le-leb 4096 (length ts) (omega arith)) (ap (refused 5) (omega arith)))
+        ∙ rw (le-leb 4096 (length ts) (omega arith)) (ap (refused TooMany) (omega arith)))
     comes_many (t ∷ spans) (suc room) {at} rest {fs} {ts} (g, h) q l =
         comes_span t (spans_bytes spans ++ rest) g (omega arith)
-        (subst (λ (i : ℕ). Comes (at + 5) (spans_bytes spans ++ rest) (draft fs (t ∷ ts)) (refused 5 i)) (omega arith)
+        (subst (λ (i : ℕ). Comes (at + 5) (spans_bytes spans ++ rest) (draft fs (t ∷ ts)) (refused TooMany i)) (omega arith)
         (comes_many spans room rest h (omega arith) (omega arith)))
 
     -- ---- CLOSE and END
@@ -163,7 +164,7 @@ module _ (strict : Bool) (bytes : List ℕ) where
       not_final : among error_state fs ≡ false
       not_final = none_of (λ (s : ℕ). s < error_state) (eqb error_state) (λ s l. ne_eqb error_state s (λ e. omega arith)) fs below
 
-      comes_refused : {at : ℕ} → among 0 fs ≡ true → Comes at (7 ∷ 8 ∷ []) (draft fs ts) (refused 12 at)
+      comes_refused : {at : ℕ} → among 0 fs ≡ true → Comes at (7 ∷ 8 ∷ []) (draft fs ts) (refused StartFinal at)
       unfolding apply check
       comes_refused {at} e =
           comes_end (omega arith)
@@ -205,7 +206,7 @@ module _ (strict : Bool) (tag kind : ℕ) (finals : List ℕ) (spans : List Tran
   book_parts =
       rw (append_assoc (finals_bytes finals) (spans_bytes spans ++ (7 ∷ [])) (8 ∷ []), append_assoc (spans_bytes spans) (7 ∷ []) (8 ∷ []))
 
-  pub rule_too_long : max_bytes < length book → read_by strict book ≡ refused 1 0
+  pub rule_too_long : max_bytes < length book → read_by strict book ≡ refused BookTooLong 0
   unfolding read_by
   rule_too_long l = rw (lt-ltb max_bytes (length book) l)
 
@@ -219,7 +220,7 @@ module _ (strict : Bool) (tag kind : ℕ) (finals : List ℕ) (spans : List Tran
 
     -- the first SPAN past the limit
     pub rule_too_many : max_transitions < length spans
-        → read_by strict book ≡ refused 5 (8 + 2 * length finals + 5 * max_transitions)
+        → read_by strict book ≡ refused TooMany (8 + 2 * length finals + 5 * max_transitions)
     rule_too_many l =
         read_body (comes_finals strict book tag kind finals fit.finals_below_lem
         (comes_many strict book tag kind spans max_transitions (7 ∷ 8 ∷ []) fit.ranged (omega arith) l))
@@ -232,7 +233,7 @@ module _ (strict : Bool) (tag kind : ℕ) (finals : List ℕ) (spans : List Tran
           (comes_spans strict book tag kind spans fit.ranged (omega arith) c))
 
       -- the start is final
-      pub rule-start-final : among 0 finals ≡ true → read_by strict book ≡ refused 12 (8 + 2 * length finals + 5 * length spans)
+      pub rule-start-final : among 0 finals ≡ true → read_by strict book ≡ refused StartFinal (8 + 2 * length finals + 5 * length spans)
       rule-start-final e =
           read_close_of (comes_refused strict book tag kind (reverse finals) (reverse spans)
           (all-reverse (λ (s : ℕ). s < error_state) finals fit.finals_below_lem) (all-reverse (Ranged error_state) spans fit.ranged)

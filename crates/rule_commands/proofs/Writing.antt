@@ -1,4 +1,5 @@
 -- What the loops and stores of writing leave. Assumes nothing.
+use Rattle.std.specs.Prelude.{Ok}
 use mathlib.Core.Path.{◌≡◌, refl, ap, ◌∙◌}
 use mathlib.Core.Bool.{Bool, true, false}
 use mathlib.Core.List.{List, [], ◌∷◌, ◌++◌, append-nil, flatten}
@@ -11,7 +12,6 @@ use lib.Seq.{paste-zero, sets-eq, drop-cons, take-length, length-take-le}
 use Rattle.automaton.specs.Choice.{if}
 use Rattle.automaton.specs.Rule.{Transition}
 use Rattle.command.proofs.Commands.{if-le}
-use Rattle.answer.specs.declared.PrintAnswer.TheVariants as answer
 use Rattle.output.specs.Outcome.{written}
 use Rattle.output.specs.Layers.{PrintAnswered}
 use Rattle.output.proofs.Filling.{Filling, filling_start, filling_room, filling_next, filling_end}
@@ -55,7 +55,7 @@ put_none out to = record { past = omega arith; laid = paste-zero out to [] }
 
 -- all of what is to be written
 pub put_written : (bytes out : List ℕ) → length bytes ≤ length out → {next : ℕ} {exit : List ℕ} → Put bytes 0 out next exit
-    → PrintAnswered (written bytes out) (answer.Printed next) exit
+    → PrintAnswered (written bytes out) (Ok next) exit
 put_written bytes out l {next} p =
     let e : next ≡ length bytes = omega (arith, p.past) in
     written-whole bytes out e (omega arith) (p.laid ∙ rw (e, take-length, zero-add))

@@ -10,7 +10,7 @@ ghost use Rattle.rule_commands.specs.Spans.{row_spans, spans_of};
 ghost use Rattle.rule_commands.specs.Bytes.{final_bytes, head_bytes, table_bytes};
 ghost use Rattle.rule_commands.specs.Layers.{row_at, rows_of, apart_at, closes_at, ended_at, next_low, bytes_of, Put, Table};
 
-use answer::{PrintAnswer, Refusal};
+use answer::{Reason, Refusal};
 use command::Command;
 
 // The codes of the commands; that of SPAN is `Command::SPAN`.
@@ -239,7 +239,7 @@ fn write_table(
     targets: &[u8],
     rows: usize,
     out: &mut [u8],
-) -> PrintAnswer
+) -> Result<usize, Refusal>
     requires { Table finals.now marked targets.now rows }
     ensures { PrintAnswered
         (written (table_bytes tag kind (take marked finals.now) (rows_of targets.now rows)) out.old)
@@ -247,10 +247,10 @@ fn write_table(
 {
     let total = 9 + 2 * marked + 5 * count_spans(targets, rows);
     if out.len() < total {
-        return PrintAnswer::refused(Refusal::OUTPUT_TOO_SHORT, total);
+        return Err(Reason::OutputTooShort.at(total));
     }
     let printed = write_commands(tag, kind, finals, marked, targets, rows, out);
-    PrintAnswer::Printed(printed)
+    Ok(printed)
 }
 
 // Writes the rule that has the first `final_count` of `finals` as its final states and, for each of its first `row_count` states, a row
@@ -263,7 +263,7 @@ pub fn write_rule(
     targets: &[u8; 65536],
     row_count: usize,
     out: &mut [u8],
-) -> PrintAnswer
+) -> Result<usize, Refusal>
     requires { (final_count ≤ 256) × (row_count ≤ 256) }
     ensures { PrintAnswered
         (written (table_bytes tag kind (take final_count finals.now) (rows_of targets.now row_count))

@@ -1,4 +1,6 @@
 -- What the code answers is the outcome. Assumes nothing.
+use Rattle.std.specs.Prelude.{Result, Ok, Err}
+use Rattle.answer.specs.declared.Reason.TheVariants.{OutputTooLong}
 use mathlib.Core.Path.{◌≡◌, refl, ap, subst}
 use mathlib.Core.Bool.{Bool, true, false}
 use mathlib.Core.Option.{Option, none, some}
@@ -10,8 +12,6 @@ use lib.Seq.{take-length}
 use lib.Dec.{ltb}
 use borrow.Author.Tests.{ltb-true, ltb-false}
 use Rattle.answer.specs.declared.Refusal.{Refusal}
-use Rattle.answer.specs.declared.BookAnswer.{BookAnswer}
-use Rattle.answer.specs.declared.PrintAnswer.{PrintAnswer}
 use Rattle.automaton.specs.Rule.{Rule}
 use Rattle.automaton.specs.Layers.{Holds}
 use Rattle.automaton.proofs.Tests.{all_map}
@@ -33,15 +33,13 @@ use Rattle.separated.specs.Refusals.{separated_refusal}
 use Rattle.separated.specs.Layers.{Passed, Roomy}
 use Rattle.separated.specs.Outcome.{writing, separated_rules, separated_outcome}
 use Rattle.separated.proofs.Unrefused.{CallPasses, passes}
-use Rattle.answer.specs.declared.BookAnswer.TheVariants as book
-use Rattle.answer.specs.declared.PrintAnswer.TheVariants as print
 use Rattle.token_list.specs.declared.Checked.TheVariants as checked
 use Rattle.output.specs.declared.Placed.TheVariants as placed
 
 -- ---- what is written
 
 -- what `write` makes of the bytes of a scratch from `at` on
-pub answered_written : (scratch : List ℕ) (at : ℕ) (out : List ℕ) {total : ℕ} {r : PrintAnswer} {exit : List ℕ}
+pub answered_written : (scratch : List ℕ) (at : ℕ) (out : List ℕ) {total : ℕ} {r : Result ℕ Refusal} {exit : List ℕ}
     → total ≡ length (drop at scratch) → total ≤ max_text
     → WritesOut scratch at total out r exit → PrintAnswered (writing (drop at scratch) out) r exit
 answered_written scratch at out e short h =
@@ -51,15 +49,15 @@ answered_written scratch at out e short h =
 -- ---- what stands at the end of a scratch
 
 pub answered_at : {p : Placed} {start : ℕ} {scratch : List ℕ} (bytes out : List ℕ) {exit : List ℕ} → Stands p bytes scratch
-    → p ≡ placed.At start → {r : PrintAnswer} → PrintAnswered (writing (drop start scratch) out) r exit
+    → p ≡ placed.At start → {r : Result ℕ Refusal} → PrintAnswered (writing (drop start scratch) out) r exit
     → PrintAnswered (writing bytes out) r exit
 answered_at bytes out {exit} s e {r} a = subst (λ (x : List ℕ). PrintAnswered (writing x out) r exit) (s.at _ e).laid a
 
 module _ {sep : TokenRecord} {mode : ℕ} {records pool entry : List ℕ} (k : Roomy sep mode records pool entry) where
   -- a list that finds no room is too long
   pub answered_full : (rules : List Rule) (out : List ℕ) {p : Placed} {scratch : List ℕ} → length scratch ≡ length entry
-      → Stands p (spelled rules sep mode records pool) scratch → p ≡ placed.Full → {r : PrintAnswer}
-      → r ≡ print.Refused (record { number = 20; place = 0 }) → PrintAnswered (writing (spelled rules sep mode records pool) out) r out
+      → Stands p (spelled rules sep mode records pool) scratch → p ≡ placed.Full → {r : Result ℕ Refusal}
+      → r ≡ Err (record { reason = OutputTooLong; place = 0 }) → PrintAnswered (writing (spelled rules sep mode records pool) out) r out
   answered_full rules out q s e a = up_to_long max_text 20 (spelled rules sep mode records pool) out (go _ refl) a
     where
       go : (t : Bool) → ltb max_text (length (spelled rules sep mode records pool)) ≡ t
@@ -82,16 +80,16 @@ module _ (rules : List Rule) (sep : TokenRecord) (mode : ℕ) (records pool : Li
 
   module _ (out : List ℕ) where
     pub answered_fault : {f : Refusal} → checked.Refused f ≡ checked_of (separated_refusal rules sep mode records pool)
-        → PrintAnswered (separated_rules rules sep mode records pool out) (print.Refused f) out
+        → PrintAnswered (separated_rules rules sep mode records pool out) (Err f) out
     unfolding separated_rules unless
     answered_fault {f} e = go (separated_refusal rules sep mode records pool) refl e
       where
         go : (o : Option Refusal) → separated_refusal rules sep mode records pool ≡ o → checked.Refused f ≡ checked_of o
-            → PrintAnswered (separated_rules rules sep mode records pool out) (print.Refused f) out
+            → PrintAnswered (separated_rules rules sep mode records pool out) (Err f) out
         go none q z = let y : ◌≡◌ {A = ℕ} 0 1 = cc in absurd (omega arith)
-        go (some g) q z = let y : f ≡ g = cc in rw q (record { answer = ap print.Refused y; out = refl })
+        go (some g) q z = let y : f ≡ g = cc in rw q (record { answer = ap Err y; out = refl })
 
-    pub answered_passed : {r : PrintAnswer} {exit : List ℕ} → checked.Passed ≡ checked_of (separated_refusal rules sep mode records pool)
+    pub answered_passed : {r : Result ℕ Refusal} {exit : List ℕ} → checked.Passed ≡ checked_of (separated_refusal rules sep mode records pool)
         → PrintAnswered (writing (spelled rules sep mode records pool) out) r exit
         → PrintAnswered (separated_rules rules sep mode records pool out) r exit
     unfolding separated_rules unless
@@ -99,16 +97,16 @@ module _ (rules : List Rule) (sep : TokenRecord) (mode : ℕ) (records pool : Li
 
 -- ---- by a book
 
-module _ {bytes tb : List ℕ} {b : BookAnswer} {n : ℕ} (l : Loaded bytes b tb) (a : b ≡ book.Accepted n) where
-  pub answered_book : (sep : TokenRecord) (mode : ℕ) (records pool out exit : List ℕ) (r : PrintAnswer)
+module _ {bytes tb : List ℕ} {b : Result ℕ Refusal} {n : ℕ} (l : Loaded bytes b tb) (a : b ≡ Ok n) where
+  pub answered_book : (sep : TokenRecord) (mode : ℕ) (records pool out exit : List ℕ) (r : Result ℕ Refusal)
       → ((rules : List Rule) → Holds tb rules → PrintAnswered (separated_rules rules sep mode records pool out) r exit)
       → PrintAnswered (separated_outcome bytes sep mode records pool out) r exit
   unfolding separated_outcome
   answered_book sep mode records pool out exit r h = let k = loaded_rules l a in rw k.1.0 (h k.0 k.1.1)
 
-module _ {bytes tb : List ℕ} {b : BookAnswer} {f : Refusal} (l : Loaded bytes b tb) (a : b ≡ book.Refused f) where
+module _ {bytes tb : List ℕ} {b : Result ℕ Refusal} {f : Refusal} (l : Loaded bytes b tb) (a : b ≡ Err f) where
   pub answered_refused : (sep : TokenRecord) (mode : ℕ) (records pool out : List ℕ)
-      → PrintAnswered (separated_outcome bytes sep mode records pool out) (print.Refused f) out
+      → PrintAnswered (separated_outcome bytes sep mode records pool out) (Err f) out
   unfolding separated_outcome
   answered_refused sep mode records pool out = rw (loaded_refusal l a) (record { answer = refl; out = refl })
 

@@ -1,4 +1,5 @@
 -- The checks of the code: the search for a separator rule, the faults of tokens, the passes over a list. Assumes nothing.
+use Rattle.answer.specs.declared.Reason.TheVariants.{NoSeparator, SeparatorInList, SharedByte, TooManyTokens, UnknownMode}
 use mathlib.Core.Path.{◌≡◌, refl, sym, ◌∙◌}
 use mathlib.Core.Bool.{Bool, true, false, ◌&&◌, beq}
 use mathlib.Core.Option.{Option, none, some}
@@ -94,12 +95,12 @@ or_kind {same} first kind wanted other e q = rw (by_none first e) (go kind wante
     go false false z = rw (← z)
 
 module _ (rules : List Rule) (pool : List ℕ) (r : TokenRecord) {f : Fault} where
-  pub separator_fault_lem : f ≡ fault_for (or_else (fault_of rules pool r) (differs true (separates rules r.tag)) 25)
+  pub separator_fault_lem : f ≡ fault_for (or_else (fault_of rules pool r) (differs true (separates rules r.tag)) NoSeparator)
       → f ≡ fault_for (separator_fault rules pool r)
   unfolding separator_fault differs
   separator_fault_lem e = e
 
-  pub plain_fault_lem : f ≡ fault_for (or_else (fault_of rules pool r) (differs false (separates rules r.tag)) 26)
+  pub plain_fault_lem : f ≡ fault_for (or_else (fault_of rules pool r) (differs false (separates rules r.tag)) SeparatorInList)
       → f ≡ fault_for (plain_fault rules pool r)
   unfolding plain_fault differs
   plain_fault_lem e = e
@@ -107,7 +108,7 @@ module _ (rules : List Rule) (pool : List ℕ) (r : TokenRecord) {f : Fault} whe
 -- ---- the checks of a call
 
 module _ (rules : List Rule) (sep : TokenRecord) (mode : ℕ) (records pool : List ℕ) where
-  pub list_mode : 2 < mode → {c : Checked} → c ≡ checked.Refused (record { number = 24; place = 0 }) → c
+  pub list_mode : 2 < mode → {c : Checked} → c ≡ checked.Refused (record { reason = UnknownMode; place = 0 }) → c
       ≡ checked_of (list_refusal rules sep mode records pool)
   unfolding list_refusal refuse
   list_mode l a = a ∙ rw (lt-ltb 2 mode l)
@@ -120,7 +121,7 @@ module _ (rules : List Rule) (sep : TokenRecord) (mode : ℕ) (records pool : Li
     list_separator e a = a ∙ rw (le-ltb 2 mode known, by_number (separator_fault rules pool sep) e)
 
     module _ (e : fault.Nothing ≡ fault_for (separator_fault rules pool sep)) where
-      pub list_many : max_tokens < record_count records → {c : Checked} → c ≡ checked.Refused (record { number = 16; place = 0 })
+      pub list_many : max_tokens < record_count records → {c : Checked} → c ≡ checked.Refused (record { reason = TooManyTokens; place = 0 })
           → c ≡ checked_of (list_refusal rules sep mode records pool)
       unfolding list_refusal refuse refuse_by
       list_many l a = a ∙ rw (le-ltb 2 mode known, by_none (separator_fault rules pool sep) e, lt-ltb max_tokens (record_count records) l)
@@ -132,7 +133,7 @@ module _ (rules : List Rule) (sep : TokenRecord) (mode : ℕ) (records pool : Li
       list_tokens l a = a ∙ rw (le-ltb 2 mode known, by_none (separator_fault rules pool sep) e, le-ltb max_tokens (record_count records) l)
 
   pub call_shared : {b : ℕ} → lowest.Byte b ≡ lowest_of (shared_byte rules) → {c : Checked} → c
-      ≡ checked.Refused (record { number = 23; place = b })
+      ≡ checked.Refused (record { reason = SharedByte; place = b })
       → c ≡ checked_of (separated_refusal rules sep mode records pool)
   unfolding separated_refusal sharing
   call_shared {b} e {c} a = go (shared_byte rules) refl e

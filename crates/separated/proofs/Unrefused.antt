@@ -1,4 +1,6 @@
 -- A call is accepted exactly where it passes the checks and its bytes are few enough for 20 and 22. Assumes nothing.
+use Rattle.answer.specs.declared.Reason.{Reason}
+use Rattle.std.specs.Prelude.{Ok}
 use mathlib.Core.Path.{◌≡◌, refl, ap}
 use mathlib.Core.Bool.{Bool, true, false, not}
 use mathlib.Core.Option.{Option, none, some}
@@ -31,7 +33,6 @@ use Rattle.shared_bytes.specs.Bytes.{shared, shared_byte}
 use Rattle.spacing.specs.Separators.{spelled}
 use Rattle.separated.specs.Refusals.{or_else, separator_fault, plain_fault, sharing, list_refusal, separated_refusal}
 use Rattle.separated.specs.Outcome.{separated_rules, separated_outcome}
-use Rattle.answer.specs.declared.PrintAnswer.TheVariants as answer
 
 -- ---- the lowest byte
 
@@ -128,7 +129,7 @@ none_faults fault (r ∷ rs) k (e, h) = rw (e, none_faults fault rs (suc k) h)
 
 -- ---- the checks of an accepted call
 
-refuse_none : (t : Bool) (number place : ℕ) (next : Option Refusal) → refuse t number place next ≡ none → (t ≡ false) × (next ≡ none)
+refuse_none : (t : Bool) (reason : Reason) (place : ℕ) (next : Option Refusal) → refuse t reason place next ≡ none → (t ≡ false) × (next ≡ none)
 unfolding refuse
 refuse_none true number place next e = nothing e refl
 refuse_none false number place next e = (refl, e)
@@ -187,7 +188,7 @@ module _ (rules : List Rule) (sep : TokenRecord) (mode : ℕ) (records pool : Li
     unfolding separated_outcome separated_rules unless
     passes_accepted p short room = rw (reads, passes_none rules sep mode records pool p) (up_to_accepts max_text 20 bytes out short room)
 
-    pub accepted_passes : {n : ℕ} → (separated_outcome book sep mode records pool out).answer ≡ answer.Printed n
+    pub accepted_passes : {n : ℕ} → (separated_outcome book sep mode records pool out).answer ≡ Ok n
         → CallPasses rules sep mode records pool × (length bytes ≤ max_text) × (length bytes ≤ length out)
     unfolding separated_outcome separated_rules
     accepted_passes {n} e =

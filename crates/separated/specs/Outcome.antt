@@ -1,5 +1,6 @@
 -- The paper's spacing writing, as a whole: from the book's bytes, the separator token, the mode, the records, their pool and the lent
 -- output to the answer and what the output holds afterwards.
+use Rattle.answer.specs.declared.Reason.TheVariants.{OutputTooLong}
 use Rattle.std.specs.Prelude.{List, ℕ}
 use Rattle.automaton.specs.Rule.{Rule}
 use Rattle.book.specs.Limits.{max_text}
@@ -11,7 +12,7 @@ use Rattle.separated.specs.Refusals.{separated_refusal}
 
 -- 20, separators counted, and 22, then the bytes
 abbrev pub writing : List ℕ → List ℕ → PrintOutcome
-writing bytes out = written_up_to max_text 20 bytes out
+writing bytes out = written_up_to max_text OutputTooLong bytes out
 
 unfoldable pub separated_rules : List Rule → TokenRecord → ℕ → List ℕ → List ℕ → List ℕ → PrintOutcome
 separated_rules rules sep mode records pool out =
@@ -19,7 +20,7 @@ separated_rules rules sep mode records pool out =
 
 -- the book's refusals first
 abbrev pub separated_reading : Reading → TokenRecord → ℕ → List ℕ → List ℕ → List ℕ → PrintOutcome
-separated_reading (refused number place) sep mode records pool out = print_refused number place out
+separated_reading (refused reason place) sep mode records pool out = print_refused reason place out
 separated_reading (accepted rules) sep mode records pool out = separated_rules rules sep mode records pool out
 
 unfoldable pub separated_outcome : List ℕ → TokenRecord → ℕ → List ℕ → List ℕ → List ℕ → PrintOutcome

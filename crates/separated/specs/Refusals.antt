@@ -1,4 +1,6 @@
 -- What is refused before anything is put together.
+use Rattle.answer.specs.declared.Reason.{Reason}
+use Rattle.answer.specs.declared.Reason.TheVariants.{NoSeparator, SeparatorInList, SharedByte, TooManyTokens, UnknownMode}
 use Rattle.std.specs.Prelude.{Bool, not, List, ℕ, ltb}
 use Rattle.std.proofs.Math.Option.{Option, none, some}
 use Rattle.answer.specs.declared.Refusal.{Refusal}
@@ -16,32 +18,32 @@ use Rattle.shared_bytes.specs.Kinds.{separates}
 
 -- ---- the checks of one token
 
--- the fault, or else this number where the test holds
-unfoldable pub or_else : Option ℕ → Bool → ℕ → Option ℕ
-or_else (some fault) test number = some fault
-or_else none test number = if test (some number) none
+-- the fault, or else this reason where the test holds
+unfoldable pub or_else : Option Reason → Bool → Reason → Option Reason
+or_else (some fault) test reason = some fault
+or_else none test reason = if test (some reason) none
 
 -- the separator token: the fault of any token, else 25 where no separator rule has its tag
-unfoldable pub separator_fault : List Rule → List ℕ → TokenRecord → Option ℕ
-separator_fault rules pool r = or_else (fault_of rules pool r) (not (separates rules r.tag)) 25
+unfoldable pub separator_fault : List Rule → List ℕ → TokenRecord → Option Reason
+separator_fault rules pool r = or_else (fault_of rules pool r) (not (separates rules r.tag)) NoSeparator
 
 -- a token of the list: the fault of any token, else 26 where a separator rule has its tag
-unfoldable pub plain_fault : List Rule → List ℕ → TokenRecord → Option ℕ
-plain_fault rules pool r = or_else (fault_of rules pool r) (separates rules r.tag) 26
+unfoldable pub plain_fault : List Rule → List ℕ → TokenRecord → Option Reason
+plain_fault rules pool r = or_else (fault_of rules pool r) (separates rules r.tag) SeparatorInList
 
 -- ---- the whole call
 
 -- 23 at a byte
 unfoldable pub sharing : Option ℕ → Option Refusal
 sharing none = none
-sharing (some b) = some (record { number = 23; place = b })
+sharing (some b) = some (record { reason = SharedByte; place = b })
 
 -- also of the empty list: 24, the separator's faults at the list's length, 16, the first token at fault
 unfoldable pub list_refusal : List Rule → TokenRecord → ℕ → List ℕ → List ℕ → Option Refusal
 list_refusal rules sep mode records pool =
-    refuse (ltb 2 mode) 24 0
+    refuse (ltb 2 mode) UnknownMode 0
     (refuse_by (separator_fault rules pool sep) (record_count records)
-    (refuse (ltb max_tokens (record_count records)) 16 0
+    (refuse (ltb max_tokens (record_count records)) TooManyTokens 0
     (first_fault (plain_fault rules pool) (records_of records) 0)))
 
 -- and 23 before that

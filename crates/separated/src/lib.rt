@@ -14,10 +14,8 @@ ghost use Rattle.spacing.specs.Separators.{spelled};
 ghost use Rattle.separated.specs.Outcome.{writing, separated_rules};
 ghost use Rattle.separated.specs.Layers.{Passed, Roomy};
 
-use answer::{PrintAnswer, Refusal};
-use output::Placed;
+use answer::{Reason, Refusal};
 use record::TokenRecord;
-use token_list::Checked;
 
 // Prints the tokens that `records` say with `pool`, with the separator token between neighbours where the mode places it.
 pub fn print_rules(
@@ -28,17 +26,15 @@ pub fn print_rules(
     pool: &[u8],
     scratch: &mut [u8],
     out: &mut [u8],
-) -> PrintAnswer
+) -> Result<usize, Refusal>
     requires held { Held table.now }
     requires roomy { Roomy separator mode records.now pool.now scratch.old }
     ensures { (rs : List Rule) → Holds table.now rs
         → PrintAnswered (separated_rules rs separator mode records.now pool.now out.old)
         result out.new }
 {
-    match crate::checks::check_call(table, separator, mode, records, pool) {
-        Checked::Passed => print_passed(table, separator, mode, records, pool, scratch, out),
-        Checked::Refused(refusal) => PrintAnswer::Refused(refusal),
-    }
+    crate::checks::check_call(table, separator, mode, records, pool)?;
+    print_passed(table, separator, mode, records, pool, scratch, out)
 }
 
 // The same of a call that the checks pass.
@@ -50,7 +46,7 @@ fn print_passed(
     pool: &[u8],
     scratch: &mut [u8],
     out: &mut [u8],
-) -> PrintAnswer
+) -> Result<usize, Refusal>
     requires passed { Passed table.now separator mode records.now pool.now }
     requires roomy { Roomy separator mode records.now pool.now scratch.old }
     ensures { (rs : List Rule) → Holds table.now rs
@@ -58,13 +54,13 @@ fn print_passed(
         result out.new }
 {
     match spacing::spelling::put_list(table, separator, mode, records, pool, scratch) {
-        Placed::At(at) => write_from(scratch, at, out),
-        Placed::Full => PrintAnswer::refused(Refusal::OUTPUT_TOO_LONG, 0),
+        Some(at) => write_from(scratch, at, out),
+        None => Err(Reason::OutputTooLong.at(0)),
     }
 }
 
 // Writes what stands in the scratch from `at` on.
-fn write_from(scratch: &[u8], at: usize, out: &mut [u8]) -> PrintAnswer
+fn write_from(scratch: &[u8], at: usize, out: &mut [u8]) -> Result<usize, Refusal>
     requires { (at ≤ length scratch.now) × (length scratch.now ≤ max_text) }
     ensures { PrintAnswered (writing (drop at scratch.now) out.old) result out.new }
 {

@@ -1,5 +1,6 @@
 -- The first and the third pass of `print_tokens` over the records that the tokens say: faults found and bytes counted; what reads on.
 -- The second is token_list's `Joining`. Assumes nothing.
+use Rattle.answer.specs.declared.Reason.TheVariants.{ReadOn}
 use mathlib.Core.Path.{◌≡◌, sym, ap, ◌∙◌, subst}
 use mathlib.Core.Option.{none, some}
 use mathlib.Core.List.{List, [], ◌∷◌, ◌++◌}
@@ -100,7 +101,7 @@ module _ {rules : List Rule} {records pool text : List ℕ} {at k : ℕ} (w : Ex
     chosen_here : Chooses rules (bytes_in pool r ++ after) rule len
     chosen_here = subst (λ (x : List ℕ). Chooses rules x rule len) split c
 
-    pub extending_found : (len ≡ r.len → ⊥) → first_extended rules (tokens_of records pool) 0 ≡ some (record { number = 21; place = k })
+    pub extending_found : (len ≡ r.len → ⊥) → first_extended rules (tokens_of records pool) 0 ≡ some (record { reason = ReadOn; place = k })
     unfolding first_extended tokens_in refuse
     extending_found ne =
         w.first ∙ rw (front_is, read_on rules (bytes_in pool r) after r.tag empty matched chosen_here (λ q. ne (q ∙ long)))

@@ -1,5 +1,8 @@
 -- The loop of `print_tokens`: what holds of a stage and of the scratch, and how a step keeps it, by the printer's three passes over the
 -- records that the tokens say. Assumes nothing.
+use Rattle.answer.specs.declared.Reason.{Reason}
+use Rattle.std.specs.Prelude.{Result, Ok, Err}
+use Rattle.answer.specs.declared.Reason.TheVariants.{OutputTooLong, ReadOn, TooManyTokens}
 use mathlib.Core.Path.{◌≡◌, refl, sym, ◌∙◌, ap, subst}
 use mathlib.Core.Bool.{Bool, true, false}
 use mathlib.Core.Option.{Option, none, some}
@@ -11,8 +14,6 @@ use lib.ListN.{length, take, drop}
 use lib.Seq.{paste, length-take-le}
 use borrow.Author.Tests.{ltb-true, ltb-false, eqb-true, eqb-false}
 use Rattle.answer.specs.declared.Refusal.{Refusal}
-use Rattle.answer.specs.declared.BookAnswer.{BookAnswer}
-use Rattle.answer.specs.declared.PrintAnswer.{PrintAnswer}
 use Rattle.automaton.specs.Choice.{if}
 use Rattle.automaton.specs.Rule.{Rule}
 use Rattle.automaton.specs.Layers.{Holds}
@@ -42,23 +43,21 @@ use Rattle.slices.specs.Layers.{going, done, refused_stage, pass_over, moved_on,
 use Rattle.slices.specs.Layers.{Steps, Stepped, Begins, Finishes}
 use Rattle.slices.proofs.Passes.{Measuring, measuring_start, measuring_refused, measuring_next, measuring_end}
 use Rattle.slices.proofs.Passes.{Extending, extending_start, extending_found, extending_next, extending_end}
-use Rattle.answer.specs.declared.BookAnswer.TheVariants as book
-use Rattle.answer.specs.declared.PrintAnswer.TheVariants as print
 
 -- ---- the first stage
 
-module _ {bytes tb : List ℕ} {count : ℕ} {b : BookAnswer} {r : Stage} (l : Loaded bytes b tb) where
-  refused : (number place : ℕ) → r ≡ refused_stage number place
+module _ {bytes tb : List ℕ} {count : ℕ} {b : Result ℕ Refusal} {r : Stage} (l : Loaded bytes b tb) where
+  refused : (reason : Reason) (place : ℕ) → r ≡ refused_stage reason place
       → ((records pool out : List ℕ) → record_count records ≡ count
-      → PrintAnswered (print_outcome bytes records pool out) (print.Refused (record { number = number; place = place })) out)
+      → PrintAnswered (print_outcome bytes records pool out) (Err (record { reason = reason; place = place })) out)
       → Begins bytes count tb r
-  refused number place e f =
+  refused reason place e f =
       subst (Begins bytes count tb) (sym e) (record { refuses = λ _. (refl, f); starts = λ p. clash refl p })
 
-  module _ {n : ℕ} (a : b ≡ book.Accepted n) where
-    many : max_tokens < count → r ≡ refused_stage 16 0 → Begins bytes count tb r
+  module _ {n : ℕ} (a : b ≡ Ok n) where
+    many : max_tokens < count → r ≡ refused_stage TooManyTokens 0 → Begins bytes count tb r
     many m e =
-        refused 16 0 e
+        refused TooManyTokens 0 e
         (λ records pool out q. answered_book l a records pool out out _
         (λ rules h. answered_many rules records pool out (subst (λ (k : ℕ). max_tokens < k) (sym q) m) refl))
 
@@ -74,11 +73,11 @@ module _ {bytes tb : List ℕ} {count : ℕ} {b : BookAnswer} {r : Stage} (l : L
     pub begins_book : r ≡ begun count → Begins bytes count tb r
     begins_book e = go (ltb max_tokens count) refl e
       where
-        go : (t : Bool) → ltb max_tokens count ≡ t → r ≡ if t (refused_stage 16 0) (first_stage count) → Begins bytes count tb r
+        go : (t : Bool) → ltb max_tokens count ≡ t → r ≡ if t (refused_stage TooManyTokens 0) (first_stage count) → Begins bytes count tb r
         go true z q = many (ltb-true _ _ z) q
         go false z q = first (ltb-false _ _ z) (eqb count 0) refl q
 
-  pub begins_refused : {f : Refusal} → b ≡ book.Refused f → r ≡ refused_stage f.number f.place → Begins bytes count tb r
+  pub begins_refused : {f : Refusal} → b ≡ Err f → r ≡ refused_stage f.number f.place → Begins bytes count tb r
   begins_refused {f} a e = refused f.number f.place e (λ records pool out q. answered_refused l a records pool out)
 
 -- ---- the loop
@@ -101,9 +100,9 @@ pub data Phase (rules : List Rule) (records pool scratch : List ℕ) (left : ℕ
   over : (total : ℕ) → s ≡ done total → Clean rules records pool scratch total → Phase rules records pool scratch left s
 
 pub data Going (book tb records pool scratch : List ℕ) (left : ℕ) (s : Stage) : Type 0 where
-  refuses : (number place : ℕ) → s ≡ refused_stage number place
+  refuses : (reason : Reason) (place : ℕ) → s ≡ refused_stage reason place
       → ((out : List ℕ)
-      → PrintAnswered (print_outcome book records pool out) (print.Refused (record { number = number; place = place })) out)
+      → PrintAnswered (print_outcome book records pool out) (Err (record { reason = reason; place = place })) out)
       → Going book tb records pool scratch left s
   stands : (rules : List Rule) → read_book book ≡ accepted rules → Holds tb rules → record_count records ≤ max_tokens
       → Phase rules records pool scratch left s → Going book tb records pool scratch left s
@@ -115,12 +114,12 @@ turns count s = if s.more ((3 - s.pass) * count - s.index) 0
 -- the three passes, by a book's rules that the table holds
 module _ (book tb records pool : List ℕ) (rules : List Rule) (accepts : read_book book ≡ accepted rules)
     (holds : Holds tb rules) (few : record_count records ≤ max_tokens) where
-  outcome : (out exit : List ℕ) (a : PrintAnswer) → PrintAnswered (print_rules rules records pool out) a exit
+  outcome : (out exit : List ℕ) (a : Result ℕ Refusal) → PrintAnswered (print_rules rules records pool out) a exit
       → PrintAnswered (print_outcome book records pool out) a exit
   unfolding print_outcome
   outcome out exit a h = rw accepts h
 
-  counted_outcome : (out exit : List ℕ) (a : PrintAnswer) → Faultless rules records pool
+  counted_outcome : (out exit : List ℕ) (a : Result ℕ Refusal) → Faultless rules records pool
       → PrintAnswered (print_checked rules (tokens_of records pool) out) a exit → PrintAnswered (print_outcome book records pool out) a exit
   counted_outcome out exit a f h = outcome out exit a (answered_checked rules records pool out few f h)
 
@@ -143,10 +142,10 @@ module _ (book tb records pool : List ℕ) (rules : List Rule) (accepts : read_b
           m : Faultless rules records pool × (at + t.len ≡ length (join (tokens_of records pool)))
           m = measuring_end (measuring_next w more e z small.len) (ltb-false _ _ l)
 
-          go : (b : Bool) → ltb max_text (at + t.len) ≡ b → r ≡ if b (refused_stage 20 0) (going 1 0 0 (at + t.len))
+          go : (b : Bool) → ltb max_text (at + t.len) ≡ b → r ≡ if b (refused_stage OutputTooLong 0) (going 1 0 0 (at + t.len))
               → Going book tb records pool scratch (left - 1) r
           go true y q₁ =
-              refuses 20 0 q₁
+              refuses OutputTooLong 0 q₁
               (λ out. counted_outcome out out _ m.0 (answered_long rules (tokens_of records pool) out m.1 (ltb-true _ _ y) refl))
           go false y q₁ =
               let s : Spanned records pool (at + t.len) =
@@ -195,11 +194,11 @@ module _ (book tb records pool : List ℕ) (rules : List Rule) (accepts : read_b
           (over total q (record { settled = record { faultless = c.faultless; apart = a }; spanned = c.spanned; laid = x }))
 
       read_next : (b : Bool) → eqb most t.len ≡ b
-          → r ≡ if b (moved_on (going 2 k at total) t.len (record_count records)) (refused_stage 21 k)
+          → r ≡ if b (moved_on (going 2 k at total) t.len (record_count records)) (refused_stage ReadOn k)
           → Going book tb records pool scratch (left - 1) r
       read_next true z q = read_passed (eqb-true _ _ z) (ltb (k + 1) (record_count records)) refl q
       read_next false z q =
-          refuses 21 k q (λ out. counted_outcome out out _ c.faultless
+          refuses ReadOn k q (λ out. counted_outcome out out _ c.faultless
           (answered_extended rules (tokens_of records pool) out c.spanned.bytes c.spanned.short
           (extending_found w (held_empty holds) more e h (eqb-false _ _ z)) refl))
 
@@ -250,7 +249,7 @@ module _ {book tb records pool : List ℕ} where
     -- a stage is as far from the end as `turns` says
     pub going_turns : Going book tb records pool scratch left s
         → (turns (record_count records) s ≤ left) × Going book tb records pool scratch (turns (record_count records) s) s
-    going_turns (refuses number place e f) = (at_turns (record_count records) (λ (n : ℕ). n ≤ left) e (omega arith), refuses number place e f)
+    going_turns (refuses reason place e f) = (at_turns (record_count records) (λ (n : ℕ). n ≤ left) e (omega arith), refuses reason place e f)
     going_turns (stands rules a h m (checking k at e l b w)) = (
       at_turns (record_count records) (λ (n : ℕ). n ≤ left) e (omega arith),
       stands rules a h m (checking k at e l (at_turns (record_count records) (λ (n : ℕ). 3 * record_count records ≤ n + k) e (omega arith)) w),
@@ -271,7 +270,7 @@ module _ {book tb records pool : List ℕ} where
     )
 
     pub going_index : Going book tb records pool scratch left s → s.more ≡ true → (s.index < record_count records) × (0 < left)
-    going_index (refuses number place e f) m = halts m e refl
+    going_index (refuses reason place e f) m = halts m e refl
     going_index (stands rules a h few (checking k at e l b w)) m = let i = ap (λ (z : Stage). z.index) e in (omega arith, omega arith)
     going_index (stands rules a h few (joining k at total entry e l b c d w)) m = let i = ap (λ (z : Stage). z.index) e in
         (omega arith, omega arith)
@@ -282,7 +281,7 @@ module _ {book tb records pool : List ℕ} where
     module _ {t : TokenRecord} (sized : length scratch ≡ max_text) (small : Fits t) where
       pub going_steps : Going book tb records pool scratch left s → s.more ≡ true → t ≡ record_at records s.index
           → Steps tb scratch pool s t
-      going_steps (refuses number place e f) m t-is = halts m e refl
+      going_steps (refuses reason place e f) m t-is = halts m e refl
       going_steps (stands rules a h few (checking k at e l b w)) m t-is =
           subst (λ (z : Stage). Steps tb scratch pool z t) (sym e) (record {
             held = record { rules = rules; holds = h };
@@ -320,7 +319,7 @@ module _ {book tb records pool : List ℕ} where
       pub going_next : {after : List ℕ} {r : Stage} → Going book tb records pool scratch left s → s.more ≡ true
           → t ≡ record_at records s.index → Stepped tb scratch after pool s t (record_count records) r
           → Going book tb records pool after (left - 1) r × (length after ≡ max_text)
-      going_next {after} {r} (refuses number place e f) m t-is st = halts m e refl
+      going_next {after} {r} (refuses reason place e f) m t-is st = halts m e refl
       going_next {after} {r} (stands rules a h few (checking k at e l b w)) m t-is st =
           let i : t ≡ record_at records k = t-is ∙ ap (λ (z : Stage). record_at records z.index) e in
           let g = (subst (λ (z : Stage). Stepped tb scratch after pool z t (record_count records) r) e st).checks refl in
@@ -349,16 +348,16 @@ module _ {book tb records pool : List ℕ} where
       going_next {after} {r} (stands rules a h few (over total e c)) m t-is st = halts m e refl
 
     pub going_total : Going book tb records pool scratch left s → s.more ≡ false → s.total ≤ max_text
-    going_total (refuses number place e f) m = let i = ap (λ (z : Stage). z.total) e in omega arith
+    going_total (refuses reason place e f) m = let i = ap (λ (z : Stage). z.total) e in omega arith
     going_total (stands rules a h few (checking k at e l b w)) m = goes m e refl
     going_total (stands rules a h few (joining k at total entry e l b c d w)) m = goes m e refl
     going_total (stands rules a h few (reading k at total e l b c y w)) m = goes m e refl
     going_total (stands rules a h few (over total e c)) m = let i = ap (λ (z : Stage). z.total) e in omega (arith, c.spanned.short)
 
-    pub going_finish : {out exit : List ℕ} {r : PrintAnswer} → Going book tb records pool scratch left s → s.more ≡ false
+    pub going_finish : {out exit : List ℕ} {r : Result ℕ Refusal} → Going book tb records pool scratch left s → s.more ≡ false
         → Finishes scratch s out r exit
         → PrintAnswered (print_outcome book records pool out) r exit
-    going_finish {out} {exit} {r} (refuses number place e f) m h =
+    going_finish {out} {exit} {r} (refuses reason place e f) m h =
         let g = (subst (λ (z : Stage). Finishes scratch z out r exit) e h).refuses refl in
         record { answer = g.0 ∙ (f out).answer; out = g.1 ∙ (f out).out }
     going_finish (stands rules a h few (checking k at e l b w)) m fin = goes m e refl

@@ -1,9 +1,9 @@
 -- What is pending first, by a book: refused, or as its rules open it. Assumes nothing.
+use Rattle.std.specs.Prelude.{Result, Ok, Err}
 use mathlib.Core.Path.{◌≡◌, refl, sym, subst}
 use mathlib.Core.List.{List}
 use Prim.Native.Nat.{ℕ}
 use Rattle.answer.specs.declared.Refusal.{Refusal}
-use Rattle.answer.specs.declared.BookAnswer.{BookAnswer}
 use Rattle.automaton.specs.Rule.{Rule}
 use Rattle.automaton.specs.Layers.{Holds}
 use Rattle.automaton.proofs.Tests.{clash}
@@ -12,23 +12,21 @@ use Rattle.reader.proofs.Loaded.{loaded_rules}
 use Rattle.lexer.proofs.Outcomes.{answered_book, answered_refused}
 use Rattle.slices.specs.declared.lexing.Pending.{Pending}
 use Rattle.slices.specs.Layers.{refused_pending, pending_refusal, Opens, Begun}
-use Rattle.answer.specs.declared.BookAnswer.TheVariants as book
-use Rattle.answer.specs.declared.LexAnswer.TheVariants as answer
 
-module _ {bytes text tb : List ℕ} {room : ℕ} {b : BookAnswer} {r : Pending} (l : Loaded bytes b tb) where
-  pub begun_book : {n least : ℕ} → b ≡ book.Accepted n → room ≡ least → ((rules : List Rule) → Holds tb rules → Opens rules text room r)
+module _ {bytes text tb : List ℕ} {room : ℕ} {b : Result ℕ Refusal} {r : Pending} (l : Loaded bytes b tb) where
+  pub begun_book : {n least : ℕ} → b ≡ Ok n → room ≡ least → ((rules : List Rule) → Holds tb rules → Opens rules text room r)
       → Begun bytes text least tb r
   begun_book a e f =
       let w = loaded_rules l a in
       let o = f w.0 w.1.1 in
       subst (λ (m : ℕ). Begun bytes text m tb r) e (record {
         idle = o.idle;
-        refuses = λ p records masks q. answered_book l a text records masks records masks (answer.Refused (pending_refusal r))
+        refuses = λ p records masks q. answered_book l a text records masks records masks (Err (pending_refusal r))
             (λ rules h. (f rules h).refuses p records masks q);
         starts = λ p. (w.0, (w.1.0, (w.1.1, o.starts p)));
       })
 
-  pub begun_refused : {f : Refusal} → b ≡ book.Refused f → r ≡ refused_pending f.number f.place → Begun bytes text room tb r
+  pub begun_refused : {f : Refusal} → b ≡ Err f → r ≡ refused_pending f.number f.place → Begun bytes text room tb r
   begun_refused a e =
       subst (Begun bytes text room tb) (sym e)
       (record { idle = λ _. refl; refuses = λ _ records masks _. answered_refused l a text records masks; starts = λ p. clash refl p })

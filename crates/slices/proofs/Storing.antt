@@ -1,6 +1,7 @@
 -- The loop of `lex_tokens`: what holds of what is pending and of the bytes that the tokens and the masks say, and how storing a token and
 -- its mask keeps it.
 -- Assumes nothing.
+use Rattle.std.specs.Prelude.{Err}
 use mathlib.Core.Path.{◌≡◌, refl, sym, ◌∙◌, ap, subst}
 use mathlib.Core.Bool.{Bool, true, false}
 use mathlib.Core.List.{List, ◌++◌}
@@ -24,7 +25,6 @@ use Rattle.lexer.proofs.Filled.{Filling, filling_start, filling_room, filling_ma
 use Rattle.lexer.proofs.ByRules.{room_in, answered_lexed, room_for}
 use Rattle.slices.specs.declared.lexing.Pending.{Pending}
 use Rattle.slices.specs.Layers.{answer_of, pending_refusal, Chosen, PendingAt, Ready, Begun}
-use Rattle.answer.specs.declared.LexAnswer.TheVariants as answer
 
 -- t is pending after t.index tokens of the text, which are in the records, with their masks in the masks; at most `left` tokens follow
 pub record Standing (book text entry masks-entry tb records masks : List ℕ) (left : ℕ) (t : Pending) (rules : List Rule) : Type 0 where
@@ -39,7 +39,7 @@ pub record Standing (book text entry masks-entry tb records masks : List ℕ) (l
 
 pub record Going (book text entry masks-entry tb records masks : List ℕ) (left : ℕ) (t : Pending) : Type 0 where
   pub idle : t.refused ≡ true → t.more ≡ false
-  pub refuses : t.refused ≡ true → LexAnswered (masked_outcome book text entry masks-entry) (answer.Refused (pending_refusal t)) records
+  pub refuses : t.refused ≡ true → LexAnswered (masked_outcome book text entry masks-entry) (Err (pending_refusal t)) records
       masks
   pub stands : t.refused ≡ false → (rules : List Rule) × Standing book text entry masks-entry tb records masks left t rules
 

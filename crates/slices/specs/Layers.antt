@@ -1,10 +1,12 @@
 -- What the layers of the code ask and answer between themselves. Nobody needs to believe it: the operations' contracts do not rest on it.
+use Rattle.answer.specs.declared.Cut.{Cut}
+use Rattle.std.specs.Prelude.{Result, Err}
+use Rattle.answer.specs.declared.Reason.TheVariants.{OutputTooLong, ReadOn, TooManyTokens}
+use Rattle.answer.specs.Answers.{lexed}
 use Rattle.std.specs.Prelude.{◌≡◌, true, false, List, ℕ, ◌+◌, ◌%◌, ◌^◌, ◌<◌, ◌≤◌, ◌*◌, min, length, drop, take, ltb, eqb}
 use Rattle.std.proofs.Math.Option.{Option, none, some}
 use Rattle.std.proofs.Math.Seq.{paste}
 use Rattle.answer.specs.declared.Refusal.{Refusal}
-use Rattle.answer.specs.declared.LexAnswer.{LexAnswer}
-use Rattle.answer.specs.declared.PrintAnswer.{PrintAnswer}
 use Rattle.automaton.specs.Choice.{if}
 use Rattle.automaton.specs.Rule.{Rule}
 use Rattle.automaton.specs.Layers.{rule_at, Holds, Held}
@@ -24,21 +26,19 @@ use Rattle.output.specs.Layers.{PrintAnswered}
 use Rattle.printer.specs.Outcome.{print_outcome}
 use Rattle.slices.specs.declared.lexing.Pending.{Pending}
 use Rattle.slices.specs.declared.printing.Stage.{Stage}
-use Rattle.answer.specs.declared.LexAnswer.TheVariants as answer
-use Rattle.answer.specs.declared.PrintAnswer.TheVariants as print
 
 -- ==== Module lexing: what is pending.
 
 abbrev pub refused_pending : ℕ → ℕ → Pending
-refused_pending number place =
+refused_pending reason place =
     record { more = false; index = 0; token = no_record; mask = 0; next = 0; refused = true; number = number; place = place }
 
 abbrev pub pending_refusal : Pending → Refusal
 pending_refusal p = record { number = p.number; place = p.place }
 
 -- what is answered where no token is pending
-abbrev pub answer_of : Pending → LexAnswer
-answer_of p = if p.refused (answer.Refused (pending_refusal p)) (answer.Lexed p.index p.next)
+abbrev pub answer_of : Pending → Result Cut Refusal
+answer_of p = if p.refused (Err (pending_refusal p)) (lexed p.index p.next)
 
 -- the pending token is the one that is chosen at `at`, and the mask that of the rules which agree on it
 pub record Chosen (rules : List Rule) (text : List ℕ) (at : ℕ) (p : Pending) : Type 0 where
@@ -76,14 +76,14 @@ pub record Started (rules : List Rule) (text : List ℕ) (room : ℕ) (p : Pendi
 pub record Opens (rules : List Rule) (text : List ℕ) (room : ℕ) (p : Pending) : Type 0 where
   pub idle : p.refused ≡ true → p.more ≡ false
   pub refuses : p.refused ≡ true → (records masks : List ℕ) → min (record_count records) (mask_count masks) ≡ room
-      → LexAnswered (masked_rules rules text records masks) (answer.Refused (pending_refusal p)) records masks
+      → LexAnswered (masked_rules rules text records masks) (Err (pending_refusal p)) records masks
   pub starts : p.refused ≡ false → Started rules text room p
 
 -- by a book: refused, or the first token by its rules
 pub record Begun (book text : List ℕ) (room : ℕ) (tb : List ℕ) (p : Pending) : Type 0 where
   pub idle : p.refused ≡ true → p.more ≡ false
   pub refuses : p.refused ≡ true → (records masks : List ℕ) → min (record_count records) (mask_count masks) ≡ room
-      → LexAnswered (masked_outcome book text records masks) (answer.Refused (pending_refusal p)) records masks
+      → LexAnswered (masked_outcome book text records masks) (Err (pending_refusal p)) records masks
   pub starts : p.refused ≡ false → (rules : List Rule) × ((read_book book ≡ accepted rules) × (Holds tb rules × Started rules text room p))
 
 -- ==== Module printing: the stages.
@@ -98,7 +98,7 @@ done total =
     record { more = false; pass = 0; index = 0; at = 0; total = total; refused = false; number = 0; place = 0 }
 
 abbrev pub refused_stage : ℕ → ℕ → Stage
-refused_stage number place =
+refused_stage reason place =
     record { more = false; pass = 0; index = 0; at = 0; total = 0; refused = true; number = number; place = place }
 
 abbrev pub stage_refusal : Stage → Refusal
@@ -109,7 +109,7 @@ stage_refusal s = record { number = s.number; place = s.place }
 -- a pass is over after `at` bytes: the first with 20 where they are too many
 abbrev pub pass_over : ℕ → ℕ → ℕ → Stage
 pass_over pass at total =
-    if (eqb pass 0) (if (ltb max_text at) (refused_stage 20 0) (going 1 0 0 at))
+    if (eqb pass 0) (if (ltb max_text at) (refused_stage OutputTooLong 0) (going 1 0 0 at))
     (if (eqb pass 1) (going 2 0 0 total)
     (done total))
 
@@ -128,7 +128,7 @@ pub record Reads (rules : List Rule) (text : List ℕ) (s : Stage) (len count : 
   pub rule : ℕ
   pub most : ℕ
   pub chooses : Chooses rules (drop s.at text) rule most
-  pub result : r ≡ if (eqb most len) (moved_on s len count) (refused_stage 21 s.index)
+  pub result : r ≡ if (eqb most len) (moved_on s len count) (refused_stage ReadOn s.index)
 
 -- what a step asks
 pub record Steps (tb scratch pool : List ℕ) (s : Stage) (t : TokenRecord) : Type 0 where
@@ -154,18 +154,18 @@ first_stage count = if (eqb count 0) (done 0) (going 0 0 0 0)
 
 -- 16 before it
 abbrev pub begun : ℕ → Stage
-begun count = if (ltb max_tokens count) (refused_stage 16 0) (first_stage count)
+begun count = if (ltb max_tokens count) (refused_stage TooManyTokens 0) (first_stage count)
 
 -- the first stage of printing `count` tokens: refused by the book or by 16, or the first token
 pub record Begins (book : List ℕ) (count : ℕ) (tb : List ℕ) (r : Stage) : Type 0 where
   pub refuses : r.refused ≡ true → (r ≡ refused_stage r.number r.place)
       × ((records pool out : List ℕ) → record_count records ≡ count
-      → PrintAnswered (print_outcome book records pool out) (print.Refused (stage_refusal r)) out)
+      → PrintAnswered (print_outcome book records pool out) (Err (stage_refusal r)) out)
   pub starts : r.refused ≡ false
       → (rules : List Rule) × ((read_book book ≡ accepted rules)
       × (Holds tb rules × ((count ≤ max_tokens) × (r ≡ first_stage count))))
 
 -- the answer, by the joined bytes in the scratch
-pub record Finishes (scratch : List ℕ) (s : Stage) (out : List ℕ) (r : PrintAnswer) (exit : List ℕ) : Type 0 where
-  pub refuses : s.refused ≡ true → (r ≡ print.Refused (stage_refusal s)) × (exit ≡ out)
+pub record Finishes (scratch : List ℕ) (s : Stage) (out : List ℕ) (r : Result ℕ Refusal) (exit : List ℕ) : Type 0 where
+  pub refuses : s.refused ≡ true → (r ≡ Err (stage_refusal s)) × (exit ≡ out)
   pub writes : s.refused ≡ false → WritesOut scratch 0 s.total out r exit

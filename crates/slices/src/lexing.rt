@@ -7,7 +7,7 @@ ghost use Rattle.book.specs.Limits.{max_text};
 ghost use Rattle.reader.specs.Layers.{Lent};
 ghost use Rattle.slices.specs.Layers.{answer_of, refused_pending, PendingAt, Ready, Opens, Begun};
 
-use answer::{BookAnswer, LexAnswer, Refusal};
+use answer::{Cut, Reason, Refusal};
 use book::Book;
 use record::TokenRecord;
 
@@ -93,12 +93,12 @@ fn begin_rules(table: &[u64], text: &[u8], room: usize) -> Pending
     ensures { (rs : List Rule) → Holds table.now rs → Opens rs text.now room result }
 {
     if Book::TEXT < text.len() {
-        return refuse(Refusal::TEXT_TOO_LONG, 0);
+        return refuse(Reason::TextTooLong, 0);
     }
     if room < text.len() {
         let needed = longest_match::count(table, text);
         if room < needed.tokens {
-            return refuse(Refusal::TOO_FEW_RECORDS, needed.tokens);
+            return refuse(Reason::TooFewRecords, needed.tokens);
         }
     }
     pending_at(table, text, 0, 0)
@@ -114,11 +114,11 @@ pub fn next(table: &[u64; Book::TABLE], text: &[u8], pending: Pending) -> Pendin
 }
 
 // What is answered when there is no token to store.
-pub fn answer(pending: Pending) -> LexAnswer
+pub fn answer(pending: Pending) -> Result<Cut, Refusal>
     ensures { result ≡ answer_of pending }
 {
     if pending.refused {
-        return LexAnswer::Refused(Refusal {
+        return Err(Refusal {
             number: pending.number,
             place: pending.place,
         });
@@ -142,7 +142,7 @@ pub fn begin(
     ensures { Begun book.now text.now (min tokens masks) table.new result }
 {
     match reader::load(book, table) {
-        BookAnswer::Accepted(_) => begin_rules(table, text, record::least(tokens, masks)),
-        BookAnswer::Refused(refusal) => refuse(refusal.number, refusal.place),
+        Ok(_) => begin_rules(table, text, record::least(tokens, masks)),
+        Err(refusal) => refuse(refusal.number, refusal.place),
     }
 }

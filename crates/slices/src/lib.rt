@@ -11,7 +11,7 @@ ghost use Rattle.record.specs.Masks.{mask_bytes};
 ghost use Rattle.lexer.specs.Masked.{masked_outcome};
 ghost use Rattle.printer.specs.Outcome.{print_outcome};
 
-use answer::{LexAnswer, PrintAnswer};
+use answer::{Cut, Refusal};
 use book::Book;
 use record::TokenRecord;
 
@@ -23,7 +23,7 @@ pub fn lex_tokens(
     text: &[u8],
     tokens: &mut [TokenRecord],
     masks: &mut [u32],
-) -> LexAnswer
+) -> Result<Cut, Refusal>
     ensures { (result
         ≡ (masked_outcome book.now text.now (encoded tokens.old) (mask_bytes masks.old)).answer)
         × (encoded tokens.new
@@ -45,7 +45,12 @@ pub fn lex_tokens(
 
 // Prints tokens whose bytes lie in `pool`, as `book_printer::print` does: the number of bytes, which stand at the start of `out`, or
 // the refusal of document 01. Every other byte of `out` stays as it was.
-pub fn print_tokens(book: &[u8], tokens: &[TokenRecord], pool: &[u8], out: &mut [u8]) -> PrintAnswer
+pub fn print_tokens(
+    book: &[u8],
+    tokens: &[TokenRecord],
+    pool: &[u8],
+    out: &mut [u8],
+) -> Result<usize, Refusal>
     ensures { (result ≡ (print_outcome book.now (encoded tokens.now) pool.now out.old).answer)
         × (out.new
         ≡ (print_outcome book.now (encoded tokens.now) pool.now out.old).out) }

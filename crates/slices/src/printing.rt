@@ -11,7 +11,7 @@ ghost use Rattle.token_list.specs.Faults.{fault_of};
 ghost use Rattle.slices.specs.Layers.{going, done, refused_stage, moved_on, checked, Reads, Steps, Stepped};
 ghost use Rattle.slices.specs.Layers.{begun, Begins, Finishes};
 
-use answer::{BookAnswer, PrintAnswer, Refusal};
+use answer::{Reason, Refusal};
 use book::Book;
 use record::TokenRecord;
 use token_list::faults::Fault;
@@ -96,7 +96,7 @@ fn move_on(stage: Stage, len: usize, count: usize) -> Stage
     }
     if stage.pass == Stage::CHECK {
         if Book::TEXT < at {
-            return refuse(Refusal::OUTPUT_TOO_LONG, 0);
+            return refuse(Reason::OutputTooLong, 0);
         }
         return go(Stage::JOIN, 0, 0, at);
     }
@@ -141,7 +141,7 @@ fn read_on(table: &[u64], scratch: &[u8], stage: Stage, len: usize, count: usize
 {
     let chosen = longest_match::choose(table, scratch, stage.at, stage.total);
     if chosen.len != len {
-        return refuse(Refusal::READ_ON, stage.index);
+        return refuse(Reason::ReadOn, stage.index);
     }
     move_on(stage, len, count)
 }
@@ -179,7 +179,7 @@ fn begin_count(count: usize) -> Stage
     ensures { result ≡ begun count }
 {
     if Book::TOKENS < count {
-        refuse(Refusal::TOO_MANY_TOKENS, 0)
+        refuse(Reason::TooManyTokens, 0)
     } else if count == 0 {
         end(0)
     } else {
@@ -193,18 +193,18 @@ pub fn begin(book: &[u8], table: &mut [u64; Book::TABLE], count: usize) -> Stage
     ensures { Begins book.now count table.new result }
 {
     match reader::load(book, table) {
-        BookAnswer::Accepted(_) => begin_count(count),
-        BookAnswer::Refused(refusal) => refuse(refusal.number, refusal.place),
+        Ok(_) => begin_count(count),
+        Err(refusal) => refuse(refusal.number, refusal.place),
     }
 }
 
 // What is answered when there is no token to be read: the joined bytes are written, or the call is refused.
-pub fn finish(scratch: &[u8; Book::TEXT], stage: Stage, out: &mut [u8]) -> PrintAnswer
+pub fn finish(scratch: &[u8; Book::TEXT], stage: Stage, out: &mut [u8]) -> Result<usize, Refusal>
     requires { stage.total ≤ length scratch.now }
     ensures { Finishes scratch.now stage out.old result out.new }
 {
     if stage.refused {
-        return PrintAnswer::Refused(Refusal {
+        return Err(Refusal {
             number: stage.number,
             place: stage.place,
         });

@@ -30,9 +30,8 @@ pub fn is_due(table: &[u64], mode: u32, last: bool, text: &[u8], start: usize, l
     if meaning_of(mode) == 1 {
         return true;
     }
-    let chosen = longest_match::choose(table, text, start, text.len());
-    if chosen.len != len {
-        return true;
+    match longest_match::choose(table, text, start, text.len()) {
+        Some(chosen) => chosen.len != len,
+        None => true,
     }
-    false
 }

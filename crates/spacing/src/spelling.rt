@@ -9,7 +9,6 @@ ghost use Rattle.output.specs.Layers.{Stands};
 ghost use Rattle.spacing.specs.Separators.{follows, put, spelled};
 ghost use Rattle.spacing.specs.Layers.{is_last, Spaceable};
 
-use output::Placed;
 use record::TokenRecord;
 
 // The token, with the separator behind it where one is due.
@@ -22,7 +21,7 @@ fn put_token(
     last: bool,
     scratch: &mut [u8],
     at: usize,
-) -> Placed
+) -> Option<usize>
     requires held { Held table.now }
     requires in_pool { InPool pool.now token }
     requires in_pool_2 { InPool pool.now separator }
@@ -34,15 +33,11 @@ fn put_token(
         ∷ put (follows rs mode (token_in pool.now token) us) (token_in pool.now separator) us))
         scratch.new }
 {
-    match output::put_token(pool, token, scratch, at) {
-        Placed::At(start) => {
-            if crate::is_due(table, mode, last, scratch, start, token.len as usize) {
-                return output::put_both(pool, token, separator, scratch, at);
-            }
-            Placed::At(start)
-        }
-        Placed::Full => Placed::Full,
+    let start = output::put_token(pool, token, scratch, at)?;
+    if crate::is_due(table, mode, last, scratch, start, token.len as usize) {
+        return output::put_both(pool, token, separator, scratch, at);
     }
+    Some(start)
 }
 
 // All the tokens of the list, to the end of the scratch.
@@ -53,22 +48,17 @@ pub fn put_list(
     records: &[u8],
     pool: &[u8],
     scratch: &mut [u8],
-) -> Placed
+) -> Option<usize>
     requires { Spaceable table.now separator records.now pool.now }
     ensures { (rs : List Rule) → Holds table.now rs
         → Stands result (spelled rs separator mode records.now pool.now) scratch.new }
 {
     let count = records.len() / 10;
     let mut at = scratch.len();
-    let mut k = count;
-    while 0 < k {
-        let last = k == count;
-        k -= 1;
+    for k in (0..count).rev() {
+        let last = k + 1 == count;
         let token = record::read_record(records, k);
-        match put_token(table, mode, pool, token, separator, last, scratch, at) {
-            Placed::At(start) => at = start,
-            Placed::Full => return Placed::Full,
-        }
+        at = put_token(table, mode, pool, token, separator, last, scratch, at)?;
     }
-    Placed::At(at)
+    Some(at)
 }

@@ -4,7 +4,7 @@
 
 ghost use Rattle.std.specs.Prelude.{◌≤◌};
 
-use answer::{LexAnswer, PrintAnswer, Refusal};
+use answer::{Cut, Refusal};
 use record::TokenRecord;
 use std::io;
 use std::io::Write;
@@ -185,7 +185,7 @@ fn print_to(
 // What `lex_tokens` answers, and the tokens as it leaves them.
 #[derive(Clone, Copy)]
 struct Filled {
-    answer: LexAnswer,
+    answer: Result<Cut, Refusal>,
     tokens: [TokenRecord; 4],
 }
 
@@ -201,7 +201,7 @@ fn print_from(
     count: usize,
     pool: &[u8],
     out: &mut [u8],
-) -> PrintAnswer
+) -> Result<usize, Refusal>
     requires { count ≤ 4 }
 {
     slices::print_tokens(book, &tokens[..count], pool, out)
@@ -229,28 +229,24 @@ fn put_text(rt: &HostRuntime, text: &[u8]) -> io::Result<()> {
     put(rt, b"\"")
 }
 
-fn put_lexed(rt: &HostRuntime, answer: LexAnswer) -> io::Result<()> {
+fn put_lexed(rt: &HostRuntime, answer: Result<Cut, Refusal>) -> io::Result<()> {
     match answer {
-        LexAnswer::Lexed { tokens, rest } => {
-            put_number(rt, b": tokens ", tokens as u64)?;
-            put_number(rt, b", rest at ", rest as u64)?;
+        Ok(cut) => {
+            let tokens = cut.tokens;
+            let rest = cut.rest;
+            print!(rt; ": tokens {tokens}, rest at {rest}")?;
         }
-        LexAnswer::Refused(refusal) => put_refusal(rt, refusal)?,
+        Err(refusal) => print!(rt; ": {refusal}")?,
     }
     put(rt, b"\n")
 }
 
-fn put_printed(rt: &HostRuntime, answer: PrintAnswer) -> io::Result<()> {
+fn put_printed(rt: &HostRuntime, answer: Result<usize, Refusal>) -> io::Result<()> {
     match answer {
-        PrintAnswer::Printed(bytes) => put_number(rt, b": bytes ", bytes as u64)?,
-        PrintAnswer::Refused(refusal) => put_refusal(rt, refusal)?,
+        Ok(bytes) => put_number(rt, b": bytes ", bytes as u64)?,
+        Err(refusal) => print!(rt; ": {refusal}")?,
     }
     put(rt, b"\n")
-}
-
-fn put_refusal(rt: &HostRuntime, refusal: Refusal) -> io::Result<()> {
-    put_number(rt, b": refused ", refusal.number as u64)?;
-    put_number(rt, b" ", refusal.place as u64)
 }
 
 // Tag, place and length of each.
@@ -271,16 +267,10 @@ fn put_token(rt: &HostRuntime, before: &[u8], token: TokenRecord) -> io::Result<
 
 fn put_masks(rt: &HostRuntime, masks: &[u32]) -> io::Result<()> {
     put(rt, b"  masks")?;
-    let mut k = 0;
-    while k < masks.len() {
-        put_mask(rt, masks[k])?;
-        k += 1;
+    for mask in masks {
+        print!(rt; " {mask}")?;
     }
     put(rt, b"\n")
-}
-
-fn put_mask(rt: &HostRuntime, mask: u32) -> io::Result<()> {
-    put_number(rt, b" ", mask as u64)
 }
 
 // The rest of a text of `whole` bytes.

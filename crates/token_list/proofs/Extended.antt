@@ -1,4 +1,5 @@
 -- Whether a token is read on into the bytes behind it, by what is chosen at its place, and what that makes of the list. Assumes nothing.
+use Rattle.answer.specs.declared.Reason.TheVariants.{ReadOn}
 use mathlib.Core.Path.{◌≡◌, refl, sym, ap, ◌∙◌}
 use mathlib.Core.Logic.{inl, inr}
 use mathlib.Core.Bool.{Bool, true, false}
@@ -50,8 +51,8 @@ module _ (rules : List Rule) (w after : List ℕ) (tag : ℕ) (empty : first_mat
 module _ (rules : List Rule) (t : Token) (ts : List Token) (k : ℕ) where
   pub extended_later : extends rules t.bytes (join ts) ≡ false → first_extended rules (t ∷ ts) k ≡ first_extended rules ts (suc k)
   unfolding first_extended refuse
-  extended_later e = ap (λ (b : Bool). refuse b 21 k (first_extended rules ts (suc k))) e
+  extended_later e = ap (λ (b : Bool). refuse b ReadOn k (first_extended rules ts (suc k))) e
 
-  pub extended_here : extends rules t.bytes (join ts) ≡ true → first_extended rules (t ∷ ts) k ≡ some (record { number = 21; place = k })
+  pub extended_here : extends rules t.bytes (join ts) ≡ true → first_extended rules (t ∷ ts) k ≡ some (record { reason = ReadOn; place = k })
   unfolding first_extended refuse
-  extended_here e = ap (λ (b : Bool). refuse b 21 k (first_extended rules ts (suc k))) e
+  extended_here e = ap (λ (b : Bool). refuse b ReadOn k (first_extended rules ts (suc k))) e

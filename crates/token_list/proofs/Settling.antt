@@ -1,4 +1,5 @@
 -- The loops of `measure` and `read_back`: what holds at their heads, how a turn keeps it, and how they end. Assumes nothing.
+use Rattle.answer.specs.declared.Reason.TheVariants.{ReadOn}
 use mathlib.Core.Path.{◌≡◌, sym, ap, ◌∙◌, subst}
 use mathlib.Core.Bool.{true}
 use mathlib.Core.Option.{none, some}
@@ -138,7 +139,7 @@ module _ {rules : List Rule} {records pool text : List ℕ} {at k : ℕ} (w : Re
         let l = simp (length-drop, length-append) at (ap length split) in
         omega (arith, w.within, long)
 
-    here_first : (Faultless rules records pool → first_extended rules (tokens_of records pool) 0 ≡ some (record { number = 21; place = k }))
+    here_first : (Faultless rules records pool → first_extended rules (tokens_of records pool) 0 ≡ some (record { reason = ReadOn; place = k }))
         → ReadsBack rules records pool k
     here_first f = record { settled = λ l. absurd (omega arith); first = λ _. f }
 
@@ -185,7 +186,7 @@ module _ {rules : List Rule} {records pool text : List ℕ} {at k : ℕ} (w : Re
         matched : first_match rules (bytes_in pool r) ≡ some r.tag
         matched = alone_first rules r.tag (bytes_in pool r) token_fine.alone
 
-        reading_on : (len ≡ r.len → ⊥) → first_extended rules (tokens_of records pool) 0 ≡ some (record { number = 21; place = k })
+        reading_on : (len ≡ r.len → ⊥) → first_extended rules (tokens_of records pool) 0 ≡ some (record { reason = ReadOn; place = k })
         unfolding tokens_in
         reading_on ne =
             w.first ∙ rw front_is

@@ -1,4 +1,6 @@
 -- What a printer asks of one token.
+use Rattle.answer.specs.declared.Reason.TheVariants.{PastThePool, UnknownTag, NotAlone}
+use Rattle.answer.specs.declared.Reason.{Reason}
 use Rattle.std.specs.Prelude.{Bool, false, not, List, [], ◌∷◌, ℕ, ◌+◌, ltb, eqb, length}
 use Rattle.std.proofs.Math.Option.{Option, none, some}
 use Rattle.automaton.specs.Choice.{if}
@@ -15,9 +17,9 @@ alone_in (r ∷ rs) tag w = if (eqb r.tag tag) (matches r w) (if (matches r w) f
 
 -- The number that refuses a token, if one does: 17 where it ends behind the pool, 18 where no rule has its tag, 19 where it is not cut as
 -- itself.
-unfoldable pub fault_of : List Rule → List ℕ → TokenRecord → Option ℕ
+unfoldable pub fault_of : List Rule → List ℕ → TokenRecord → Option Reason
 fault_of rules pool r =
-    if (ltb (length pool) (r.place + r.len)) (some 17)
-    (if (not (tagged r.tag rules)) (some 18)
-    (if (not (alone_in rules r.tag (bytes_in pool r))) (some 19)
+    if (ltb (length pool) (r.place + r.len)) (some PastThePool)
+    (if (not (tagged r.tag rules)) (some UnknownTag)
+    (if (not (alone_in rules r.tag (bytes_in pool r))) (some NotAlone)
     none))

@@ -1,5 +1,7 @@
 -- What the layers of the code ask and answer between themselves. Nobody needs to believe it: the operations' contracts do not rest on it.
-use Rattle.std.specs.Prelude.{◌≡◌, List, ◌++◌, ℕ, ◌≤◌, ◌<◌, length, drop}
+use Rattle.answer.specs.declared.Reason.{Reason}
+use Rattle.answer.specs.declared.Reason.TheVariants.{ReadOn}
+use Rattle.std.specs.Prelude.{Result, Ok, Err, Option as Maybe, Some, None, ◌≡◌, List, ◌++◌, ℕ, ◌≤◌, ◌<◌, length, drop}
 use Rattle.std.proofs.Math.Option.{Option, none, some}
 use Rattle.answer.specs.declared.Refusal.{Refusal}
 use Rattle.automaton.specs.Choice.{All}
@@ -10,22 +12,16 @@ use Rattle.record.specs.Records.{record_count}
 use Rattle.record.specs.Tokens.{records_of, tokens_of, InPool}
 use Rattle.token_list.specs.Faults.{fault_of}
 use Rattle.token_list.specs.Checks.{first_fault, first_extended}
-use Rattle.token_list.specs.declared.Checked.{Checked}
-use Rattle.token_list.specs.declared.Checked.TheVariants as checked
-use Rattle.token_list.specs.declared.faults.Fault.{Fault}
-use Rattle.token_list.specs.declared.faults.Fault.TheVariants as fault
-use Rattle.token_list.specs.declared.readback.Extent.{Extent}
-use Rattle.token_list.specs.declared.readback.Extent.TheVariants as extent
 
 -- the first refusal, if there is one
-abbrev pub checked_of : Option Refusal → Checked
-checked_of none = checked.Passed
-checked_of (some f) = checked.Refused f
+abbrev pub checked_of : Option Refusal → Result Unit Refusal
+checked_of none = Ok tt
+checked_of (some f) = Err f
 
--- the number that refuses a token, if one does
-abbrev pub fault_for : Option ℕ → Fault
-fault_for none = fault.Nothing
-fault_for (some number) = fault.By number
+-- the reason that refuses a token, if one does
+abbrev pub fault_for : Option Reason → Maybe Reason
+fault_for none = None
+fault_for (some reason) = Some reason
 
 -- ---- joining
 
@@ -46,9 +42,9 @@ pub record Spanned (records pool : List ℕ) (n : ℕ) : Type 0 where
   pub bytes : n ≡ length (join (tokens_of records pool))
   pub short : n ≤ max_text
 
-pub record Spans (records pool : List ℕ) (e : Extent) : Type 0 where
-  pub fits : (n : ℕ) → e ≡ extent.Bytes n → Spanned records pool n
-  pub beyond : e ≡ extent.Beyond → All (InPool pool) (records_of records) → max_text < length (join (tokens_of records pool))
+pub record Spans (records pool : List ℕ) (e : Maybe ℕ) : Type 0 where
+  pub fits : (n : ℕ) → e ≡ Some n → Spanned records pool n
+  pub beyond : e ≡ None → All (InPool pool) (records_of records) → max_text < length (join (tokens_of records pool))
 
 -- ---- reading back
 
@@ -74,4 +70,4 @@ pub record Settled (rules : List Rule) (records pool : List ℕ) : Type 0 where
 pub record ReadsBack (rules : List Rule) (records pool : List ℕ) (k : ℕ) : Type 0 where
   pub settled : record_count records ≤ k → Settled rules records pool
   pub first : k < record_count records → Faultless rules records pool
-      → first_extended rules (tokens_of records pool) 0 ≡ some (record { number = 21; place = k })
+      → first_extended rules (tokens_of records pool) 0 ≡ some (record { reason = ReadOn; place = k })

@@ -14,40 +14,21 @@ ghost use Rattle.token_list.specs.Faults.{fault_of};
 ghost use Rattle.token_list.specs.Checks.{first_fault};
 ghost use Rattle.token_list.specs.Layers.{checked_of, Fitting, Joined};
 
-use crate::faults::Fault;
 use answer::Refusal;
 
-// What checks come to.
-#[derive(Clone, Copy)]
-pub enum Checked {
-    Passed,
-    Refused(Refusal),
-}
-
-impl Checked {
-    pub fn refused(number: u8, place: usize) -> Checked
-        ensures { result ≡ Checked.Refused (record { number = number; place = place }) }
-    {
-        Checked::Refused(Refusal { number, place })
-    }
-}
-
 // The first token that is at fault.
-pub fn check_tokens(table: &[u64], records: &[u8], pool: &[u8]) -> Checked
+pub fn check_tokens(table: &[u64], records: &[u8], pool: &[u8]) -> Result<(), Refusal>
     requires { Held table.now }
     ensures { (rs : List Rule) → Holds table.now rs
         → result ≡ checked_of (first_fault (fault_of rs pool.now) (records_of records.now) 0) }
 {
-    let count = records.len() / 10;
-    let mut k = 0;
-    while k < count {
+    for k in 0..records.len() / 10 {
         let token = record::read_record(records, k);
-        match faults::token_fault(table, pool, token) {
-            Fault::By(number) => return Checked::refused(number, k),
-            Fault::Nothing => k += 1,
+        if let Some(reason) = faults::token_fault(table, pool, token) {
+            return Err(reason.at(k));
         }
     }
-    Checked::Passed
+    Ok(())
 }
 
 // Puts the bytes of the tokens one behind the other, from the start of `out`.
@@ -55,14 +36,11 @@ pub fn join_tokens(records: &[u8], pool: &[u8], out: &mut [u8])
     requires { Fitting records.now pool.now out.old }
     ensures { Joined (join (tokens_of records.now pool.now)) out.old out.new }
 {
-    let count = records.len() / 10;
     let mut at = 0;
-    let mut k = 0;
-    while k < count {
+    for k in 0..records.len() / 10 {
         let token = record::read_record(records, k);
         let len = token.len as usize;
         output::copy(pool, token.place as usize, len, out, at);
         at += len;
-        k += 1;
     }
 }

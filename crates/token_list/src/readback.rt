@@ -6,32 +6,23 @@ ghost use Rattle.token_list.specs.Layers.{Spans, Spread, Spreads, ReadsBack};
 
 use book::Book;
 
-// How many bytes the tokens have; or that one lies outside the pool, or that they are too many to be written.
-#[derive(Clone, Copy)]
-pub enum Extent {
-    Bytes(usize),
-    Beyond,
-}
-
-pub fn measure(records: &[u8], pool: &[u8]) -> Extent
+// How many bytes the tokens have; None where one lies outside the pool, or they are too many to be written.
+pub fn measure(records: &[u8], pool: &[u8]) -> Option<usize>
     ensures { Spans records.now pool.now result }
 {
-    let count = records.len() / 10;
     let mut total = 0;
-    let mut k = 0;
-    while k < count {
+    for k in 0..records.len() / 10 {
         let token = record::read_record(records, k);
         let len = token.len as usize;
         if pool.len() < token.place as usize + len {
-            return Extent::Beyond;
+            return None;
         }
         total += len;
         if Book::TEXT < total {
-            return Extent::Beyond;
+            return None;
         }
-        k += 1;
     }
-    Extent::Bytes(total)
+    Some(total)
 }
 
 // The number of the first token that is not what is chosen at its place of the tokens' bytes joined, the first `total` bytes of
@@ -46,23 +37,17 @@ pub fn read_back(table: &[u64], records: &[u8], text: &[u8], total: usize) -> us
     let count = records.len() / 10;
     let mut lengths = [0usize; automaton::RULES];
     let mut at = 0;
-    let mut k = 0;
-    while k < count {
+    for k in 0..count {
         let token = record::read_record(records, k);
         let len = token.len as usize;
         let rule = automaton::find_tag(table, token.tag as u64);
-        let chosen = longest_match::choose_with(table, text, at, total, &mut lengths);
-        if chosen.len == 0 {
+        let Some(chosen) = longest_match::choose_with(table, text, at, total, &mut lengths) else {
             return k;
-        }
-        if chosen.len != len {
-            return k;
-        }
-        if chosen.rule != rule {
+        };
+        if chosen.len != len || rule != Some(chosen.rule) {
             return k;
         }
         at += len;
-        k += 1;
     }
-    k
+    count
 }

@@ -1,4 +1,8 @@
 -- How the answers of the code come to the outcome of document 02. Assumes nothing.
+use Rattle.answer.specs.declared.Turn.{Turn}
+use Rattle.std.specs.Prelude.{Result, Ok, Err}
+use Rattle.answer.specs.declared.Reason.TheVariants.{BookTooLong, PastTheText, TextTooLong, TooFewRecords}
+use Rattle.answer.specs.Answers.{turned}
 use mathlib.Core.Path.{◌≡◌, refl, ◌∙◌, subst}
 use mathlib.Core.Bool.{Bool, true, false}
 use mathlib.Core.List.{List}
@@ -7,8 +11,6 @@ use native.Mathlib.Omega.{arith}
 use lib.ListN.{length}
 use borrow.Author.Tests.{lt-ltb, le-ltb}
 use Rattle.answer.specs.declared.Refusal.{Refusal}
-use Rattle.answer.specs.declared.BookAnswer.{BookAnswer}
-use Rattle.answer.specs.declared.TurnAnswer.{TurnAnswer}
 use Rattle.automaton.specs.Rule.{Rule}
 use Rattle.automaton.specs.Layers.{Holds}
 use Rattle.book.specs.Limits.{max_bytes, max_text}
@@ -17,27 +19,25 @@ use Rattle.reader.proofs.Loading.{read_too_long}
 use Rattle.reader.proofs.Loaded.{loaded_rules, loaded_refusal}
 use Rattle.turns.specs.Outcome.{TurnOutcome, room_in, turn_rules, turn_outcome}
 use Rattle.turns.specs.Layers.{turn_at, Room, Turned, Stores, Lacks, TurnAnswered}
-use Rattle.answer.specs.declared.BookAnswer.TheVariants as book
-use Rattle.answer.specs.declared.TurnAnswer.TheVariants as turned
 
 -- ---- by the rules of an accepted book
 
 module _ (rules : List Rule) (text : List ℕ) (place budget : ℕ) (records masks : List ℕ) where
-  abbrev outcome : TurnAnswer → List ℕ → List ℕ → Type 0
+  abbrev outcome : Result Turn Refusal → List ℕ → List ℕ → Type 0
   outcome = TurnAnswered (turn_rules rules text place budget records masks)
 
-  pub answered_long : max_text < length text → outcome (turned.Refused (record { number = 14; place = 0 })) records masks
+  pub answered_long : max_text < length text → outcome (Err (record { reason = TextTooLong; place = 0 })) records masks
   unfolding turn_rules
   answered_long l = rw (lt-ltb _ _ l) (record { answer = refl; records = refl; masks = refl })
 
   module _ (l : length text ≤ max_text) where
-    pub answered_past : length text < place → outcome (turned.Refused (record { number = 27; place = 0 })) records masks
+    pub answered_past : length text < place → outcome (Err (record { reason = PastTheText; place = 0 })) records masks
     unfolding turn_rules
     answered_past p = rw (le-ltb _ _ l, lt-ltb _ _ p) (record { answer = refl; records = refl; masks = refl })
 
     module _ (p : place ≤ length text) where
       pub answered_few : {n : ℕ} → Lacks rules text place budget (room_in records masks) n → 0 < n
-          → outcome (turned.Refused (record { number = 15; place = n })) records masks
+          → outcome (Err (record { reason = TooFewRecords; place = n })) records masks
       unfolding turn_rules
       answered_few {n} few some =
           rw (le-ltb _ _ l, le-ltb _ _ p, ← (few.number some), lt-ltb _ _ (few.fewer some))
@@ -47,7 +47,7 @@ module _ (rules : List Rule) (text : List ℕ) (place budget : ℕ) (records mas
           → length (turn_at rules text place budget).tokens ≤ room_in records masks
           → Turned rules text place budget tokens next examined finished
           → Stores true rules text place budget records records-exit masks masks-exit
-          → outcome (turned.Turned tokens next examined finished) records-exit masks-exit
+          → outcome (turned tokens next examined finished) records-exit masks-exit
       unfolding turn_rules
       answered_turned room t s =
           rw (le-ltb _ _ l, le-ltb _ _ p, le-ltb _ _ room)
@@ -77,8 +77,8 @@ stores_nothing s = (s.left refl, s.masks_left refl)
 
 -- ---- by the bytes of a book
 
-module _ {bytes tb : List ℕ} {b : BookAnswer} {n : ℕ} (l : Loaded bytes b tb) (a : b ≡ book.Accepted n) where
-  pub answered_book : (text : List ℕ) (place budget : ℕ) (records masks records-exit masks-exit : List ℕ) (r : TurnAnswer)
+module _ {bytes tb : List ℕ} {b : Result ℕ Refusal} {n : ℕ} (l : Loaded bytes b tb) (a : b ≡ Ok n) where
+  pub answered_book : (text : List ℕ) (place budget : ℕ) (records masks records-exit masks-exit : List ℕ) (r : Result Turn Refusal)
       → ((rules : List Rule) → Holds tb rules → TurnAnswered (turn_rules rules text place budget records masks) r records-exit masks-exit)
       → TurnAnswered (turn_outcome bytes text place budget records masks) r records-exit masks-exit
   unfolding turn_outcome
@@ -86,16 +86,16 @@ module _ {bytes tb : List ℕ} {b : BookAnswer} {n : ℕ} (l : Loaded bytes b tb
       let read = loaded_rules l a in
       rw read.1.0 (h read.0 read.1.1)
 
-module _ {bytes tb : List ℕ} {b : BookAnswer} {f : Refusal} (l : Loaded bytes b tb) (a : b ≡ book.Refused f) where
+module _ {bytes tb : List ℕ} {b : Result ℕ Refusal} {f : Refusal} (l : Loaded bytes b tb) (a : b ≡ Err f) where
   pub answered_refused : (text : List ℕ) (place budget : ℕ) (records masks : List ℕ)
-      → TurnAnswered (turn_outcome bytes text place budget records masks) (turned.Refused f) records masks
+      → TurnAnswered (turn_outcome bytes text place budget records masks) (Err f) records masks
   unfolding turn_outcome
   answered_refused text place budget records masks =
       rw (loaded_refusal l a) (record { answer = refl; records = refl; masks = refl })
 
 -- a book that is too long is refused before it is read
 pub answered_too_long : (bytes text : List ℕ) (place budget : ℕ) (records masks : List ℕ) → max_bytes < length bytes
-    → TurnAnswered (turn_outcome bytes text place budget records masks) (turned.Refused (record { number = 1; place = 0 })) records masks
+    → TurnAnswered (turn_outcome bytes text place budget records masks) (Err (record { reason = BookTooLong; place = 0 })) records masks
 unfolding turn_outcome
 answered_too_long bytes text place budget records masks l =
     rw (read_too_long false bytes l) (record { answer = refl; records = refl; masks = refl })
@@ -103,7 +103,7 @@ answered_too_long bytes text place budget records masks l =
 -- ---- what is lent stands as it did
 
 module _ {records masks records-now masks-now : List ℕ} (e : records-now ≡ records) (f : masks-now ≡ masks) where
-  pub answered_same : {o : TurnOutcome} {r : TurnAnswer} → TurnAnswered o r records masks → TurnAnswered o r records-now masks-now
+  pub answered_same : {o : TurnOutcome} {r : Result Turn Refusal} → TurnAnswered o r records masks → TurnAnswered o r records-now masks-now
   answered_same a = record { answer = a.answer; records = e ∙ a.records; masks = f ∙ a.masks }
 
   pub room_same : (rules : List Rule) (text : List ℕ) (place budget : ℕ)

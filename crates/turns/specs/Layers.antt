@@ -1,6 +1,8 @@
 -- What the layers of the code ask and answer between themselves. Nobody needs to believe it: the operations' contracts do not rest on it.
+use Rattle.answer.specs.declared.Refusal.{Refusal}
+use Rattle.answer.specs.declared.Turn.{Turn}
+use Rattle.std.specs.Prelude.{Result}
 use Rattle.std.specs.Prelude.{◌≡◌, Bool, true, false, List, [], ◌++◌, ℕ, ◌+◌, ◌-◌, ◌*◌, ◌<◌, ◌≤◌, length, take, drop}
-use Rattle.answer.specs.declared.TurnAnswer.{TurnAnswer}
 use Rattle.big_endian.specs.Numbers.{four}
 use Rattle.automaton.specs.Rule.{Rule}
 use Rattle.automaton.specs.Layers.{Holds, Held}
@@ -81,7 +83,7 @@ pub record Lacks (rules : List Rule) (text : List ℕ) (place budget room n : �
   pub number : 0 < n → n ≡ length (turn_at rules text place budget).tokens
 
 -- an answer, and what the records and the masks hold afterwards, are those of the outcome
-pub record TurnAnswered (o : TurnOutcome) (r : TurnAnswer) (records-exit masks-exit : List ℕ) : Type 0 where
+pub record TurnAnswered (o : TurnOutcome) (r : Result Turn Refusal) (records-exit masks-exit : List ℕ) : Type 0 where
   pub answer : r ≡ o.answer
   pub records : records-exit ≡ o.records
   pub masks : masks-exit ≡ o.masks

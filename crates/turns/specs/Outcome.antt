@@ -1,6 +1,11 @@
 -- Cutting in turns, as a function from what a call is lent to what it answers and leaves behind (document 02, wish 1).
+use Rattle.answer.specs.declared.Reason.{Reason}
+use Rattle.answer.specs.declared.Refusal.{Refusal}
+use Rattle.answer.specs.declared.Turn.{Turn}
+use Rattle.std.specs.Prelude.{Result, Err}
+use Rattle.answer.specs.declared.Reason.TheVariants.{PastTheText, TextTooLong, TooFewRecords}
+use Rattle.answer.specs.Answers.{turned}
 use Rattle.std.specs.Prelude.{List, ◌++◌, ℕ, ◌-◌, ◌*◌, min, ltb, length, drop}
-use Rattle.answer.specs.declared.TurnAnswer.{TurnAnswer}
 use Rattle.automaton.specs.Choice.{if}
 use Rattle.automaton.specs.Rule.{Rule}
 use Rattle.book.specs.Limits.{max_text}
@@ -9,24 +14,23 @@ use Rattle.longest_match.specs.Masks.{masks_of}
 use Rattle.record.specs.Records.{records_at, record_count}
 use Rattle.record.specs.Masks.{mask_bytes, mask_count}
 use Rattle.turns.specs.Turn.{Turn, turn}
-use Rattle.answer.specs.declared.TurnAnswer.TheVariants as answer
 
 -- the answer, and what the lent records and masks hold afterwards
 pub record TurnOutcome : Type 0 where
-  pub answer : TurnAnswer
+  pub answer : Result Turn Refusal
   pub records : List ℕ
   pub masks : List ℕ
 
 -- refused by this number at this place, with the records and the masks as they were
-abbrev pub turn_refused : ℕ → ℕ → List ℕ → List ℕ → TurnOutcome
-turn_refused number place records masks =
-    record { answer = answer.Refused (record { number = number; place = place }); records = records; masks = masks }
+abbrev pub turn_refused : Reason → ℕ → List ℕ → List ℕ → TurnOutcome
+turn_refused reason place records masks =
+    record { answer = Err (record { reason = reason; place = place }); records = records; masks = masks }
 
 -- Accepted: how many tokens the turn has, the place behind them, what it examined and how it ended. Its records and its masks stand from
 -- the start of what is lent, with places from the start of the text, and every byte past them is as it was.
 abbrev pub turn_accepted : List Rule → Turn → List ℕ → ℕ → List ℕ → List ℕ → TurnOutcome
 turn_accepted rules t text place records masks = record {
-  answer = answer.Turned (length t.tokens) (length text - length t.rest) t.examined t.finished;
+  answer = turned (length t.tokens) (length text - length t.rest) t.examined t.finished;
   records = records_at place t.tokens ++ drop (10 * length t.tokens) records;
   masks = mask_bytes (masks_of rules t.tokens) ++ drop (4 * length t.tokens) masks;
 }
@@ -39,15 +43,15 @@ room_in records masks = min (record_count records) (mask_count masks)
 -- fewer than the tokens of the turn, at their number.
 unfoldable pub turn_rules : List Rule → List ℕ → ℕ → ℕ → List ℕ → List ℕ → TurnOutcome
 turn_rules rules text place budget records masks =
-    if (ltb max_text (length text)) (turn_refused 14 0 records masks)
-    (if (ltb (length text) place) (turn_refused 27 0 records masks)
+    if (ltb max_text (length text)) (turn_refused TextTooLong 0 records masks)
+    (if (ltb (length text) place) (turn_refused PastTheText 0 records masks)
     (if (ltb (room_in records masks) (length (turn rules (drop place text) budget).tokens))
-    (turn_refused 15 (length (turn rules (drop place text) budget).tokens) records masks)
+    (turn_refused TooFewRecords (length (turn rules (drop place text) budget).tokens) records masks)
     (turn_accepted rules (turn rules (drop place text) budget) text place records masks)))
 
 -- the refusals of the book come first
 abbrev pub turn_reading : Reading → List ℕ → ℕ → ℕ → List ℕ → List ℕ → TurnOutcome
-turn_reading (refused number at) text place budget records masks = turn_refused number at records masks
+turn_reading (refused reason at) text place budget records masks = turn_refused reason at records masks
 turn_reading (accepted rules) text place budget records masks = turn_rules rules text place budget records masks
 
 -- by the bytes of a book

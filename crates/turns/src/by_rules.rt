@@ -5,7 +5,7 @@ ghost use Rattle.automaton.specs.Layers.{Holds, Held};
 ghost use Rattle.turns.specs.Outcome.{room_in, turn_rules};
 ghost use Rattle.turns.specs.Layers.{Lacks, TurnAnswered};
 
-use answer::{Refusal, TurnAnswer};
+use answer::{Reason, Refusal, Turn};
 use book::Book;
 
 pub fn turn_rules(
@@ -15,32 +15,25 @@ pub fn turn_rules(
     budget: usize,
     records: &mut [u8],
     masks: &mut [u8],
-) -> TurnAnswer
+) -> Result<Turn, Refusal>
     requires { Held table.now }
     ensures { (rs : List Rule) → Holds table.now rs
         → TurnAnswered (turn_rules rs text.now place budget records.old masks.old) result
         records.new masks.new }
 {
     if Book::TEXT < text.len() {
-        return TurnAnswer::refused(Refusal::TEXT_TOO_LONG, 0);
+        return Err(Reason::TextTooLong.at(0));
     }
     if text.len() < place {
-        return TurnAnswer::refused(Refusal::PAST_THE_TEXT, 0);
+        return Err(Reason::PastTheText.at(0));
     }
-    let lacking = lacking(table, text, place, budget, records, masks);
-    if lacking != 0 {
-        return TurnAnswer::refused(Refusal::TOO_FEW_RECORDS, lacking);
+    if let Some(needed) = lacking(table, text, place, budget, records, masks) {
+        return Err(Reason::TooFewRecords.at(needed));
     }
-    let turn = crate::running::run(true, table, text, place, budget, records, masks);
-    TurnAnswer::Turned {
-        tokens: turn.tokens,
-        next: turn.next,
-        examined: turn.examined,
-        finished: turn.finished,
-    }
+    Ok(crate::running::run(true, table, text, place, budget, records, masks))
 }
 
-// How many tokens the turn has, where there is room for fewer; else 0. Every token has a byte and pays for its bytes, so that as many
+// How many tokens the turn has, where there is room for fewer. Every token has a byte and pays for its bytes, so that as many
 // records and masks as there are bytes ahead, or as the budget has, are surely enough; else the tokens are counted, before the first record
 // is written.
 fn lacking(
@@ -50,7 +43,7 @@ fn lacking(
     budget: usize,
     records: &mut [u8],
     masks: &mut [u8],
-) -> usize
+) -> Option<usize>
     requires held { Held table.now }
     requires place_in_bounds { place ≤ length text.now }
     ensures lacks { (rs : List Rule) → Holds table.now rs
@@ -58,12 +51,12 @@ fn lacking(
     ensures records_unchanged { (records.new ≡ records.old) × (masks.new ≡ masks.old) }
 {
     let room = record::room(records, masks);
-    if record::least(text.len() - place, budget) <= room {
-        return 0;
+    if (text.len() - place).min(budget) <= room {
+        return None;
     }
     let turn = crate::running::run(false, table, text, place, budget, records, masks);
     if turn.tokens <= room {
-        return 0;
+        return None;
     }
-    turn.tokens
+    Some(turn.tokens)
 }

@@ -6,14 +6,8 @@ ghost use Rattle.automaton.specs.Layers.{Holds, Held};
 ghost use Rattle.turns.specs.Reach.{all_fail};
 ghost use Rattle.turns.specs.Layers.{Stirs, Next, Keeps, KeepRoom, RunRoom, Turned, Stores};
 
-// What a turn comes to.
-#[derive(Clone, Copy)]
-pub struct Turn {
-    pub tokens: usize,
-    pub next: usize,
-    pub examined: usize,
-    pub finished: bool,
-}
+use answer::Turn;
+use longest_match::Choice;
 
 // Takes a turn from `place` on. A record and a mask of each token are stored where it is `writing`; else it is only told what it comes to.
 pub fn run(
@@ -45,29 +39,22 @@ pub fn run(
         };
     }
     while at < text.len() {
-        let n = next_token(table, text, at, left, &mut lengths);
-        if !n.fits {
+        let Some(n) = next_token(table, text, at, left, &mut lengths) else {
             return Turn {
                 tokens,
                 next: at,
                 examined: budget - left,
                 finished: false,
             };
-        }
+        };
         left -= n.paid;
-        if n.len == 0 {
-            return Turn {
-                tokens,
-                next: at,
-                examined: budget - left,
-                finished: true,
-            };
-        }
-        let tag = automaton::tag_of(table, n.rule);
-        let len = n.len;
-        keep(writing, records, masks, tokens, tag, at, len, n.mask);
+        let Some(c) = n.chosen else {
+            break;
+        };
+        let tag = automaton::tag_of(table, c.rule);
+        keep(writing, records, masks, tokens, tag, at, c.len, c.mask);
         tokens += 1;
-        at += len;
+        at += c.len;
     }
     Turn {
         tokens,
@@ -82,25 +69,19 @@ fn is_idle(table: &[u64]) -> bool
     requires { Held table.now }
     ensures { (rs : List Rule) → Holds table.now rs → result ≡ all_fail rs [] }
 {
-    let rules = automaton::count_of(table);
-    let mut k = 0;
-    while k < rules {
+    for k in 0..automaton::count_of(table) {
         if !automaton::starts_in_error(table, k) {
             return false;
         }
-        k += 1;
     }
     true
 }
 
-// What is next at a place: whether its reach fits what is left; if so, the reach, which is paid, and what is chosen.
+// What is next at a place where its reach fits what is left: the reach, which is paid, and what is chosen.
 #[derive(Clone, Copy)]
 struct NextToken {
-    rule: usize,
-    len: usize,
-    mask: u32,
+    chosen: Option<Choice>,
     paid: usize,
-    fits: bool,
 }
 
 fn next_token(
@@ -109,7 +90,7 @@ fn next_token(
     at: usize,
     left: usize,
     lengths: &mut [usize; automaton::RULES],
-) -> NextToken
+) -> Option<NextToken>
     requires held { Held table.now }
     requires stirs { Stirs table.now }
     requires at_in_bounds { at < length text.now }
@@ -117,36 +98,18 @@ fn next_token(
         → Next rs (drop at text.now) left result.rule result.len result.mask result.paid result.fits }
 {
     let ahead = text.len() - at;
-    let window = record::least(ahead, left);
+    let window = ahead.min(left);
     if window == 0 {
-        return too_large();
+        return None;
     }
     let went = longest_match::walk_with(table, text, at, at + window, lengths);
-    if window < went {
-        if window < ahead {
-            return too_large();
-        }
+    if window < went && window < ahead {
+        return None;
     }
-    let c = longest_match::choose_walked(table, lengths);
-    NextToken {
-        rule: c.rule,
-        len: c.len,
-        mask: c.mask,
-        paid: record::least(went, window),
-        fits: true,
-    }
-}
-
-fn too_large() -> NextToken
-    ensures { result.fits ≡ false }
-{
-    NextToken {
-        rule: 0,
-        len: 0,
-        mask: 0,
-        paid: 0,
-        fits: false,
-    }
+    Some(NextToken {
+        chosen: longest_match::choose_walked(table, lengths),
+        paid: went.min(window),
+    })
 }
 
 // Stores record and mask number `k`, where it is `writing`.

@@ -164,9 +164,7 @@ pub fn sweep(
         → (b : ℕ) → b < 256 → get_or set.new b false ≡ used m b }
 {
     let mut end = automaton::EDGE_START;
-    let mut k = n;
-    while 0 < k {
-        k -= 1;
+    for k in (0..n).rev() {
         end = sweep_state(table, spots[k], good, stamp, queue, waiting, rows, end, set);
     }
 }

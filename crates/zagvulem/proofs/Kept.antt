@@ -1,4 +1,9 @@
 -- The answer of each call is had back from its word, which it fits. Assumes nothing.
+use Rattle.answer.specs.declared.Cut.{Cut}
+use Rattle.answer.specs.declared.RuleName.{RuleName}
+use Rattle.answer.specs.declared.Turn.{Turn}
+use Rattle.std.specs.Prelude.{Result, Ok, Err}
+use Rattle.answer.specs.Answers.{lexed, named, turned}
 use mathlib.Core.Path.{◌≡◌, refl}
 use mathlib.Core.Bool.{true, false}
 use mathlib.Core.List.{List}
@@ -7,11 +12,6 @@ use native.Mathlib.Nat.{max-le}
 use native.Mathlib.Omega.{arith}
 use borrow.Author.Tests.{ne_eqb}
 use Rattle.answer.specs.declared.Refusal.{Refusal}
-use Rattle.answer.specs.declared.BookAnswer.{BookAnswer}
-use Rattle.answer.specs.declared.RuleAnswer.{RuleAnswer}
-use Rattle.answer.specs.declared.LexAnswer.{LexAnswer}
-use Rattle.answer.specs.declared.TurnAnswer.{TurnAnswer}
-use Rattle.answer.specs.declared.PrintAnswer.{PrintAnswer}
 use Rattle.automaton.specs.Choice.{among}
 use Rattle.automaton.proofs.Tests.{clash}
 use Rattle.book.specs.Limits.{max_bytes, max_text}
@@ -32,11 +32,6 @@ use Rattle.zagvulem.specs.Kept.{TurnWordKept, PrintWordKept, SeparatedWordKept}
 use Rattle.zagvulem.proofs.Refused.{BookWithin, RuleWithin, TagAndKind, LexWithin, TurnWithin, PrintWithin, farthest}
 use Rattle.zagvulem.proofs.Refused.{RuleMade, compile_within, book_within, strict_within, rewrite_within, rule-within, masked_within}
 use Rattle.zagvulem.proofs.Refused.{turn-within, print_within, separated-within}
-use Rattle.answer.specs.declared.BookAnswer.TheVariants as books
-use Rattle.answer.specs.declared.RuleAnswer.TheVariants as ruled
-use Rattle.answer.specs.declared.LexAnswer.TheVariants as lexes
-use Rattle.answer.specs.declared.TurnAnswer.TheVariants as turned
-use Rattle.answer.specs.declared.PrintAnswer.TheVariants as prints
 
 -- ---- an answer of a call fits its word
 
@@ -48,30 +43,30 @@ refusal-fits {numbers} {most} {f} e l r =
       place-within = omega (arith, r.place-within);
     }
 
-book_fits : (numbers : List ℕ) → among 0 numbers ≡ false → (a : BookAnswer) → BookWithin numbers a → BookFits a
-book_fits numbers e (books.Accepted n) w = omega arith
-book_fits numbers e (books.Refused f) w = refusal-fits e (omega arith) w
+book_fits : (numbers : List ℕ) → among 0 numbers ≡ false → (a : Result ℕ Refusal) → BookWithin numbers a → BookFits a
+book_fits numbers e (Ok n) w = omega arith
+book_fits numbers e (Err f) w = refusal-fits e (omega arith) w
 
-rule_fits : (a : RuleAnswer) → RuleWithin TagAndKind a → RuleFits a
-rule_fits (ruled.Rule tag kind) (l, m) = (omega arith, omega arith)
-rule_fits (ruled.Refused f) w = refusal-fits refl (omega arith) w
+rule_fits : (a : Result RuleName Refusal) → RuleWithin TagAndKind a → RuleFits a
+rule_fits (named tag kind) (l, m) = (omega arith, omega arith)
+rule_fits (Err f) w = refusal-fits refl (omega arith) w
 
-lex-fits : (a : LexAnswer) → LexWithin a → LexFits a
-lex-fits (lexes.Lexed tokens rest) (l, m) = (omega arith, omega arith)
-lex-fits (lexes.Refused f) w = refusal-fits refl (omega arith) w
+lex-fits : (a : Result Cut Refusal) → LexWithin a → LexFits a
+lex-fits (lexed tokens rest) (l, m) = (omega arith, omega arith)
+lex-fits (Err f) w = refusal-fits refl (omega arith) w
 
-turn-fits : (a : TurnAnswer) → TurnWithin a → TurnFits a
-turn-fits (turned.Turned tokens place bytes finished) (l, m) = omega arith
-turn-fits (turned.Refused f) w = refusal-fits refl (omega arith) w
+turn-fits : (a : Result Turn Refusal) → TurnWithin a → TurnFits a
+turn-fits (turned tokens place bytes finished) (l, m) = omega arith
+turn-fits (Err f) w = refusal-fits refl (omega arith) w
 
-print_fits : (numbers : List ℕ) (most : ℕ) → among 0 numbers ≡ false → most ≤ largest_place → (a : PrintAnswer)
+print_fits : (numbers : List ℕ) (most : ℕ) → among 0 numbers ≡ false → most ≤ largest_place → (a : Result ℕ Refusal)
     → PrintWithin numbers most a → PrintFits a
-print_fits numbers most e l (prints.Printed n) w = omega arith
-print_fits numbers most e l (prints.Refused f) w = refusal-fits e l w
+print_fits numbers most e l (Ok n) w = omega arith
+print_fits numbers most e l (Err f) w = refusal-fits e l w
 
-rule_made_fits : (a : PrintAnswer) → RuleMade a → PrintFits a
-rule_made_fits (prints.Printed n) w = omega arith
-rule_made_fits (prints.Refused f) w = refusal-fits refl (omega arith) w
+rule_made_fits : (a : Result ℕ Refusal) → RuleMade a → PrintFits a
+rule_made_fits (Ok n) w = omega arith
+rule_made_fits (Err f) w = refusal-fits refl (omega arith) w
 
 -- ---- calls
 

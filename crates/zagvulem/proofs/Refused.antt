@@ -1,4 +1,11 @@
 -- A call refuses by the numbers of its operation alone, and what it answers is held down by the limits. Assumes nothing.
+use Rattle.answer.specs.declared.Cut.{Cut}
+use Rattle.answer.specs.declared.Reason.{Reason}
+use Rattle.answer.specs.declared.RuleName.{RuleName}
+use Rattle.answer.specs.declared.Turn.{Turn}
+use Rattle.std.specs.Prelude.{Result, Ok, Err}
+use Rattle.answer.specs.declared.Reason.TheVariants.{BookTooLong, CutOff, PastTheText, TextTooLong, TooFewRecords}
+use Rattle.answer.specs.Answers.{lexed, named, turned}
 use mathlib.Core.Path.{◌≡◌, refl, ap, subst}
 use mathlib.Core.Logic.{inl, inr}
 use mathlib.Core.Bool.{Bool, true, false, not, ◌&&◌, ◌||◌}
@@ -11,11 +18,6 @@ use lib.Dec.{leb, ltb, eqb}
 use lib.ListN.{length, drop, length-append, length-drop}
 use borrow.Author.Tests.{leb-false, ltb-true, ltb-false, eqb-true}
 use Rattle.answer.specs.declared.Refusal.{Refusal}
-use Rattle.answer.specs.declared.BookAnswer.{BookAnswer}
-use Rattle.answer.specs.declared.RuleAnswer.{RuleAnswer}
-use Rattle.answer.specs.declared.LexAnswer.{LexAnswer}
-use Rattle.answer.specs.declared.TurnAnswer.{TurnAnswer}
-use Rattle.answer.specs.declared.PrintAnswer.{PrintAnswer}
 use Rattle.automaton.specs.Choice.{if, All, any, among}
 use Rattle.automaton.specs.Rule.{Transition, Rule, overlaps}
 use Rattle.automaton.proofs.Tests.{clash, all_map}
@@ -63,39 +65,34 @@ use Rattle.expression_rule.proofs.Compiled.{compiled_short}
 use Rattle.zagvulem.specs.Numbers.{compile_numbers}
 use Rattle.zagvulem.specs.Numbers.{book_numbers, strict_numbers, rewrite_numbers, rule_numbers, lex_numbers, turn_numbers}
 use Rattle.zagvulem.specs.Numbers.{print_numbers, separated_numbers, Refused}
-use Rattle.answer.specs.declared.BookAnswer.TheVariants as books
-use Rattle.answer.specs.declared.RuleAnswer.TheVariants as ruled
-use Rattle.answer.specs.declared.LexAnswer.TheVariants as lexes
-use Rattle.answer.specs.declared.TurnAnswer.TheVariants as turned
-use Rattle.answer.specs.declared.PrintAnswer.TheVariants as prints
 use Rattle.command.specs.declared.Decoded.TheVariants as decoded
 
 -- ---- what is said of an answer: its refusal is by one of these numbers at a place of at most `most`; its values are held down
 
-abbrev pub BookWithin : List ℕ → BookAnswer → Type 0
-BookWithin numbers (books.Accepted rules) = rules ≤ max_rules
-BookWithin numbers (books.Refused f) = Refused numbers max_bytes f
+abbrev pub BookWithin : List ℕ → Result ℕ Refusal → Type 0
+BookWithin numbers (Ok rules) = rules ≤ max_rules
+BookWithin numbers (Err f) = Refused numbers max_bytes f
 
-abbrev pub RuleWithin : (ℕ → ℕ → Type 0) → RuleAnswer → Type 0
-RuleWithin P (ruled.Rule tag kind) = P tag kind
-RuleWithin P (ruled.Refused f) = Refused rule_numbers max_bytes f
+abbrev pub RuleWithin : (ℕ → ℕ → Type 0) → Result RuleName Refusal → Type 0
+RuleWithin P (named tag kind) = P tag kind
+RuleWithin P (Err f) = Refused rule_numbers max_bytes f
 
-abbrev pub LexWithin : LexAnswer → Type 0
-LexWithin (lexes.Lexed tokens rest) = (tokens ≤ max_text) × (rest ≤ max_text)
-LexWithin (lexes.Refused f) = Refused lex_numbers max_text f
+abbrev pub LexWithin : Result Cut Refusal → Type 0
+LexWithin (lexed tokens rest) = (tokens ≤ max_text) × (rest ≤ max_text)
+LexWithin (Err f) = Refused lex_numbers max_text f
 
-abbrev pub TurnWithin : TurnAnswer → Type 0
-TurnWithin (turned.Turned tokens next examined finished) = (tokens ≤ max_text) × (next ≤ max_text)
-TurnWithin (turned.Refused f) = Refused turn_numbers max_text f
+abbrev pub TurnWithin : Result Turn Refusal → Type 0
+TurnWithin (turned tokens next examined finished) = (tokens ≤ max_text) × (next ≤ max_text)
+TurnWithin (Err f) = Refused turn_numbers max_text f
 
-abbrev pub PrintWithin : List ℕ → ℕ → PrintAnswer → Type 0
-PrintWithin numbers most (prints.Printed bytes) = bytes ≤ max_text
-PrintWithin numbers most (prints.Refused f) = Refused numbers most f
+abbrev pub PrintWithin : List ℕ → ℕ → Result ℕ Refusal → Type 0
+PrintWithin numbers most (Ok bytes) = bytes ≤ max_text
+PrintWithin numbers most (Err f) = Refused numbers most f
 
 -- ---- numbers
 
-by : {numbers : List ℕ} {most : ℕ} (number place : ℕ) → among number numbers ≡ true → place ≤ most
-    → Refused numbers most (record { number = number; place = place })
+by : {numbers : List ℕ} {most : ℕ} (reason : Reason) (place : ℕ) → among number numbers ≡ true → place ≤ most
+    → Refused numbers most (record { reason = reason; place = place })
 by number place e l = record { number_among = e; place-within = l }
 
 among_more : (n : ℕ) (xs ys : List ℕ) → among n xs ≡ true → among n (xs ++ ys) ≡ true
@@ -120,10 +117,10 @@ Room d = length d.rules + if d.inside 1 0 ≤ max_rules
 abbrev Fair : ℕ → Verdict → Type 0
 Fair len (goes d) = Room d
 Fair len (accepts rules) = length rules ≤ max_rules
-Fair len (refuses number place) = Refused book_numbers len (record { number = number; place = place })
+Fair len (refuses reason place) = Refused book_numbers len (record { reason = reason; place = place })
 
 check_fair : {len : ℕ} (t : Bool) (number : ℕ) {place : ℕ} (v : Verdict) → among number book_numbers ≡ true → place ≤ len
-    → (t ≡ false → Fair len v) → Fair len (check t number place v)
+    → (t ≡ false → Fair len v) → Fair len (check t reason place v)
 unfolding check
 check_fair true number v e l h = by number _ e l
 check_fair false number v e l h = h refl
@@ -191,7 +188,7 @@ module _ (bytes : List ℕ) (at : ℕ) where
 -- what is read from a place on
 abbrev ReadWithin : ℕ → Reading → Type 0
 ReadWithin len (accepted rules) = length rules ≤ max_rules
-ReadWithin len (refused number place) = Refused book_numbers len (record { number = number; place = place })
+ReadWithin len (refused reason place) = Refused book_numbers len (record { reason = reason; place = place })
 
 read_within : (n : ℕ) (bytes : List ℕ) (at : ℕ) (d : Draft) → Room d → ReadWithin (length bytes) (read_from false n bytes at d)
 unfolding read_from
@@ -205,7 +202,7 @@ read_within (suc n) bytes at d r =
     decided : (v : Verdict) (m : ℕ) → Rest → Fair (length bytes) v → ReadWithin (length bytes) (go_on v (read_from false n bytes m))
     decided (goes e) m ih f = ih m e f
     decided (accepts rules) m ih f = f
-    decided (refuses number place) m ih f = f
+    decided (refuses reason place) m ih f = f
 
     taken : (c : Decoded) → Closing d.inside c → Rest → at < length bytes
         → ReadWithin (length bytes) (take_in c d at (length bytes) (read_from false n bytes))
@@ -216,13 +213,13 @@ read_within (suc n) bytes at d r =
         decided (apply d c at (length bytes)) cursor.at ih (apply_fair d at (length bytes) r l c h)
 
     go : (t : Bool) → ltb at (length bytes) ≡ t → (c : Decoded) → Closing d.inside c → Rest
-        → ReadWithin (length bytes) (if t (take_in c d at (length bytes) (read_from false n bytes)) (refused 2 (length bytes)))
+        → ReadWithin (length bytes) (if t (take_in c d at (length bytes) (read_from false n bytes)) (refused CutOff (length bytes)))
     go true e c h ih = taken c h ih (ltb-true at (length bytes) e)
     go false e c h ih = by 2 _ refl (omega arith)
 
 answer-within : (r : Reading) → ReadWithin max_bytes r → BookWithin book_numbers (answer r)
 answer-within (accepted rules) w = w
-answer-within (refused number place) w = w
+answer-within (refused reason place) w = w
 
 book_read : (book : List ℕ) → ReadWithin max_bytes (read_book book)
 unfolding read_by
@@ -230,10 +227,10 @@ book_read book = go (ltb max_bytes (length book)) refl
   where
     shorter : (r : Reading) → length book ≤ max_bytes → ReadWithin (length book) r → ReadWithin max_bytes r
     shorter (accepted rules) l w = w
-    shorter (refused number place) l w = by number place w.number_among (omega (arith, w.place-within))
+    shorter (refused reason place) l w = by number place w.number_among (omega (arith, w.place-within))
 
     go : (t : Bool) → ltb max_bytes (length book) ≡ t
-        → ReadWithin max_bytes (if t (refused 1 0) (read_from false (length book) book 0 (between [])))
+        → ReadWithin max_bytes (if t (refused BookTooLong 0) (read_from false (length book) book 0 (between [])))
     go true e = by 1 0 refl (omega arith)
     go false e =
         shorter (read_from false (length book) book 0 (between [])) (ltb-false max_bytes (length book) e)
@@ -245,9 +242,9 @@ book_within book = answer-within (read_book book) (book_read book)
 pub strict_within : (book : List ℕ) → BookWithin strict_numbers (answer (read_strict book))
 strict_within book = go (ltb max_bytes (length book)) refl (stricter book)
   where
-    ordinary : (a : BookAnswer) → BookWithin book_numbers a → BookWithin strict_numbers a
-    ordinary (books.Accepted rules) w = w
-    ordinary (books.Refused f) w = of_book (33 ∷ []) (omega arith) w
+    ordinary : (a : Result ℕ Refusal) → BookWithin book_numbers a → BookWithin strict_numbers a
+    ordinary (Ok rules) w = w
+    ordinary (Err f) w = of_book (33 ∷ []) (omega arith) w
 
     go : (t : Bool) → ltb max_bytes (length book) ≡ t → Stricter book (read_strict book) (read_book book)
         → BookWithin strict_numbers (answer (read_strict book))
@@ -255,10 +252,10 @@ strict_within book = go (ltb max_bytes (length book)) refl (stricter book)
     go true e (retires place l b s) = rw (read_too_long true book (ltb-true max_bytes (length book) e)) (by 1 0 refl (omega arith))
     go false e (retires place l b s) = rw s (by 33 place refl (omega (arith, ltb-false max_bytes (length book) e)))
 
-pub book_refused : (book : List ℕ) (f : Refusal) → answer (read_book book) ≡ books.Refused f → Refused book_numbers max_bytes f
+pub book_refused : (book : List ℕ) (f : Refusal) → answer (read_book book) ≡ Err f → Refused book_numbers max_bytes f
 book_refused book f e = subst (BookWithin book_numbers) e (book_within book)
 
-pub book_accepted : (book : List ℕ) (rules : ℕ) → answer (read_book book) ≡ books.Accepted rules → rules ≤ max_rules
+pub book_accepted : (book : List ℕ) (rules : ℕ) → answer (read_book book) ≡ Ok rules → rules ≤ max_rules
 book_accepted book rules e = subst (BookWithin book_numbers) e (book_within book)
 
 -- ---- a rule by its number
@@ -277,9 +274,9 @@ numbered_within P book h index = go (read_book book) refl (book_read book)
 
     go : (o : Reading) → read_book book ≡ o → ReadWithin max_bytes o → RuleWithin P (rule_reading o index)
     go (accepted rules) e w = told (length rules) w rules index (h rules e)
-    go (refused number place) e w = of_book (18 ∷ []) (omega arith) w
+    go (refused reason place) e w = of_book (18 ∷ []) (omega arith) w
 
-pub rule_refused : (book : List ℕ) (index : ℕ) (f : Refusal) → rule_outcome book index ≡ ruled.Refused f → Refused rule_numbers max_bytes f
+pub rule_refused : (book : List ℕ) (index : ℕ) (f : Refusal) → rule_outcome book index ≡ Err f → Refused rule_numbers max_bytes f
 rule_refused book index f e = subst (RuleWithin _) e (numbered_within (λ tag kind. Unit {0}) book (λ rules z. each rules) index)
   where
     each : (rules : List Rule) → All (λ (r : Rule). Unit {0}) rules
@@ -294,7 +291,7 @@ pub rule-within : (book : List ℕ) → All (λ (b : ℕ). b < 256) book → (in
 rule-within book bytes = numbered_within TagAndKind book (λ rules e.
     all_map _ _ (λ r v. (v.tag_below, v.kind)) rules (accepted_valid book rules (byte_below book bytes) e).rules_valid.each)
 
-pub rule_accepted : (book : List ℕ) → All (λ (b : ℕ). b < 256) book → (index tag kind : ℕ) → rule_outcome book index ≡ ruled.Rule tag kind
+pub rule_accepted : (book : List ℕ) → All (λ (b : ℕ). b < 256) book → (index tag kind : ℕ) → rule_outcome book index ≡ named tag kind
     → (tag < 65536) × (kind ≤ 1)
 rule_accepted book bytes index tag kind e = subst (RuleWithin TagAndKind) e (rule-within book bytes index)
 
@@ -305,8 +302,8 @@ unfolding lex_outcome lex_rules
 lex-within book text records = go (read_book book) (book_read book)
   where
     by_rules : (rules : List Rule) (long : Bool) → ltb max_text (length text) ≡ long → (few : Bool)
-        → LexWithin (if long (lex_refused 14 0 records)
-        (if few (lex_refused 15 (length (lex rules text).tokens) records) (lex_accepted (lex rules text) text records))).answer
+        → LexWithin (if long (lex_refused TextTooLong 0 records)
+        (if few (lex_refused TooFewRecords (length (lex rules text).tokens) records) (lex_accepted (lex rules text) text records))).answer
     by_rules rules true e few = by 14 0 refl (omega arith)
     by_rules rules false e true = by 15 _ refl (omega (arith, lex_few rules text, ltb-false max_text (length text) e))
     by_rules rules false e false =
@@ -314,13 +311,13 @@ lex-within book text records = go (read_book book) (book_read book)
 
     go : (r : Reading) → ReadWithin max_bytes r → LexWithin (lex_reading r text records).answer
     go (accepted rules) w = by_rules rules (ltb max_text (length text)) refl (ltb (record_count records) (length (lex rules text).tokens))
-    go (refused number place) w = of_book (14 ∷ 15 ∷ []) (omega arith) w
+    go (refused reason place) w = of_book (14 ∷ 15 ∷ []) (omega arith) w
 
-pub lex_refused_lem : (book text records : List ℕ) (f : Refusal) → (lex_outcome book text records).answer ≡ lexes.Refused f
+pub lex_refused_lem : (book text records : List ℕ) (f : Refusal) → (lex_outcome book text records).answer ≡ Err f
     → Refused lex_numbers max_text f
 lex_refused_lem book text records f e = subst LexWithin e (lex-within book text records)
 
-pub lex_accepted_lem : (book text records : List ℕ) (tokens rest : ℕ) → (lex_outcome book text records).answer ≡ lexes.Lexed tokens rest
+pub lex_accepted_lem : (book text records : List ℕ) (tokens rest : ℕ) → (lex_outcome book text records).answer ≡ lexed tokens rest
     → (tokens ≤ max_text) × (rest ≤ max_text)
 lex_accepted_lem book text records tokens rest e = subst LexWithin e (lex-within book text records)
 
@@ -328,10 +325,10 @@ lex_accepted_lem book text records tokens rest e = subst LexWithin e (lex-within
 pub masked_within : (book text records masks : List ℕ) → LexWithin (masked_outcome book text records masks).answer
 masked_within book text records masks = go (masked_outcome book text records masks).answer refl
   where
-    go : (a : LexAnswer) → (masked_outcome book text records masks).answer ≡ a → LexWithin a
-    go (lexes.Lexed tokens rest) e =
+    go : (a : Result Cut Refusal) → (masked_outcome book text records masks).answer ≡ a → LexWithin a
+    go (lexed tokens rest) e =
         lex_accepted_lem book text records tokens rest (masked_lexed book text records masks tokens rest e).1.1.cut
-    go (lexes.Refused f) e = elim (masked_refused_lem book text records masks f e).why [
+    go (Err f) e = elim (masked_refused_lem book text records masks f e).why [
       | inl w ↦ lex_refused_lem book text records f w.0
       | inr w ↦ rw w.4 (by 15 w.0 refl (lex_accepted_lem book text records w.0 w.1 w.2).0)
     ]
@@ -344,8 +341,8 @@ module _ (book text : List ℕ) (place budget : ℕ) (records masks : List ℕ) 
   turn-within = go (read_book book) (book_read book)
     where
       by_rules : (rules : List Rule) (long : Bool) → ltb max_text (length text) ≡ long → (past few : Bool)
-          → TurnWithin (if long (turn_refused 14 0 records masks) (if past (turn_refused 27 0 records masks)
-          (if few (turn_refused 15 (length (turn rules (drop place text) budget).tokens) records masks)
+          → TurnWithin (if long (turn_refused TextTooLong 0 records masks) (if past (turn_refused PastTheText 0 records masks)
+          (if few (turn_refused TooFewRecords (length (turn rules (drop place text) budget).tokens) records masks)
           (turn_accepted rules (turn rules (drop place text) budget) text place records masks)))).answer
       by_rules rules true e past few = by 14 0 refl (omega arith)
       by_rules rules false e true few = by 27 0 refl (omega arith)
@@ -360,7 +357,7 @@ module _ (book text : List ℕ) (place budget : ℕ) (records masks : List ℕ) 
           (ltb (room_in records masks) (length (turn rules (drop place text) budget).tokens))
       go (refused number at) w = of_book (14 ∷ 27 ∷ 15 ∷ []) (omega arith) w
 
-  pub turn_refused_lem : (f : Refusal) → (turn_outcome book text place budget records masks).answer ≡ turned.Refused f
+  pub turn_refused_lem : (f : Refusal) → (turn_outcome book text place budget records masks).answer ≡ Err f
       → Refused turn_numbers max_text f
   turn_refused_lem f e = subst TurnWithin e turn-within
 
@@ -391,7 +388,7 @@ Numbered numbers (some n) = among n numbers ≡ true
 
 module _ (numbers : List ℕ) (most : ℕ) where
   refuse-within : (t : Bool) (number : ℕ) {place : ℕ} (next : Option Refusal) → among number numbers ≡ true → place ≤ most
-      → (t ≡ false → Refusing numbers most next) → Refusing numbers most (refuse t number place next)
+      → (t ≡ false → Refusing numbers most next) → Refusing numbers most (refuse t reason place next)
   unfolding refuse
   refuse-within true number next e l h = by number _ e l
   refuse-within false number next e l h = h refl
@@ -417,7 +414,7 @@ module _ (numbers : List ℕ) (most : ℕ) where
       refuse-within (extends rules t.bytes (join ts)) 21 _ e (omega arith) (λ z. extended_within e rules ts (suc k) (omega arith))
 
   refused_if-within : (t : Bool) (number : ℕ) {place : ℕ} (out : List ℕ) (next : PrintOutcome) → among number numbers ≡ true → place ≤ most
-      → (t ≡ false → PrintWithin numbers most next.answer) → PrintWithin numbers most (refused_if t number place out next).answer
+      → (t ≡ false → PrintWithin numbers most next.answer) → PrintWithin numbers most (refused_if t reason place out next).answer
   unfolding refused_if
   refused_if-within true number out next e l h = by number _ e l
   refused_if-within false number out next e l h = h refl
@@ -460,7 +457,7 @@ rewrite_within book out = go (read_book book) (book_read book)
   where
     go : (r : Reading) → ReadWithin max_bytes r → PrintWithin rewrite_numbers max_bytes (rewrite_reading r book out).answer
     go (accepted rules) w = up_to_within rewrite_numbers max_bytes max_bytes 1 refl refl (omega arith) (omega arith) (rewritten book) out
-    go (refused number place) w = of_book (22 ∷ []) (omega arith) w
+    go (refused reason place) w = of_book (22 ∷ []) (omega arith) w
 
 -- ---- making a rule of an expression
 
@@ -469,12 +466,12 @@ abbrev pub most_rule : ℕ
 most_rule = 326919
 
 -- the same of a call that makes a rule, which may be longer than a text
-abbrev pub RuleMade : PrintAnswer → Type 0
-RuleMade (prints.Printed bytes) = bytes ≤ most_rule
-RuleMade (prints.Refused f) = Refused compile_numbers most_rule f
+abbrev pub RuleMade : Result ℕ Refusal → Type 0
+RuleMade (Ok bytes) = bytes ≤ most_rule
+RuleMade (Err f) = Refused compile_numbers most_rule f
 
 made_if : (t : Bool) (number : ℕ) {place : ℕ} (out : List ℕ) (next : PrintOutcome) → among number compile_numbers ≡ true → place ≤ most_rule
-    → (t ≡ false → RuleMade next.answer) → RuleMade (refused_if t number place out next).answer
+    → (t ≡ false → RuleMade next.answer) → RuleMade (refused_if t reason place out next).answer
 unfolding refused_if
 made_if true number out next e l h = by number _ e l
 made_if false number out next e l h = h refl
@@ -521,13 +518,13 @@ print_within book records pool out = go (read_book book) (book_read book)
 
     go : (r : Reading) → ReadWithin max_bytes r → PrintWithin print_numbers max_text (print_reading r records pool out).answer
     go (accepted rules) w = by_rules rules
-    go (refused number place) w = of_book (16 ∷ 17 ∷ 18 ∷ 19 ∷ 20 ∷ 21 ∷ 22 ∷ []) (omega arith) w
+    go (refused reason place) w = of_book (16 ∷ 17 ∷ 18 ∷ 19 ∷ 20 ∷ 21 ∷ 22 ∷ []) (omega arith) w
 
-pub print_refused_lem : (book records pool out : List ℕ) (f : Refusal) → (print_outcome book records pool out).answer ≡ prints.Refused f
+pub print_refused_lem : (book records pool out : List ℕ) (f : Refusal) → (print_outcome book records pool out).answer ≡ Err f
     → Refused print_numbers max_text f
 print_refused_lem book records pool out f e = subst (PrintWithin print_numbers max_text) e (print_within book records pool out)
 
-pub print_accepted_lem : (book records pool out : List ℕ) (bytes : ℕ) → (print_outcome book records pool out).answer ≡ prints.Printed bytes
+pub print_accepted_lem : (book records pool out : List ℕ) (bytes : ℕ) → (print_outcome book records pool out).answer ≡ Ok bytes
     → bytes ≤ max_text
 print_accepted_lem book records pool out bytes e = subst (PrintWithin print_numbers max_text) e (print_within book records pool out)
 
@@ -601,14 +598,14 @@ separated-within book sep mode records pool out = go (read_book book) (book_read
         (before (sharing (shared_byte rules)) _ (shared-within most (omega (arith, limit)) rules) (list rules))
         (up_to_within separated_numbers most max_text 20 refl refl (omega (arith, limit)) (omega arith)
         (spelled rules sep mode records pool) out)
-    go (refused number place) w = of_book (23 ∷ 24 ∷ 17 ∷ 18 ∷ 19 ∷ 25 ∷ 16 ∷ 26 ∷ 20 ∷ 22 ∷ []) (omega (arith, limit)) w
+    go (refused reason place) w = of_book (23 ∷ 24 ∷ 17 ∷ 18 ∷ 19 ∷ 25 ∷ 16 ∷ 26 ∷ 20 ∷ 22 ∷ []) (omega (arith, limit)) w
 
 pub separated_refused : (book : List ℕ) (sep : TokenRecord) (mode : ℕ) (records pool out : List ℕ) (f : Refusal)
-    → (separated_outcome book sep mode records pool out).answer ≡ prints.Refused f → Refused separated_numbers (farthest records) f
+    → (separated_outcome book sep mode records pool out).answer ≡ Err f → Refused separated_numbers (farthest records) f
 separated_refused book sep mode records pool out f e =
     subst (PrintWithin separated_numbers (farthest records)) e (separated-within book sep mode records pool out)
 
 pub separated_accepted : (book : List ℕ) (sep : TokenRecord) (mode : ℕ) (records pool out : List ℕ) (bytes : ℕ)
-    → (separated_outcome book sep mode records pool out).answer ≡ prints.Printed bytes → bytes ≤ max_text
+    → (separated_outcome book sep mode records pool out).answer ≡ Ok bytes → bytes ≤ max_text
 separated_accepted book sep mode records pool out bytes e =
     subst (PrintWithin separated_numbers (farthest records)) e (separated-within book sep mode records pool out)

@@ -1,4 +1,5 @@
 -- The numbers by which each operation refuses (document 01, 'What each operation refuses'; document 02).
+use Rattle.answer.specs.Refusals.{number_of}
 use Rattle.std.specs.Prelude.{◌≡◌, true, List, [], ◌∷◌, ◌++◌, ℕ, ◌≤◌}
 use Rattle.answer.specs.declared.Refusal.{Refusal}
 use Rattle.automaton.specs.Choice.{among}
@@ -41,5 +42,5 @@ separated_numbers = book_numbers ++ (23 ∷ 24 ∷ 17 ∷ 18 ∷ 19 ∷ 25 ∷ 1
 
 -- a refusal by one of these numbers, at a place of at most `most`
 pub record Refused (numbers : List ℕ) (most : ℕ) (f : Refusal) : Type 0 where
-  pub number_among : among f.number numbers ≡ true
+  pub number_among : among (number_of f.reason) numbers ≡ true
   pub place-within : f.place ≤ most
