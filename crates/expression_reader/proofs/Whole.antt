@@ -28,9 +28,9 @@ module _ {text : List ℕ} {left : Part} {takers takers' follow follow' : List �
   all = got (ready_start text) h
 
   -- it is all of the text
-  pub whole-right : length text ≤ left.at → ReadsWhole text (Ok left) takers takers' follow follow'
+  pub whole_right : length text ≤ left.at → ReadsWhole text (Ok left) takers takers' follow follow'
   unfolding read_expression whole whole_read
-  whole-right l = go all.rest refl
+  whole_right l = go all.rest refl
     where
       go : (u : List ℕ) → all.rest ≡ u → ReadsWhole text (Ok left) takers takers' follow follow'
       go [] d =

@@ -96,11 +96,13 @@ unfoldable pub loops : List ℕ → Bool
 loops [] = false
 loops (b ∷ t) = eqb b 42 || eqb b 43
 
+-- of an atom p that was read: what it carries, and the links of that
 pub record Carries (text : List ℕ) (base : ℕ) (p r : Part) (follow follow' : List ℕ) : Type 0 where
   pub answer : r ≡ carried_part p (drop p.at text)
   pub looped : loops (drop p.at text) ≡ true → Linked base p.end p.last p.first follow follow'
   pub kept : loops (drop p.at text) ≡ false → follow' ≡ follow
 
+-- of the part p that was read behind l
 pub record Joins (base : ℕ) (l p r : Part) (follow follow' : List ℕ) : Type 0 where
   pub answer : r ≡ joined_part l p
   pub linked : Linked base l.end l.last p.first follow follow'
