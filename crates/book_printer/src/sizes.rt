@@ -49,7 +49,7 @@ pub fn print_long(
     print_sized(book, records, pool, &mut scratch, out)
 }
 
-fn print_sized(
+pub fn print_sized(
     book: &[u8],
     records: &[u8],
     pool: &[u8],

@@ -57,7 +57,7 @@ pub fn print_long(
     print_sized(book, separator, mode, records, pool, &mut scratch, out)
 }
 
-fn print_sized(
+pub fn print_sized(
     book: &[u8],
     separator: TokenRecord,
     mode: u32,

@@ -16,14 +16,9 @@ use automaton::words;
 fn cell(rows: &[u32], stamp: u32, s: usize) -> u32
     ensures { result ≡ cell_at rows.now stamp s }
 {
-    if rows.len() <= s {
-        return 0;
-    }
-    let row = rows[s];
-    if row / 131072 == stamp {
-        row % 131072
-    } else {
-        0
+    match rows.get(s) {
+        Some(row) if *row / 131072 == stamp => *row % 131072,
+        _ => 0,
     }
 }
 
