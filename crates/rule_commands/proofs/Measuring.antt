@@ -135,14 +135,6 @@ pub spans_rows_end : (targets : List ℕ) (n k : ℕ) → n ≤ k → spans_of k
 unfolding spans_of
 spans_rows_end targets n k l = rw (rows_end targets n k l)
 
-pub counting_start : (targets : List ℕ) (n : ℕ) → Counting targets n 0 0
-counting_start targets n =
-    record {
-      within = omega arith;
-      few = omega arith;
-      same = ap (λ (rows : List (List ℕ)). length (spans_of 0 rows)) (rows_start targets n) ∙ omega arith;
-    }
-
 module _ {targets : List ℕ} {n count k : ℕ} (w : Counting targets n count k) where
   pub counting_next : k < n → {m : ℕ} → (m ≡ length (row_spans k (row_at targets k))) × (m ≤ 256) → Counting targets n (count + m) (k + 1)
   counting_next l q =

@@ -19,16 +19,7 @@ use Rattle.rule_commands.specs.Spans.{row_spans, spans_of}
 use Rattle.rule_commands.specs.Bytes.{final_bytes, head_bytes, rule_bytes, table_bytes}
 use Rattle.rule_commands.specs.Layers.{row_at, rows_of, apart_at, closes_at, ended_at, next_low, bytes_of, Put}
 use Rattle.rule_commands.proofs.Read.{finals_bytes, rule-length}
-use Rattle.rule_commands.proofs.Measuring.{
-  rows_left,
-  rows_start,
-  spans_in,
-  spans_start,
-  spans_end,
-  spans_next,
-  spans_rows,
-  spans_rows_end,
-}
+use Rattle.rule_commands.proofs.Measuring.{rows_left, spans_in, spans_start, spans_end, spans_next, spans_rows, spans_rows_end}
 
 -- ---- bytes from a place on
 
@@ -148,11 +139,6 @@ module _ {from : ℕ} {row entry out : List ℕ} {to at low b : ℕ} (w : Writin
 
 pub record WritingRows (targets : List ℕ) (n : ℕ) (entry out : List ℕ) (to at k : ℕ) : Type 0 where
   pub filling : Filling (take to entry ++ bytes_of (spans_of 0 (rows_of targets n))) (bytes_of (spans_of k (rows_left targets n k))) entry out at
-
-pub writing_rows_start : (targets : List ℕ) (n : ℕ) (entry : List ℕ) (to : ℕ)
-    → to + length (bytes_of (spans_of 0 (rows_of targets n))) ≤ length entry → WritingRows targets n entry entry to to 0
-writing_rows_start targets n entry to l =
-    record { filling = rw (← (rows_start targets n)) (put-start (bytes_of (spans_of 0 (rows_of targets n))) entry to l) }
 
 module _ {targets : List ℕ} {n : ℕ} {entry out : List ℕ} {to at k : ℕ} (w : WritingRows targets n entry out to at k) where
   module _ (l : k < n) where
