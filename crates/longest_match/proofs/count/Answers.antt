@@ -1,0 +1,27 @@
+use Rattle.std.proofs.Common.{arith, refl}
+use Rattle.longest_match.proofs.Parts.{part_end}
+use Rattle.longest_match.proofs.Cutting.{cutting_start, cutting_within, cutting_next, cutting_stop, lex_stop, lex-end}
+use Rattle.longest_match.proofs.count.Goals as goal
+
+pub loop-at-init : goal.loop-at-init
+loop-at-init c = λ rs h. cutting_start rs _
+
+pub overflow_add-tokens : goal.overflow_add-tokens
+overflow_add-tokens c = let w = c.loop-at.invariant c.requires.rules c.requires.holds in omega (arith, w.few, w.within)
+
+pub overflow_add-at : goal.overflow_add-at
+overflow_add-at c =
+    let rs = c.requires.rules in
+    let h = c.requires.holds in
+    omega (arith, cutting_within (c.loop-at.invariant rs h) (c.in-Some.ensures.chooses rs _ h (part_end _ _)) c.in-Some.ensures.some_byte)
+
+pub loop-at-preserved : goal.loop-at-preserved
+loop-at-preserved c = λ rs h.
+    cutting_next (c.loop-at.invariant rs h) (c.in-Some.ensures.chooses rs _ h (part_end _ _)) c.in-Some.ensures.some_byte
+
+pub returns-after-loop-at : goal.returns-after-loop-at
+returns-after-loop-at c = λ rs h. cutting_stop (c.loop-at.invariant rs h) (lex-end rs c.args.text.now c.loop-at.at (omega arith))
+
+pub returns-in_default : goal.returns-in_default
+returns-in_default c = λ rs h.
+    cutting_stop (c.loop-at.invariant rs h) (lex_stop rs _ ((c.in_default.ensures.chooses rs _ h (part_end _ _)).nothing refl))
