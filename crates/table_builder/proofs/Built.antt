@@ -379,37 +379,22 @@ built_cells e b =
 
 -- ---- the loop of `settle`
 
--- the words before i are settled
-pub record Settling (rows : List ℕ) (stamp first end : ℕ) (tb tb₁ : List ℕ) (i : ℕ) : Type 0 where
-  pub from : first ≤ i
-  pub within : i ≤ end
-  pub settles : Settles rows stamp first i tb tb₁
+pub settles_none : (rows : List ℕ) (stamp first : ℕ) (tb : List ℕ) → Settles rows stamp first first tb tb
+settles_none rows stamp first tb = record { same_length = refl; inside = λ i f k. absurd (omega arith); outside = λ i o. refl }
 
-pub settling_start : (rows : List ℕ) (stamp first end : ℕ) (tb : List ℕ) → first ≤ end → Settling rows stamp first end tb tb first
-settling_start rows stamp first end tb l =
-    record {
-      from = omega arith;
-      within = l;
-      settles = record { same_length = refl; inside = λ i f k. absurd (omega arith); outside = λ i o. refl };
-    }
-
-module _ {rows : List ℕ} {stamp first end : ℕ} {tb tb₁ : List ℕ} {i : ℕ} (w : Settling rows stamp first end tb tb₁ i) where
+module _ {rows : List ℕ} {stamp first : ℕ} {tb tb₁ : List ℕ} {i : ℕ} (w : Settles rows stamp first i tb tb₁) where
   -- the word at i is the old one
-  pub settling_here : edge_at tb₁ i ≡ edge_at tb i
-  settling_here = w.settles.outside i (inr (omega arith))
+  pub settles_here : edge_at tb₁ i ≡ edge_at tb i
+  settles_here = w.outside i (inr (omega arith))
 
-  pub settling_next : {tb₂ : List ℕ} → i < end → i < length tb₁ → tb₂ ≡ set tb₁ i (settled rows stamp (edge_at tb₁ i))
-      → Settling rows stamp first end tb tb₂ (i + 1)
-  settling_next more room e =
+  pub settles_next : {tb₂ : List ℕ} → first ≤ i → i < length tb₁ → tb₂ ≡ set tb₁ i (settled rows stamp (edge_at tb₁ i))
+      → Settles rows stamp first (i + 1) tb tb₂
+  settles_next from room e =
       rw e
       (record {
-        from = omega (arith, w.from);
-        within = omega arith;
-        settles = record {
-          same_length = simp length-set w.settles.same_length;
-          inside = λ j f k. go j f k (eqb j i) refl;
-          outside = λ j o. there j (apart j o) ∙ w.settles.outside j (widen j o);
-        };
+        same_length = simp length-set w.same_length;
+        inside = λ j f k. go j f k (eqb j i) refl;
+        outside = λ j o. there j (apart j o) ∙ w.outside j (widen j o);
       })
     where
       there : (j : ℕ) → (j ≡ i → ⊥) → edge_at (set tb₁ i (settled rows stamp (edge_at tb₁ i))) j ≡ edge_at tb₁ j
@@ -427,15 +412,10 @@ module _ {rows : List ℕ} {stamp first end : ℕ} {tb tb₁ : List ℕ} {i : �
           → edge_at (set tb₁ i (settled rows stamp (edge_at tb₁ i))) j ≡ settled rows stamp (edge_at tb j)
       go j f k true z =
           let q = eqb-true j i z in
-          rw q (get_or-set_same tb₁ i (settled rows stamp (edge_at tb₁ i)) 0 room ∙ ap (settled rows stamp) settling_here)
+          rw q (get_or-set_same tb₁ i (settled rows stamp (edge_at tb₁ i)) 0 room ∙ ap (settled rows stamp) settles_here)
       go j f k false z =
           let q = eqb-false j i z in
-          there j q ∙ w.settles.inside j f (omega arith)
-
-  pub settling_end : end ≤ i → Settles rows stamp first end tb tb₁
-  settling_end l =
-      let q : i ≡ end = omega (arith, w.within) in
-      subst (λ (x : ℕ). Settles rows stamp first x tb tb₁) q w.settles
+          there j q ∙ w.inside j f (omega arith)
 
 -- ---- what the chains and the marks of the cells tell of a rule
 

@@ -2,7 +2,7 @@
 // state that they leave, and get the spots to which they lead at its end. While a rule is open, `rows` has the cells of its states.
 #![tactic(auto)]
 
-ghost use Rattle.std.specs.Prelude.{◌≡◌, List, ℕ, ◌+◌, ◌*◌, ◌/◌, ◌%◌, ◌≤◌, ◌<◌, min, max, length, set};
+ghost use Rattle.std.specs.Prelude.{◌≡◌, List, ℕ, ◌+◌, ◌*◌, ◌/◌, ◌%◌, ◌≤◌, ◌<◌, length, set};
 ghost use Rattle.automaton.specs.Choice.{any};
 ghost use Rattle.automaton.specs.Rule.{Transition, state_count};
 ghost use Rattle.automaton.specs.Layers.{rule_room, edge_start, name_place, body_place, edge_word, bare_spot, name_word, body_word};
@@ -16,14 +16,9 @@ use automaton::words;
 fn cell(rows: &[u32], stamp: u32, s: usize) -> u32
     ensures { result ≡ cell_at rows.now stamp s }
 {
-    if rows.len() <= s {
-        return 0;
-    }
-    let row = rows[s];
-    if row / 131072 == stamp {
-        row % 131072
-    } else {
-        0
+    match rows.get(s) {
+        Some(row) if *row / 131072 == stamp => *row % 131072,
+        _ => 0,
     }
 }
 
@@ -49,12 +44,11 @@ pub fn shares_byte(table: &[u64], head: usize, low: u8, high: u8) -> bool
     let first = low as u64;
     let last = high as u64;
     let mut h = head;
+    // A chain of links in fixed memory: no index is counted.
     while h != 0 {
         let e = table[h];
-        if first <= words::high(e) {
-            if words::low(e) <= last {
-                return true;
-            }
+        if first <= words::high(e) && words::low(e) <= last {
+            return true;
         }
         h = words::next(e);
     }
@@ -72,24 +66,11 @@ pub fn first_bytes(table: &[u64], head: usize) -> u64
     let mut h = head;
     while h != 0 {
         let e = table[h];
-        low = lower(low, words::low(e));
-        high = higher(high, words::high(e));
+        low = low.min(words::low(e));
+        high = high.max(words::high(e));
         h = words::next(e);
     }
     high * 256 + low
-}
-
-// The lower and the higher of two numbers.
-pub fn lower(a: u64, b: u64) -> u64
-    ensures { result ≡ min a b }
-{
-    if a <= b { a } else { b }
-}
-
-pub fn higher(a: u64, b: u64) -> u64
-    ensures { result ≡ max a b }
-{
-    if a <= b { b } else { a }
 }
 
 // Stores the word of a transition to state `to`, with the next link of its chain.
@@ -133,10 +114,8 @@ pub fn settle(table: &mut [u64], rows: &[u32], stamp: u32, first: usize, end: us
     requires by_index { (i : ℕ) → first ≤ i → i < end → to_of (edge_at table.old i) < state_count }
     ensures { Settles rows.now stamp first end table.old table.new }
 {
-    let mut i = first;
-    while i < end {
+    for i in first..end {
         settle_one(table, rows, stamp, i);
-        i += 1;
     }
 }
 

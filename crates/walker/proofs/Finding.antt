@@ -4,6 +4,7 @@ use mathlib.Core.List.{List, [], ◌∷◌}
 use mathlib.Core.Bool.{true, false}
 use Prim.Native.Nat.{ℕ, ◌<◌, ◌≤◌}
 use native.Mathlib.Omega.{arith}
+use Rattle.std.specs.Prelude.{None, Some}
 use Rattle.automaton.specs.Rule.{Transition, covers}
 use Rattle.automaton.specs.Layers.{next_of, to_of, edge_at, covers_word, Edge, Chain, Chained}
 use Rattle.automaton.proofs.Chains.{At, Along, along_start, along_in, along_at, along_next, along_hit, along_end}
@@ -47,20 +48,14 @@ module _ {tb : List ℕ} {head b h : ℕ} (w : Finding tb head b h) where
       }
 
   pub finding_hit : 0 < h → covers_word (edge_at tb h) b ≡ true
-      → (first : ℕ) (ts : List Transition) → Chain tb first head ts → Finds tb first head ts b h
+      → (first : ℕ) (ts : List Transition) → Chain tb first head ts → Finds tb first head ts b (Some h)
   finding_hit pos e first ts c =
       record {
-        nothing = λ z. absurd (omega arith);
-        above = λ p. (along_in (w.along 0) first ts c pos).link.above;
+        some = pos;
+        above = (along_in (w.along 0) first ts c pos).link.above;
         below = w.below;
-        to = λ p error. sym (along_hit (w.along error) pos (λ t us k. pick_hit b error us k e) first ts c);
+        to = λ error. sym (along_hit (w.along error) pos (λ t us k. pick_hit b error us k e) first ts c);
       }
 
-  pub finding_end : h ≡ 0 → (first : ℕ) (ts : List Transition) → Chain tb first head ts → Finds tb first head ts b h
-  finding_end z first ts c =
-      record {
-        nothing = λ p error. sym (along_end (w.along error) z (pick_none b error) first ts c);
-        above = λ p. absurd (omega arith);
-        below = w.below;
-        to = λ p. absurd (omega arith);
-      }
+  pub finding_end : h ≡ 0 → (first : ℕ) (ts : List Transition) → Chain tb first head ts → Finds tb first head ts b None
+  finding_end z first ts c = λ error. sym (along_end (w.along error) z (pick_none b error) first ts c)

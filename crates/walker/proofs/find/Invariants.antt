@@ -1,0 +1,8 @@
+use Rattle.walker.proofs.Finding.{Finding}
+use Rattle.walker.proofs.find.Given as goal
+
+abbrev pub invariant-loop-h : goal.invariant-loop-h
+invariant-loop-h l = Finding l.table l.head l.byte l.h
+
+abbrev pub decreases-loop-h : goal.decreases-loop-h
+decreases-loop-h l = l.h
