@@ -35,12 +35,12 @@ InRange End = Unit {0}
 abbrev pub Good : Verdict → Type 0
 Good (goes d) = Fine d
 Good (accepts rules) = Valid rules
-Good (refuses reason place) = Unit {0}
+Good (refuses why place) = Unit {0}
 
 check_good : (t : Bool) (reason : Reason) (place : ℕ) (v : Verdict) → (t ≡ false → Good v) → Good (check t reason place v)
 unfolding check
-check_good true number place v h = tt
-check_good false number place v h = h refl
+check_good true why place v h = tt
+check_good false why place v h = h refl
 
 -- ---- lists of rules
 

@@ -1,12 +1,13 @@
 -- Whether a tag is taken, by the number of its rule. Assumes nothing.
+use Rattle.std.specs.Prelude.{Option as Maybe, None, Some, is_some, MatchOption}
 use mathlib.Core.Path.{◌≡◌, refl, sym}
-use mathlib.Core.Bool.{Bool, true, false}
+use mathlib.Core.Bool.{true, false}
 use mathlib.Core.List.{List, [], ◌∷◌}
 use Prim.Native.Nat.{ℕ, zero, suc, ◌<◌}
 use native.Mathlib.Omega.{arith}
-use lib.Dec.{ltb, eqb}
+use lib.Dec.{eqb}
 use lib.ListN.{length}
-use borrow.Author.Tests.{ltb-true, ltb-false, eq-eqb}
+use borrow.Author.Tests.{eq-eqb}
 use Rattle.automaton.specs.Rule.{Rule}
 use Rattle.automaton.specs.Layers.{rule_at, Ranks}
 use Rattle.book.specs.Draft.{tagged}
@@ -28,10 +29,8 @@ module _ {rules : List Rule} {tag k : ℕ} (r : Ranks rules tag k) where
   pub ranks_some : (k ≡ length rules → ⊥) → tagged tag rules ≡ true
   ranks_some ne = let l : k < length rules = omega (arith, r.within) in tagged_here rules tag k l (r.here l) r.earlier
 
-  -- a tag is taken where its rule is among the rules
-  pub ranks_taken : {n : ℕ} → n ≡ length rules → ltb k n ≡ tagged tag rules
-  ranks_taken {n} e = go (ltb k n) refl
-    where
-      go : (t : Bool) → ltb k n ≡ t → t ≡ tagged tag rules
-      go true q = let l = ltb-true k n q in sym (ranks_some (λ z. omega arith))
-      go false q = let l = ltb-false k n q in sym (ranks_none (omega (arith, r.within)))
+-- a tag is taken where a rule of it is found
+pub found_taken : (rules : List Rule) (tag : ℕ) (r : Maybe ℕ)
+    → MatchOption r (Ranks rules tag (length rules)) (λ k. (k < length rules) × Ranks rules tag k) → is_some r ≡ tagged tag rules
+found_taken rules tag None h = sym (ranks_none h refl)
+found_taken rules tag (Some k) h = sym (ranks_some h.1 (λ e. omega (arith, h.0)))

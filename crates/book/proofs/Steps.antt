@@ -1,7 +1,10 @@
 -- What the code makes of a command is what `apply` says: a law for each way out of each command. Assumes nothing.
 use Rattle.answer.specs.declared.Reason.TheVariants.{BytesAfterEnd, ErrorFinal, LeavesError, NoRule, OutOfRange, Overlap, StartFinal, TagTaken, TooMany, TwiceOrMissing}
+use Rattle.answer.specs.declared.Reason.{Reason}
+use Rattle.answer.specs.declared.Refusal.{Refusal}
+use Rattle.std.specs.Prelude.{Result, Ok, Err, Some, None, is_some}
 use mathlib.Core.Path.{◌≡◌, refl, sym, ◌∙◌, ap}
-use mathlib.Core.Bool.{Bool, true, false, not, ◌||◌}
+use mathlib.Core.Bool.{Bool, true, false, ◌||◌}
 use mathlib.Core.List.{List, [], ◌∷◌}
 use mathlib.Core.Option.{Option, none, some}
 use Prim.Native.Nat.{ℕ, suc, ◌+◌, ◌-◌, ◌%◌, ◌<◌, ◌≤◌}
@@ -21,17 +24,17 @@ use Rattle.command.specs.declared.Command.{Command}
 use Rattle.command.specs.declared.Command.TheVariants.{Rule as RULE, Final, Close, End}
 use Rattle.book.specs.declared.Book.{Book}
 use Rattle.book.specs.declared.Progress.{Progress}
-use Rattle.book.specs.declared.Progress.TheVariants.{On, Done, Refused}
+use Rattle.book.specs.declared.Progress.TheVariants.{On, Done}
 use Rattle.book.specs.Limits.{max_rules, max_transitions}
 use Rattle.book.specs.Draft.{Draft, opened, is_set, is_unset, state_of, rule_of}
 use Rattle.book.specs.Draft.{Verdict, goes, check, tagged, is_empty, no_state, move, apply}
-use Rattle.book.specs.Layers.{Fine, book_of, idle, edge_limit, Stored, Represents, Represented, Inside, Closes, Follows}
+use Rattle.book.specs.Layers.{Fine, given, state_in, once, book_of, idle, edge_limit, Stored, Represents, Represented, Inside, Closes, Follows}
 use Rattle.book.specs.Layers.{stands_inside}
 use Rattle.book.proofs.Fine.{Good, apply_good, move_good, state_below, closed-rule}
 use Rattle.book.proofs.Filling.{stored-final, stored_edge, stored-closed}
 
-abbrev pub refusal : ℕ → ℕ → Progress
-refusal reason place = Refused (record { reason = reason; place = place })
+abbrev pub refusal : Reason → ℕ → Result Progress Refusal
+refusal reason place = Err (record { reason = reason; place = place })
 
 either_way : (a b : Bool) → if a true b ≡ if b true a
 either_way true true = refl
@@ -41,10 +44,14 @@ either_way false false = refl
 
 -- reading goes on with a draft that is fine and stored
 on : {b : Book} {tb rows : List ℕ} (d : Draft) {f m n : ℕ} → Fine d → Stored f m tb rows d.rules d.finals d.transitions
-    → b ≡ book_of d f m → m ≤ n → Follows (goes d) (On b) tb rows n
+    → b ≡ book_of d f m → m ≤ n → Follows (goes d) (Ok (On b)) tb rows n
 on d f st e l = rw e (record { fine = f; stored = st; same = refl }, l)
 
 -- ---- what a `Book` tells of its draft
+
+state_given : (o : Option ℕ) → state_in (given o) ≡ state_of o
+state_given none = refl
+state_given (some s) = refl
 
 module _ {b : Book} {tb rows : List ℕ} {d : Draft} (h : Represents b tb rows d) where
   pub rules_are : b.rules ≡ length d.rules
@@ -53,17 +60,17 @@ module _ {b : Book} {tb rows : List ℕ} {d : Draft} (h : Represents b tb rows d
   pub inside_is : b.inside ≡ d.inside
   inside_is = ap (λ (x : Book). x.inside) h.same
 
-  pub started_is : b.started ≡ is_set d.start
-  started_is = ap (λ (x : Book). x.started) h.same
+  pub start_given : b.start ≡ given d.start
+  start_given = ap (λ (x : Book). x.start) h.same
 
-  pub erring_is : b.erring ≡ is_set d.error
-  erring_is = ap (λ (x : Book). x.erring) h.same
+  pub error_given : b.error ≡ given d.error
+  error_given = ap (λ (x : Book). x.error) h.same
 
-  start_is : state_of d.start ≡ b.start
-  start_is = ap (λ (x : Book). x.start) (sym h.same)
+  start_is : state_of d.start ≡ state_in b.start
+  start_is = rw start_given (sym (state_given d.start))
 
-  error_is : state_of d.error ≡ b.error
-  error_is = ap (λ (x : Book). x.error) (sym h.same)
+  error_is : state_of d.error ≡ state_in b.error
+  error_is = rw error_given (sym (state_given d.error))
 
   count_is : b.edges ≡ b.first + length d.transitions
   count_is = listed_length tb b.first b.edges d.transitions h.stored.built.listed
@@ -71,31 +78,47 @@ module _ {b : Book} {tb rows : List ℕ} {d : Draft} (h : Represents b tb rows d
   overlap_is : b.overlap ≡ overlaps d.transitions
   overlap_is = ap (λ (x : Book). x.overlap) h.same
 
-  start_small : b.start < state_count
+  start_small : state_in b.start < state_count
   start_small = rw start_is at (state_below d.start h.fine.start)
 
-  error_small : b.error < state_count
+  error_small : state_in b.error < state_count
   error_small = rw error_is at (state_below d.error h.fine.error)
 
--- ---- START and ERROR: a state that is given once. The code's t and u tell, as no_state and v do, that there is no such state and that one
--- was given before.
+-- ---- START and ERROR: a state that is given once, after o
 
-module _ (tb rows : List ℕ) (at n s : ℕ) (w : Verdict) {t : Bool} (seen : t ≡ no_state s) where
-  pub no_state_lem : t ≡ true → Follows (check (no_state s) OutOfRange at w) (refusal OutOfRange at) tb rows n
+module _ (tb rows : List ℕ) (at n s : ℕ) where
+  pub no_state_lem : (w : Verdict) {t : Bool} → t ≡ no_state s → t ≡ true → Follows (check (no_state s) OutOfRange at w) (refusal OutOfRange at) tb rows n
   unfolding check
-  no_state_lem e = rw (sym seen ∙ e)
+  no_state_lem w seen e = rw (sym seen ∙ e)
 
-module _ (tb rows : List ℕ) (at n s : ℕ) (d : Draft) {t u v : Bool} (seen : t ≡ no_state s) (state : t ≡ false) (given-before : u ≡ v) where
-  pub given_again : u ≡ true → Follows (check (no_state s) OutOfRange at (check v TwiceOrMissing at (goes d))) (refusal TwiceOrMissing at) tb rows n
-  unfolding check
-  given_again e = rw (sym seen ∙ state, sym given-before ∙ e)
+  abbrev pub once_more : Option ℕ → Draft → Verdict
+  once_more o d = check (no_state s) OutOfRange at (check (is_set o) TwiceOrMissing at (goes d))
 
-  pub given : {b : Book} {f m : ℕ} → u ≡ false → Good (check (no_state s) OutOfRange at (check v TwiceOrMissing at (goes d)))
-      → Stored f m tb rows d.rules d.finals d.transitions → b ≡ book_of d f m → m ≤ n
-      → Follows (check (no_state s) OutOfRange at (check v TwiceOrMissing at (goes d))) (On b) tb rows n
-  unfolding check
-  given e g st q l =
-      rw (sym seen ∙ state, sym given-before ∙ e) (on d (rw (sym seen ∙ state, sym given-before ∙ e) at g) st q l)
+  pub once_refused : (o : Option ℕ) (d : Draft) {f : Refusal} → Err f ≡ once (given o) s at → Follows (once_more o d) (Err f) tb rows n
+  unfolding check once
+  once_refused o d {f} e = go (no_state s) o e
+    where
+      go : (t : Bool) (o : Option ℕ)
+          → ◌≡◌ {A = Result ℕ Refusal} (Err f) (if t (Err (record { reason = OutOfRange; place = at }))
+          (if (is_some (given o)) (Err (record { reason = TwiceOrMissing; place = at })) (Ok s)))
+          → Follows (check t OutOfRange at (check (is_set o) TwiceOrMissing at (goes d))) (Err f) tb rows n
+      go true o e = cc
+      go false (some s) e = cc
+      go false none e = cc
+
+  pub once_given : (o : Option ℕ) (d : Draft) {t : ℕ} {b : Book} {f m : ℕ} → Ok t ≡ once (given o) s at → Good (once_more o d)
+      → Stored f m tb rows d.rules d.finals d.transitions → (t ≡ s → b ≡ book_of d f m) → m ≤ n → Follows (once_more o d) (Ok (On b)) tb rows n
+  unfolding check once
+  once_given o d {t = t₀} {b = b} {f = f} {m = m} e g st q l = go (no_state s) o e g
+    where
+      go : (t : Bool) (o : Option ℕ)
+          → ◌≡◌ {A = Result ℕ Refusal} (Ok t₀) (if t (Err (record { reason = OutOfRange; place = at }))
+          (if (is_some (given o)) (Err (record { reason = TwiceOrMissing; place = at })) (Ok s)))
+          → Good (check t OutOfRange at (check (is_set o) TwiceOrMissing at (goes d)))
+          → Follows (check t OutOfRange at (check (is_set o) TwiceOrMissing at (goes d))) (Ok (On b)) tb rows n
+      go true o e g = cc
+      go false (some s) e g = cc
+      go false none e g = on d g st (q cc) l
 
 -- ---- END
 
@@ -118,7 +141,7 @@ module _ {b : Book} {tb rows : List ℕ} {d : Draft} (h : Represents b tb rows d
   unfolding apply check
   end_early e l = rw (some_closed e, lt-ltb _ _ l)
 
-  pub end-last : (b.rules ≡ 0 → ⊥) → len ≤ at + 1 → Follows (apply d End at len) (Done b.rules) tb rows n
+  pub end-last : (b.rules ≡ 0 → ⊥) → len ≤ at + 1 → Follows (apply d End at len) (Ok (Done b.rules)) tb rows n
   unfolding apply check
   end-last e l = rw (some_closed e, le-ltb _ _ l) (rules_are h, h.stored.holds)
 
@@ -148,7 +171,7 @@ module _ {b : Book} {tb rows : List ℕ} {d : Draft} (h : Represents b tb rows d
         rule_taken e = rw (few_closed, ne_eqb _ _ some, le-ltb _ _ known, sym seen ∙ e)
 
         pub rule-opened : {b₁ : Book} → taken ≡ false → d.inside ≡ false → tag < 65536 → b.edges ≤ n
-            → b₁ ≡ book_of (opened d tag kind) b.edges b.edges → Follows (apply d (RULE tag kind) at len) (On b₁) tb rows n
+            → b₁ ≡ book_of (opened d tag kind) b.edges b.edges → Follows (apply d (RULE tag kind) at len) (Ok (On b₁)) tb rows n
         unfolding apply check
         rule-opened e i l m q =
             let g = apply_good d (RULE tag kind) at len h.fine l (sym i) in
@@ -176,7 +199,7 @@ open_room h i = rw (rules_are h) (h.fine.current i).room
 module _ {b : Book} {tb rows : List ℕ} {d : Draft} (h : Represents b tb rows d) (i : d.inside ≡ true) where
   pub final_added : (s at len n : ℕ) {rows₁ : List ℕ} {t : Bool} → t ≡ no_state s → t ≡ false → s < length rows → b.edges ≤ n
       → rows₁ ≡ set rows s (row_word (b.rules + 1) (head_in rows (b.rules + 1) s) 1)
-      → Follows (apply d (Final s) at len) (On b) tb rows₁ n
+      → Follows (apply d (Final s) at len) (Ok (On b)) tb rows₁ n
   unfolding apply check
   final_added s at len n seen state c m e =
       let z : no_state s ≡ false = sym seen ∙ state in
@@ -216,19 +239,17 @@ module _ {b : Book} {tb rows : List ℕ} {d : Draft} (h : Represents b tb rows d
               → tb₁ ≡ set tb b.edges (edge_word low high (head_in rows (b.rules + 1) from) (bare_spot to))
               → rows₁ ≡ set rows from (row_word (b.rules + 1) b.edges (cell_at rows (b.rules + 1) from % 2))
               → Follows (move d at from low high to)
-              (On (record {
+              (Ok (On (record {
                 rules = b.rules;
                 first = b.first;
                 edges = b.edges + 1;
                 inside = b.inside;
                 tag = b.tag;
                 kind = b.kind;
-                started = b.started;
                 start = b.start;
-                erring = b.erring;
                 error = b.error;
                 overlap = both;
-              }))
+              })))
               tb₁ rows₁ n
           unfolding check move overlaps
           move_added {both = both} hi c more short m joined e₁ e₂ =
@@ -244,28 +265,38 @@ module _ {b : Book} {tb rows : List ℕ} {d : Draft} (h : Represents b tb rows d
 
 -- ---- CLOSE
 
-unset_or_not : (o : Option ℕ) {t : Bool} → t ≡ is_set o → is_unset o ≡ not t
-unset_or_not none e = rw e
-unset_or_not (some s) e = rw e
+unset_given : (o : Option ℕ) → given o ≡ None → is_unset o ≡ true
+unset_given none e = refl
+unset_given (some s) e = cc
+
+set_given : (o : Option ℕ) {s : ℕ} → given o ≡ Some s → is_unset o ≡ false
+set_given none e = cc
+set_given (some s) e = refl
 
 module _ {b : Book} {tb rows : List ℕ} {d : Draft} (h : Represents b tb rows d) (at len n : ℕ) where
-  start_unset : is_unset d.start ≡ not b.started
-  start_unset = unset_or_not d.start (started_is h)
-
-  error_unset : is_unset d.error ≡ not b.erring
-  error_unset = unset_or_not d.error (erring_is h)
-
-  pub close_no_start : b.started ≡ false → Follows (apply d Close at len) (refusal TwiceOrMissing at) tb rows n
+  pub close_no_start : b.start ≡ None → Follows (apply d Close at len) (refusal TwiceOrMissing at) tb rows n
   unfolding apply check
-  close_no_start e = rw (start_unset, e)
+  close_no_start e = rw (unset_given d.start (sym (start_given h) ∙ e))
 
-  pub close_no_error : b.erring ≡ false → Follows (apply d Close at len) (refusal TwiceOrMissing at) tb rows n
+  pub close_no_error : b.error ≡ None → Follows (apply d Close at len) (refusal TwiceOrMissing at) tb rows n
   unfolding apply check
-  close_no_error e = rw (error_unset, e, or_true)
+  close_no_error e = rw (unset_given d.error (sym (error_given h) ∙ e), or_true)
 
-  module _ (started : b.started ≡ true) (erring : b.erring ≡ true) where
+  module _ {start error : ℕ} (some_start : b.start ≡ Some start) (some_error : b.error ≡ Some error) where
     both_set : is_unset d.start || is_unset d.error ≡ false
-    both_set = rw (start_unset, error_unset, started, erring)
+    both_set = rw (set_given d.start (sym (start_given h) ∙ some_start), set_given d.error (sym (error_given h) ∙ some_error))
+
+    start_same : state_of d.start ≡ start
+    start_same = start_is h ∙ ap state_in some_start
+
+    error_same : state_of d.error ≡ error
+    error_same = error_is h ∙ ap state_in some_error
+
+    start_there : start < state_count
+    start_there = rw some_start at (start_small h)
+
+    error_there : error < state_count
+    error_there = rw some_error at (error_small h)
 
     pub close_overlap : b.overlap ≡ true → Follows (apply d Close at len) (refusal Overlap at) tb rows n
     unfolding apply check
@@ -281,39 +312,39 @@ module _ {b : Book} {tb rows : List ℕ} {d : Draft} (h : Represents b tb rows d
       final-mark : (s : ℕ) → s < state_count → {t : Bool} → final_in rows (b.rules + 1) s ≡ t → among s d.finals ≡ t
       final-mark s l e = sym (built_there.finals s l) ∙ e
 
-      pub close_leaves : (head_in rows (b.rules + 1) b.error ≡ 0 → ⊥) → Follows (apply d Close at len) (refusal LeavesError at) tb rows n
+      pub close_leaves : (head_in rows (b.rules + 1) error ≡ 0 → ⊥) → Follows (apply d Close at len) (refusal LeavesError at) tb rows n
       unfolding apply check
-      close_leaves e = rw (both_set, no_overlap, error_is h, head_some built_there b.error (error_small h) e)
+      close_leaves e = rw (both_set, no_overlap, error_same, head_some built_there error error_there e)
 
-      module _ (quiet : head_in rows (b.rules + 1) b.error ≡ 0) where
+      module _ (quiet : head_in rows (b.rules + 1) error ≡ 0) where
         none_leaves : any (λ (t : Transition). eqb t.from (state_of d.error)) d.transitions ≡ false
-        none_leaves = rw (error_is h) (head_none built_there b.error (error_small h) quiet)
+        none_leaves = rw error_same (head_none built_there error error_there quiet)
 
-        pub close_error_final : final_in rows (b.rules + 1) b.error ≡ true
+        pub close_error_final : final_in rows (b.rules + 1) error ≡ true
             → Follows (apply d Close at len) (refusal ErrorFinal at) tb rows n
         unfolding apply check
         close_error_final e =
-            let z : among (state_of d.error) d.finals ≡ true = rw (error_is h) (final-mark b.error (error_small h) e) in
+            let z : among (state_of d.error) d.finals ≡ true = rw error_same (final-mark error error_there e) in
             rw (both_set, no_overlap, none_leaves, z)
 
-        module _ (fails : final_in rows (b.rules + 1) b.error ≡ false) where
+        module _ (fails : final_in rows (b.rules + 1) error ≡ false) where
           error_not_final : among (state_of d.error) d.finals ≡ false
-          error_not_final = rw (error_is h) (final-mark b.error (error_small h) fails)
+          error_not_final = rw error_same (final-mark error error_there fails)
 
-          pub close_start-final : final_in rows (b.rules + 1) b.start ≡ true
+          pub close_start-final : final_in rows (b.rules + 1) start ≡ true
               → Follows (apply d Close at len) (refusal StartFinal at) tb rows n
           unfolding apply check
           close_start-final e =
               let z : among (state_of d.start) d.finals ≡ true =
-              rw (start_is h) (final-mark b.start (start_small h) e) in
+              rw start_same (final-mark start start_there e) in
               rw (both_set, no_overlap, none_leaves, error_not_final, z)
 
-          pub close_closed : {tb₁ : List ℕ} → final_in rows (b.rules + 1) b.start ≡ false → b.edges ≤ n → Closes b rows tb tb₁
-              → Follows (apply d Close at len) (On (idle (b.rules + 1) b.edges)) tb₁ rows n
+          pub close_closed : {tb₁ : List ℕ} → final_in rows (b.rules + 1) start ≡ false → b.edges ≤ n → Closes b rows tb tb₁
+              → Follows (apply d Close at len) (Ok (On (idle (b.rules + 1) b.edges))) tb₁ rows n
           unfolding apply check overlaps
           close_closed e m q =
               let z : among (state_of d.start) d.finals ≡ false =
-              rw (start_is h) (final-mark b.start (start_small h) e) in
+              rw start_same (final-mark start start_there e) in
               let g = apply_good d Close at len h.fine tt (sym i) in
               let f = rw (both_set, no_overlap, none_leaves, error_not_final, z) at g in
               let o = h.fine.current i in
@@ -322,7 +353,7 @@ module _ {b : Book} {tb rows : List ℕ} {d : Draft} (h : Represents b tb rows d
               let f₁ = rw (rules_are h, ← (start_is h)) at q.reach in
               let st = stored-closed h.stored (rule_of d) v refl refl o.room q.bytes q.small f₁ w in
               rw (both_set, no_overlap, none_leaves, error_not_final, z)
-              (on _ {f = b.edges} {m = b.edges} f (rw (q.stored, h.same) st)
+              (on _ {f = b.edges} {m = b.edges} f (rw (q.stored, h.same, state_given d.start, state_given d.error) st)
               (rw (rules_are h, length-append d.rules (rule_of d ∷ []))) m)
 
 -- ---- what the functions ask

@@ -76,16 +76,16 @@ rule_of d =
 
 -- ---- one command
 
--- what a command comes to: reading goes on, the book is accepted, or it is refused by a number at a place
+-- what a command comes to: reading goes on, the book is accepted, or it is refused for a reason at a place
 pub data Verdict : Type 0 where
   goes : Draft → Verdict
   accepts : List Rule → Verdict
   refuses : Reason → ℕ → Verdict
 
--- refused by this number at this place where the test holds
+-- refused for this reason at this place where the test holds
 unfoldable pub check : Bool → Reason → ℕ → Verdict → Verdict
-check true reason place next = refuses reason place
-check false reason place next = next
+check true why place next = refuses why place
+check false why place next = next
 
 abbrev pub tagged : ℕ → List Rule → Bool
 tagged tag rules = any (λ (r : Rule). eqb r.tag tag) rules

@@ -1,8 +1,9 @@
 -- What the layers of the code ask and answer between themselves. Nobody needs to believe it: the operations' contracts do not rest on it.
 use Rattle.answer.specs.declared.Refusal.{Refusal}
-use Rattle.std.specs.Prelude.{Result, Ok, Err, ◌≡◌, Bool, true, false, List, [], ℕ, ◌+◌, ◌<◌, ◌≤◌, length, get_or, set}
+use Rattle.answer.specs.declared.Reason.TheVariants.{OutOfRange, TwiceOrMissing}
+use Rattle.std.specs.Prelude.{Option as Maybe, Some, None, is_some, Result, Ok, Err, ◌≡◌, Bool, true, false, List, [], ℕ, ◌+◌, ◌<◌, ◌≤◌, length, get_or, set}
 use Rattle.std.proofs.Math.Option.{Option, none, some}
-use Rattle.automaton.specs.Choice.{All}
+use Rattle.automaton.specs.Choice.{if, All}
 use Rattle.automaton.specs.Rule.{Transition, Rule, overlaps, Ranged, state_count}
 use Rattle.automaton.specs.Layers.{edge_start, name_place, body_place, count_at, body_at, first_of, end_of, edge_at, to_of, name_word, body_word}
 use Rattle.automaton.specs.Layers.{start_word, Within, Chain, Chained, Holds}
@@ -13,7 +14,7 @@ use Rattle.book.specs.declared.Book.{Book}
 use Rattle.book.specs.declared.Progress.{Progress}
 use Rattle.book.specs.declared.Progress.TheVariants.{On, Done, Narrow}
 use Rattle.book.specs.Limits.{max_rules, max_transitions}
-use Rattle.book.specs.Draft.{Draft, is_set, state_of, tagged, Verdict, goes, accepts, refuses, apply}
+use Rattle.book.specs.Draft.{Draft, no_state, tagged, Verdict, goes, accepts, refuses, apply}
 use Rattle.book.specs.Valid.{ValidRules}
 
 -- ---- What holds of a draft while a book is read.
@@ -63,6 +64,22 @@ pub record Stored (first end : ℕ) (tb rows : List ℕ) (rules : List Rule) (fs
 
 -- ---- How the code's `Book` holds a draft.
 
+-- a state of a draft, as the code's Option
+abbrev pub given : Option ℕ → Maybe ℕ
+given none = None
+given (some s) = Some s
+
+-- the state that is given, 0 for none
+abbrev pub state_in : Maybe ℕ → ℕ
+state_in None = 0
+state_in (Some s) = s
+
+-- the state s that START or ERROR gives where `before` was given before, or why it is refused
+unfoldable pub once : Maybe ℕ → ℕ → ℕ → Result ℕ Refusal
+once before s at =
+    if (no_state s) (Err (record { reason = OutOfRange; place = at }))
+    (if (is_some before) (Err (record { reason = TwiceOrMissing; place = at })) (Ok s))
+
 -- the `Book` of a draft
 abbrev pub book_of : Draft → ℕ → ℕ → Book
 book_of d first edges =
@@ -73,10 +90,8 @@ book_of d first edges =
       inside = d.inside;
       tag = d.tag;
       kind = d.kind;
-      started = is_set d.start;
-      start = state_of d.start;
-      erring = is_set d.error;
-      error = state_of d.error;
+      start = given d.start;
+      error = given d.error;
       overlap = overlaps d.transitions;
     }
 
@@ -90,10 +105,8 @@ idle rules edges =
       inside = false;
       tag = 0;
       kind = 0;
-      started = false;
-      start = 0;
-      erring = false;
-      error = 0;
+      start = None;
+      error = None;
       overlap = false;
     }
 
@@ -119,19 +132,19 @@ pub record Inside (b : Book) (tb rows : List ℕ) : Type 0 where
   pub chains : (s : ℕ) → s < state_count → Chained tb (head_in rows (b.rules + 1) s)
   pub tops : (s : ℕ) → s < state_count → head_in rows (b.rules + 1) s < b.edges
   pub below : (i : ℕ) → b.first ≤ i → i < b.edges → to_of (edge_at tb i) < state_count
-  pub start_below : b.start < state_count
+  pub start_below : state_in b.start < state_count
 
 -- the table with the open rule as its next one: its transitions settled, its name and body stored, and the rules counted
 pub record Closes (b : Book) (rows tb tb₁ : List ℕ) : Type 0 where
   -- between these bytes all lie that may come first
   pub bytes : ℕ
   pub small : bytes < 65536
-  pub reach : (first : ℕ) (ts : List Transition) → Chain tb first (head_in rows (b.rules + 1) b.start) ts → Within bytes ts
+  pub reach : (first : ℕ) (ts : List Transition) → Chain tb first (head_in rows (b.rules + 1) (state_in b.start)) ts → Within bytes ts
   pub middle : List ℕ
   pub settles : Settles rows (b.rules + 1) b.first b.edges tb middle
   pub stored : tb₁
-      ≡ set (set (set middle (name_place b.rules) (name_word b.tag b.kind b.error b.start))
-      (body_place b.rules) (body_word (start_word (head_in rows (b.rules + 1) b.start) bytes) b.first b.edges))
+      ≡ set (set (set middle (name_place b.rules) (name_word b.tag b.kind (state_in b.error) (state_in b.start)))
+      (body_place b.rules) (body_word (start_word (head_in rows (b.rules + 1) (state_in b.start)) bytes) b.first b.edges))
       0 (b.rules + 1)
 
 -- ---- What the code makes of one command.
@@ -168,10 +181,10 @@ Follows (accepts rules) (Ok (On b)) tb rows n = ⊥
 Follows (accepts rules) (Ok (Done k)) tb rows n = (k ≡ length rules) × Holds tb rules
 Follows (accepts rules) (Ok Narrow) tb rows n = ⊥
 Follows (accepts rules) (Err f) tb rows n = ⊥
-Follows (refuses reason place) (Ok (On b)) tb rows n = ⊥
-Follows (refuses reason place) (Ok (Done k)) tb rows n = ⊥
-Follows (refuses reason place) (Ok Narrow) tb rows n = ⊥
-Follows (refuses reason place) (Err f) tb rows n = f ≡ record { reason = reason; place = place }
+Follows (refuses why place) (Ok (On b)) tb rows n = ⊥
+Follows (refuses why place) (Ok (Done k)) tb rows n = ⊥
+Follows (refuses why place) (Ok Narrow) tb rows n = ⊥
+Follows (refuses why place) (Err f) tb rows n = f ≡ record { reason = why; place = place }
 
 -- or it has changed nothing yet, since there is no cell for a state of the command
 abbrev pub Makes : Verdict → Result Progress Refusal → List ℕ → List ℕ → List ℕ → List ℕ → ℕ → Type 0

@@ -56,13 +56,7 @@ pub fn add_transition(
 fn is_out_of_range(step: Move) -> bool
     ensures { result ≡ ltb step.high step.low || (no_state step.from || no_state step.to) }
 {
-    if step.high < step.low {
-        return true;
-    }
-    if crate::is_no_state(step.from) {
-        return true;
-    }
-    crate::is_no_state(step.to)
+    step.high < step.low || crate::is_no_state(step.from) || crate::is_no_state(step.to)
 }
 
 // Whether two transitions of the open rule share a byte, this one counted. Where two do already, no more are compared, so that no more than

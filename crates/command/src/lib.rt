@@ -60,6 +60,7 @@ impl Cursor {
 
     // The command at the cursor; `strict`: in the stricter reading; `inside`: it stands inside a rule. Or why there is none: a byte that is
     // no command or not one for this place, a command that the stricter reading does not take, or operands that run past the end.
+    #[tactic(auto, using(crate::proofs::Commands::operands_le), unfolding(crate::specs::Commands::command_at))]
     pub fn command(self, strict: bool, book: &[u8], inside: bool) -> Result<Decoded, Reason>
         requires { self.at < length book.now }
         ensures { result ≡ command_at strict book.now self.at inside }
@@ -84,48 +85,36 @@ impl Cursor {
 }
 
 // Whether `code` is a command that may stand inside a rule, or outside one.
+#[tactic(auto, unfolding(crate::specs::Commands::placed))]
 fn is_placed(code: u8, inside: bool) -> bool
     ensures { result ≡ placed code inside }
 {
-    if code == 1 {
-        return !inside;
+    match code {
+        1 | 8 => !inside,
+        2..=12 => inside,
+        _ => false,
     }
-    if code == 8 {
-        return !inside;
-    }
-    if code < 2 {
-        return false;
-    }
-    if 12 < code {
-        return false;
-    }
-    inside
 }
 
 // Whether `code` is a command that the stricter reading does not take.
+#[tactic(auto, unfolding(crate::specs::Commands::retired))]
 fn is_retired(strict: bool, code: u8) -> bool
     ensures { result ≡ retired strict code }
 {
-    if strict {
-        return code == Command::STEP;
-    }
-    false
+    strict && code == Command::STEP
 }
 
 // The number of operand bytes of a command.
+#[tactic(auto, unfolding(crate::specs::Commands::operands_of))]
 pub fn operands(code: u8) -> usize
     ensures { result ≡ operands_of code }
 {
     match code {
         1 => 3,
-        2 => 1,
-        3 => 1,
-        4 => 1,
+        2..=4 => 1,
         5 => 3,
         6 => 4,
-        9 => 2,
-        10 => 2,
-        11 => 2,
+        9..=11 => 2,
         12 => 6,
         _ => 0,
     }
@@ -140,6 +129,7 @@ fn state(book: &[u8], at: usize) -> u16
 }
 
 // The command `code` whose operands begin after `at`.
+#[tactic(auto, unfolding(crate::specs::Commands::operands_of, crate::specs::Commands::decode))]
 fn command_of(book: &[u8], at: usize, code: u8) -> Command
     requires { at + 1 + operands_of code ≤ length book.now }
     ensures { result ≡ decode book.now at code }
