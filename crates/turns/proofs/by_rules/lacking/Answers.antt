@@ -1,5 +1,5 @@
 -- `lacking`: there is room enough without counting.
-use Rattle.std.proofs.Common.{List, ◌-◌, ◌≤◌, length, drop, length-drop, arith}
+use Rattle.std.proofs.Common.{drop, length-drop, arith}
 use Rattle.automaton.specs.Rule.{state_count}
 use Rattle.longest_match.proofs.Held.{held_sound}
 use Rattle.turns.proofs.Turning.{turn_short, turn_paid}

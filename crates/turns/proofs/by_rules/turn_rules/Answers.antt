@@ -1,5 +1,5 @@
 -- `turn_rules`: each return is one case of `turn_rules`.
-use Rattle.std.proofs.Common.{List, ◌≤◌, length, arith}
+use Rattle.std.proofs.Common.{arith}
 use Rattle.turns.proofs.Outcomes.{answered_long, answered_past, answered_few, answered_turned}
 use Rattle.turns.proofs.by_rules.turn_rules.Goals as goal
 

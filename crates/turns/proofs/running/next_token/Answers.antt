@@ -1,5 +1,5 @@
 -- `next_token`: what the walks over the bytes that are left say of the rest of the text.
-use Rattle.std.proofs.Common.{◌≤◌, length, drop, length-drop, arith}
+use Rattle.std.proofs.Common.{length-drop, arith}
 use Rattle.automaton.specs.Rule.{state_count}
 use Rattle.longest_match.proofs.Held.{held_sound}
 use Rattle.longest_match.proofs.Parts.{part_bytes}

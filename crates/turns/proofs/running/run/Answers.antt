@@ -1,5 +1,5 @@
 -- `run`: the invariant is `Running`, for any rules that the table holds.
-use Rattle.std.proofs.Common.{length, drop, refl, sym, ◌∙◌, arith, List}
+use Rattle.std.proofs.Common.{refl, sym, ◌∙◌, arith}
 use Rattle.automaton.specs.Rule.{state_count}
 use Rattle.longest_match.proofs.Held.{held_sound}
 use Rattle.turns.proofs.Turning.{turn-spent}
