@@ -1,7 +1,7 @@
 // The command CLOSE: what a whole rule must be, 8 to 12, and putting it into the table.
 #![tactic(auto)]
 
-ghost use Rattle.std.specs.Prelude.{◌≡◌, ℕ};
+ghost use Rattle.std.specs.Prelude.{◌≡◌, ℕ, Some};
 ghost use Rattle.book.specs.Layers.{Inside, Closes, Takes};
 
 use answer::{Reason, Refusal};

@@ -2,24 +2,17 @@
 use mathlib.Core.Path.{◌≡◌, refl, sym, ◌∙◌}
 use mathlib.Core.Bool.{Bool, true, false, cond}
 use mathlib.Core.List.{List, [], ◌∷◌}
-use Prim.Native.Nat.{ℕ, zero, suc, ◌+◌, ◌<◌, ◌≤◌, max}
-use native.Mathlib.Numerals.{add-one}
+use Prim.Native.Nat.{ℕ, zero, suc, ◌+◌, ◌<◌, ◌≤◌}
 use native.Mathlib.Omega.{arith, max_cases}
 use lib.Dec.{eqb}
 use lib.ListN.{length, get_or, drop, drop_of_length-le}
-use lib.Seq.{drop-cons}
-use Rattle.core.specs.List.{position_or_len}
+use Rattle.std.specs.List.{position_or_len}
 use Rattle.std.proofs.lemmas.List.Recursion.{is_position_or_len}
-use borrow.Author.Tests.{eqb-true, eqb-false, eq-eqb, ne_eqb}
+use borrow.Author.Tests.{eqb-true, eqb-false, eq-eqb}
 use Rattle.automaton.specs.Choice.{if}
 use Rattle.longest_match.specs.Steps.{greatest, first_with}
 
 -- ---- the greatest
-
--- of those from place i on: the one at i, or one behind it
-pub greatest_next : (ns : List ℕ) (i : ℕ) → i < length ns → greatest (drop i ns) ≡ max (get_or ns i 0) (greatest (drop (i + 1) ns))
-unfolding greatest
-greatest_next ns i l = rw (drop-cons ns i 0 l, add-one)
 
 pub greatest-end : (ns : List ℕ) (i : ℕ) → length ns ≤ i → greatest (drop i ns) ≡ 0
 unfolding greatest
@@ -45,16 +38,6 @@ greatest_stands (n ∷ ns) p = max_cases n (greatest ns) _
     (λ l e. (0, omega arith, sym e))
 
 -- ---- the first place
-
--- of those from place k on
-module _ (n : ℕ) (ns : List ℕ) (k : ℕ) (l : k < length ns) where
-  pub first_here : get_or ns k 0 ≡ n → first_with n (drop k ns) ≡ 0
-  unfolding first_with
-  first_here e = rw (drop-cons ns k 0 l, eq-eqb _ _ e)
-
-  pub first_next : (get_or ns k 0 ≡ n → ⊥) → first_with n (drop k ns) ≡ first_with n (drop (k + 1) ns) + 1
-  unfolding first_with
-  first_next e = rw (drop-cons ns k 0 l, ne_eqb _ _ e, add-one k) (sym (add-one _))
 
 -- n stands at k, and nowhere before
 pub record First (n : ℕ) (ns : List ℕ) (k : ℕ) : Type 0 where

@@ -36,6 +36,7 @@ pub fn choose(table: &[u64], text: &[u8], from: usize, to: usize) -> Option<Choi
 }
 
 // The same with a place for the lengths of the rules' prefixes, which a caller lends that chooses again and again.
+#[tactic(auto, unfolding(crate::specs::Layers::part))]
 pub fn choose_with(
     table: &[u64],
     text: &[u8],
@@ -58,6 +59,7 @@ pub fn choose_with(
 // The walks of all rules over the bytes of `text` from `from` to `to`, for a caller that asks how far they go before it chooses: after how
 // many bytes, one at least, all rules stand in their error states; one more than there are where that is never so. The lengths of their
 // longest prefixes stand at the front of `lengths`.
+#[tactic(auto, unfolding(crate::specs::Layers::part))]
 pub fn walk_with(
     table: &[u64],
     text: &[u8],

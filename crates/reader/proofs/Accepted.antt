@@ -1,5 +1,7 @@
 -- Every accepted book is valid. Assumes nothing.
-use Rattle.answer.specs.declared.Reason.TheVariants.{BookTooLong, CutOff}
+use Rattle.answer.specs.declared.Reason.{Reason}
+use Rattle.answer.specs.declared.Reason.TheVariants.{BookTooLong, CutOff, Misplaced, Retired}
+use Rattle.std.specs.Prelude.{Result, Ok, Err}
 use mathlib.Core.Path.{◌≡◌, refl, sym, subst}
 use mathlib.Core.Bool.{Bool, true, false, not, ◌&&◌}
 use mathlib.Core.List.{List, []}
@@ -21,7 +23,6 @@ use Rattle.book.specs.Valid.{Valid}
 use Rattle.book.specs.Layers.{Fine, stands_inside, adds}
 use Rattle.book.proofs.Fine.{InRange, Good, fine_start, apply_good}
 use Rattle.reader.specs.Reading.{Reading, accepted, refused, go_on, take_in, read_from, read_by, read_book}
-use Rattle.command.specs.declared.Decoded.TheVariants as decoded
 
 -- where a command is found, it is one for its place, its operands are bytes, and the cursor moves on within the book
 pub record Commanded (bytes : List ℕ) (at : ℕ) (inside : Bool) (c : Command) (next : ℕ) : Type 0 where
@@ -31,11 +32,9 @@ pub record Commanded (bytes : List ℕ) (at : ℕ) (inside : Bool) (c : Command)
   pub wide : at + 4 * adds c ≤ next
   pub within : next ≤ length bytes
 
-abbrev pub Found : List ℕ → ℕ → Bool → Decoded → Type 0
-Found bytes at inside decoded.Misplaced = Unit {0}
-Found bytes at inside decoded.Retired = Unit {0}
-Found bytes at inside decoded.CutOff = Unit {0}
-Found bytes at inside (decoded.Command c cursor) = Commanded bytes at inside c cursor.at
+abbrev pub Found : List ℕ → ℕ → Bool → Result Decoded Reason → Type 0
+Found bytes at inside (Ok read) = Commanded bytes at inside read.command read.next.at
+Found bytes at inside (Err why) = Unit {0}
 
 up : {k n : ℕ} → k ≤ n → (n ≡ k → ⊥) → suc k ≤ n
 up l ne = omega arith
@@ -112,8 +111,8 @@ module _ (bytes : List ℕ) (at : ℕ) (inside : Bool) (byte : (i : ℕ) → byt
     where
       go : (code : ℕ) (p : Bool) → placed code inside ≡ p → (o l : Bool) → leb (at + 1 + operands_of code) (length bytes) ≡ l
           → Found bytes at inside
-          (if p (if o decoded.Retired
-          (if l (decoded.Command (decode bytes at code) (record { at = at + 1 + operands_of code })) decoded.CutOff)) decoded.Misplaced)
+          (if p (if o (Err Retired)
+          (if l (Ok (record { command = decode bytes at code; next = record { at = at + 1 + operands_of code } })) (Err CutOff))) (Err Misplaced))
       go code true e true l h = tt
       go code true e false true h = decoded_found code e (leb-true _ _ h)
       go code true e false false h = tt
@@ -121,7 +120,7 @@ module _ (bytes : List ℕ) (at : ℕ) (inside : Bool) (byte : (i : ℕ) → byt
 
 abbrev GoodReading : Reading → Type 0
 GoodReading (accepted rules) = Valid rules
-GoodReading (refused reason place) = Unit {0}
+GoodReading (refused why place) = Unit {0}
 
 read_good : (n : ℕ) (bytes : List ℕ) (at : ℕ) (d : Draft) → ((i : ℕ) → byte_at bytes i < 256) → Fine d
     → GoodReading (read_from false n bytes at d)
@@ -135,17 +134,16 @@ read_good (suc n) bytes at d byte f =
         → GoodReading (go_on v (read_from false n bytes m))
     verdict (goes e) m ih g = ih e g
     verdict (accepts rules) m ih g = g
-    verdict (refuses reason place) m ih g = tt
+    verdict (refuses why place) m ih g = tt
 
-    taken : (c : Decoded) → Found bytes at d.inside c → ((m : ℕ) (e : Draft) → Fine e → GoodReading (read_from false n bytes m e))
+    taken : (c : Result Decoded Reason) → Found bytes at d.inside c → ((m : ℕ) (e : Draft) → Fine e → GoodReading (read_from false n bytes m e))
         → GoodReading (take_in c d at (length bytes) (read_from false n bytes))
-    taken decoded.Misplaced h ih = tt
-    taken decoded.Retired h ih = tt
-    taken decoded.CutOff h ih = tt
-    taken (decoded.Command c cursor) h ih =
-        verdict (apply d c at (length bytes)) cursor.at (ih cursor.at) (apply_good d c at (length bytes) f h.ranged h.stands)
+    taken (Err why) h ih = tt
+    taken (Ok read) h ih =
+        verdict (apply d read.command at (length bytes)) read.next.at (ih read.next.at)
+        (apply_good d read.command at (length bytes) f h.ranged h.stands)
 
-    go : (t : Bool) (c : Decoded) → Found bytes at d.inside c → ((m : ℕ) (e : Draft) → Fine e → GoodReading (read_from false n bytes m e))
+    go : (t : Bool) (c : Result Decoded Reason) → Found bytes at d.inside c → ((m : ℕ) (e : Draft) → Fine e → GoodReading (read_from false n bytes m e))
         → GoodReading (if t (take_in c d at (length bytes) (read_from false n bytes)) (refused CutOff (length bytes)))
     go true c h ih = taken c h ih
     go false c h ih = tt

@@ -15,11 +15,11 @@ use Rattle.reader.specs.Layers.{LoadedBy}
 
 pub answer_accepted : (o : Reading) {n : ℕ} → Ok n ≡ answer o → (rules : List Rule) × (o ≡ accepted rules)
 answer_accepted (accepted rules) e = (rules, refl)
-answer_accepted (refused reason place) e = let z : ◌≡◌ {A = ℕ} 0 1 = cc in absurd (omega arith)
+answer_accepted (refused why place) e = let z : ◌≡◌ {A = ℕ} 0 1 = cc in absurd (omega arith)
 
-pub answer_refused : (o : Reading) {f : Refusal} → Err f ≡ answer o → o ≡ refused f.number f.place
+pub answer_refused : (o : Reading) {f : Refusal} → Err f ≡ answer o → o ≡ refused f.reason f.place
 answer_refused (accepted rules) e = let z : ◌≡◌ {A = ℕ} 0 1 = cc in absurd (omega arith)
-answer_refused (refused reason place) {f} e = let y : f ≡ record { reason = reason; place = place } = cc in rw y
+answer_refused (refused why place) {f} e = let y : f ≡ record { reason = why; place = place } = cc in rw y
 
 -- ---- and of the table
 
@@ -35,5 +35,5 @@ module _ {strict : Bool} {bytes tb : List ℕ} {b : Result ℕ Refusal} {n : ℕ
 
 -- a book whose reading answers a refusal is refused so
 pub loaded_refusal : {strict : Bool} {bytes tb : List ℕ} {b : Result ℕ Refusal} {f : Refusal} → LoadedBy strict bytes b tb → b ≡ Err f
-    → read_by strict bytes ≡ refused f.number f.place
+    → read_by strict bytes ≡ refused f.reason f.place
 loaded_refusal {strict} {bytes} l a = answer_refused (read_by strict bytes) (sym a ∙ l.answered)

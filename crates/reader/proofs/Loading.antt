@@ -21,7 +21,7 @@ use Rattle.command.specs.declared.Decoded.{Decoded}
 use Rattle.command.specs.Commands.{byte_at, command_at}
 use Rattle.book.specs.declared.Book.{Book}
 use Rattle.book.specs.declared.Progress.{Progress}
-use Rattle.book.specs.declared.Progress.TheVariants.{On, Done, Refused, Narrow}
+use Rattle.book.specs.declared.Progress.TheVariants.{On, Done, Narrow}
 use Rattle.book.specs.Limits.{max_bytes}
 use Rattle.book.specs.Draft.{Draft, between, Verdict, goes, accepts, refuses, apply}
 use Rattle.book.specs.Layers.{idle, edge_limit, Makes, Takes, adds, Fresh}
@@ -32,7 +32,6 @@ use Rattle.reader.specs.Reading.{accepted, refused, go_on, take_in, read_from, r
 use Rattle.reader.specs.Layers.{large_table, Lent, LoadedBy, Going, Copied}
 use Rattle.reader.proofs.Accepted.{Commanded, Found, command_found}
 use Rattle.reader.proofs.Walking.{not_accepted}
-use Rattle.command.specs.declared.Decoded.TheVariants as decoded
 
 -- ---- answers
 
@@ -86,42 +85,42 @@ pub going_stops : {strict : Bool} {bytes tb rows : List ℕ} {at : ℕ} {b : Boo
 going_stops {strict} {bytes} g l = g.same ∙ read_stops strict g.steps bytes _ g.draft l
 
 -- one step more is taken, as `take_in` says of what stands there
-pub record Taking (strict : Bool) (bytes : List ℕ) (at : ℕ) (d : Draft) (c : Decoded) : Type 0 where
+pub record Taking (strict : Bool) (bytes : List ℕ) (at : ℕ) (d : Draft) (c : Result Decoded Reason) : Type 0 where
   pub steps : ℕ
   pub enough : length bytes ≤ at + 1 + steps
   pub same : read_by strict bytes ≡ take_in c d at (length bytes) (read_from strict steps bytes)
 
-read_takes : (strict : Bool) (n : ℕ) (bytes : List ℕ) (at : ℕ) (d : Draft) (c : Decoded) → length bytes ≤ at + n → at < length bytes
+read_takes : (strict : Bool) (n : ℕ) (bytes : List ℕ) (at : ℕ) (d : Draft) (c : Result Decoded Reason) → length bytes ≤ at + n → at < length bytes
     → command_at strict bytes at d.inside ≡ c → read_by strict bytes ≡ read_from strict n bytes at d → Taking strict bytes at d c
 unfolding read_from
 read_takes strict zero bytes at d c e l q s = absurd (omega arith)
 read_takes strict (suc n) bytes at d c e l q s = record { steps = n; enough = omega arith; same = s ∙ rw (lt-ltb _ _ l, q) }
 
 pub going-takes : {strict : Bool} {bytes tb rows : List ℕ} {at : ℕ} {b : Book} (g : Going strict bytes tb rows at b) → at < length bytes
-    → (c : Decoded) → c ≡ command_at strict bytes at b.inside → Taking strict bytes at g.draft c
+    → (c : Result Decoded Reason) → c ≡ command_at strict bytes at b.inside → Taking strict bytes at g.draft c
 going-takes {strict} {bytes} {at = at} g more c e =
     read_takes strict g.steps bytes at g.draft c g.enough more
     (ap (command_at strict bytes at) (sym (inside_is g.holds)) ∙ sym e) g.same
 
 -- ---- a command
 
--- the command c stands at `at`, and the cursor is then past it
-pub record Here (strict : Bool) (bytes tb rows : List ℕ) (at : ℕ) (b : Book) (c : Command) (cursor : Cursor) : Type 0 where
+-- this command stands at `at`
+pub record Here (strict : Bool) (bytes tb rows : List ℕ) (at : ℕ) (b : Book) (read : Decoded) : Type 0 where
   pub going : Going strict bytes tb rows at b
   pub more : at < length bytes
   pub byte : (i : ℕ) → byte_at bytes i < 256
-  pub found : decoded.Command c cursor ≡ command_at strict bytes at b.inside
+  pub found : Ok read ≡ command_at strict bytes at b.inside
 
 -- what its outcome says of the book: reading goes on behind it, the book is answered, or it still stands there and cells are too few
-abbrev pub Leaves : Bool → List ℕ → List ℕ → List ℕ → ℕ → Book → ℕ → Progress → Type 0
-Leaves strict bytes tb rows at b next (On b₁) = Going strict bytes tb rows next b₁
-Leaves strict bytes tb rows at b next (Done k) = LoadedBy strict bytes (Ok k) tb
-Leaves strict bytes tb rows at b next (Refused f) = LoadedBy strict bytes (Err f) tb
-Leaves strict bytes tb rows at b next Narrow = Going strict bytes tb rows at b × (length rows < state_count)
+abbrev pub Leaves : Bool → List ℕ → List ℕ → List ℕ → ℕ → Book → ℕ → Result Progress Refusal → Type 0
+Leaves strict bytes tb rows at b next (Ok (On b₁)) = Going strict bytes tb rows next b₁
+Leaves strict bytes tb rows at b next (Ok (Done k)) = LoadedBy strict bytes (Ok k) tb
+Leaves strict bytes tb rows at b next (Err f) = LoadedBy strict bytes (Err f) tb
+Leaves strict bytes tb rows at b next (Ok Narrow) = Going strict bytes tb rows at b × (length rows < state_count)
 
-module _ {strict : Bool} {bytes tb rows : List ℕ} {at : ℕ} {b : Book} {c : Command} {cursor : Cursor}
-    (k : Here strict bytes tb rows at b c cursor) where
-  pub commanded : Commanded bytes at b.inside c cursor.at
+module _ {strict : Bool} {bytes tb rows : List ℕ} {at : ℕ} {b : Book} {read : Decoded}
+    (k : Here strict bytes tb rows at b read) where
+  pub commanded : Commanded bytes at b.inside read.command read.next.at
   commanded = subst (Found bytes at b.inside) (sym k.found) (command_found bytes at b.inside k.byte strict)
 
   pub edges_left : b.edges < edge_limit
@@ -130,21 +129,21 @@ module _ {strict : Bool} {bytes tb rows : List ℕ} {at : ℕ} {b : Book} {c : C
   pub room-left : b.edges < length tb
   room-left = let h = k.going.few in let l = k.going.room in let m = k.more in omega arith
 
-  taking : Taking strict bytes at k.going.draft (decoded.Command c cursor)
-  taking = going-takes k.going k.more (decoded.Command c cursor) k.found
+  taking : Taking strict bytes at k.going.draft (Ok read)
+  taking = going-takes k.going k.more (Ok read) k.found
 
-  pub taken_in : {r s : Progress} (tb₁ rows₁ : List ℕ) → length tb₁ ≡ length tb → Takes b c at (length bytes) r tb rows tb₁ rows₁ → r ≡ s
-      → Leaves strict bytes tb₁ rows₁ at b cursor.at s
+  pub taken_in : {r s : Result Progress Refusal} (tb₁ rows₁ : List ℕ) → length tb₁ ≡ length tb → Takes b read.command at (length bytes) r tb rows tb₁ rows₁ → r ≡ s
+      → Leaves strict bytes tb₁ rows₁ at b read.next.at s
   taken_in {s = s} tb₁ rows₁ kept taken e =
-      go (apply k.going.draft c at (length bytes)) s taking.same
+      go (apply k.going.draft read.command at (length bytes)) s taking.same
       (rw e at (taken k.going.draft k.going.holds (sym (inside_is k.going.holds) ∙ sym commanded.stands)))
     where
-      still : (tb₁ ≡ tb) × (rows₁ ≡ rows) × (length rows < state_count) → Leaves strict bytes tb₁ rows₁ at b cursor.at Narrow
+      still : (tb₁ ≡ tb) × (rows₁ ≡ rows) × (length rows < state_count) → Leaves strict bytes tb₁ rows₁ at b read.next.at (Ok Narrow)
       still (t, u, l) = rw (t, u) (k.going, l)
 
-      go : (v : Verdict) (p : Progress) → read_by strict bytes ≡ go_on v (read_from strict taking.steps bytes cursor.at)
-          → Makes v p tb rows tb₁ rows₁ (b.edges + adds c) → Leaves strict bytes tb₁ rows₁ at b cursor.at p
-      go (goes d) (On b₁) q (h, n) =
+      go : (v : Verdict) (p : Result Progress Refusal) → read_by strict bytes ≡ go_on v (read_from strict taking.steps bytes read.next.at)
+          → Makes v p tb rows tb₁ rows₁ (b.edges + adds read.command) → Leaves strict bytes tb₁ rows₁ at b read.next.at p
+      go (goes d) (Ok (On b₁)) q (h, n) =
           let f = commanded.further in
           let w = commanded.wide in
           let t = taking.enough in
@@ -159,27 +158,19 @@ module _ {strict : Bool} {bytes tb rows : List ℕ} {at : ℕ} {b : Book} {c : C
             short = k.going.short;
             room = rw kept k.going.room;
           }
-      go (goes d) (Done n) q h = absurd h
-      go (goes d) (Refused f) q h = absurd h
-      go (goes d) Narrow q h = still h
-      go (accepts rules) (On b₁) q h = absurd h
-      go (accepts rules) (Done n) q (h, t) = loaded_accepted q h t
-      go (accepts rules) (Refused f) q h = absurd h
-      go (accepts rules) Narrow q h = still h
-      go (refuses reason place) (On b₁) q h = absurd h
-      go (refuses reason place) (Done n) q h = absurd h
-      go (refuses reason place) (Refused f) q h = loaded_refused q (ap Err h)
-      go (refuses reason place) Narrow q h = still h
+      go (goes d) (Ok (Done n)) q h = absurd h
+      go (goes d) (Err f) q h = absurd h
+      go (goes d) (Ok Narrow) q h = still h
+      go (accepts rules) (Ok (On b₁)) q h = absurd h
+      go (accepts rules) (Ok (Done n)) q (h, t) = loaded_accepted q h t
+      go (accepts rules) (Err f) q h = absurd h
+      go (accepts rules) (Ok Narrow) q h = still h
+      go (refuses why place) (Ok (On b₁)) q h = absurd h
+      go (refuses why place) (Ok (Done n)) q h = absurd h
+      go (refuses why place) (Err f) q h = loaded_refused q (ap Err h)
+      go (refuses why place) (Ok Narrow) q h = still h
 
--- ---- tables of zeros
-
-pub zeros_lent : (n m : ℕ) → edge_start ≤ m → (n ≤ max_bytes → edge_start + n / 4 < m) → Lent n (replicate m 0)
-zeros_lent n m l r =
-    let q = length-replicate {A = ℕ} m 0 in
-    record { head = rw q l; room = λ h. rw q (r h); empty = get_or-replicate {A = ℕ} m 0 0 0 (omega arith) }
-
-pub lent_large : (n : ℕ) → Lent n (replicate large_table 0)
-lent_large n = zeros_lent n large_table (omega arith) (λ h. omega arith)
+-- ---- cells of zeros
 
 zeros_zero : (m s : ℕ) → ◌≡◌ {A = ℕ} (get_or (replicate m 0) s 0) 0
 zeros_zero m s = go (leb (suc s) m) refl

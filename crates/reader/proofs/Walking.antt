@@ -1,7 +1,8 @@
 -- From one command to the next: what is read where a command stands, and that one stands wherever an accepted book is read on; and how
 -- far the stricter reading goes with the ordinary one. Assumes nothing.
 use Rattle.answer.specs.declared.Reason.{Reason}
-use Rattle.answer.specs.declared.Reason.TheVariants.{BookTooLong, CutOff, Retired}
+use Rattle.answer.specs.declared.Reason.TheVariants.{BookTooLong, CutOff, Misplaced, Retired}
+use Rattle.std.specs.Prelude.{Result, Ok, Err}
 use mathlib.Core.Path.{◌≡◌, refl}
 use mathlib.Core.Bool.{Bool, true, false, ◌&&◌}
 use mathlib.Core.List.{List, []}
@@ -18,7 +19,6 @@ use Rattle.command.specs.Commands.{byte_at, placed, retired, operands_of, decode
 use Rattle.book.specs.Limits.{max_bytes}
 use Rattle.book.specs.Draft.{Draft, between, Verdict, goes, accepts, refuses, apply}
 use Rattle.reader.specs.Reading.{Reading, accepted, refused, go_on, take_in, read_from, read_by, read_book, read_strict}
-use Rattle.command.specs.declared.Decoded.TheVariants as decoded
 
 -- a reading is not both
 pub not_accepted : {A : Type 0} {reason : Reason} {place : ℕ} {rules : List Rule} → refused reason place ≡ accepted rules → A
@@ -57,8 +57,8 @@ module _ (strict : Bool) (bytes : List ℕ) (at : ℕ) (d : Draft) where
     where
       go : (m : Bool) → ltb at (length bytes) ≡ m → (p : Bool) → placed code d.inside ≡ p → (o : Bool) → retired strict code ≡ o
           → (l : Bool) → leb next (length bytes) ≡ l
-          → if m (take_in (if p (if o decoded.Retired (if l (decoded.Command (decode bytes at code) (record { at = next })) decoded.CutOff))
-          decoded.Misplaced) d at (length bytes) (read_from strict n bytes)) (refused CutOff (length bytes)) ≡ accepted rules
+          → if m (take_in (if p (if o (Err Retired) (if l (Ok (record { command = decode bytes at code; next = record { at = next } }))
+          (Err CutOff))) (Err Misplaced)) d at (length bytes) (read_from strict n bytes)) (refused CutOff (length bytes)) ≡ accepted rules
           → Takes × (on_by n ≡ accepted rules)
       go true a true b false c true h z =
           (record { more = ltb-true at (length bytes) a; stands = b; taken = c; within = leb-true next (length bytes) h }, z)
@@ -90,14 +90,14 @@ stricter_from (suc n) bytes at d =
         → Stricter bytes (go_on v (read_from true n bytes (next false bytes at d))) (go_on v (read_from false n bytes (next false bytes at d)))
     decided (goes e) ih = ih e
     decided (accepts rules) ih = alike refl
-    decided (refuses reason place) ih = alike refl
+    decided (refuses why place) ih = alike refl
 
     here : Decoded
-    here = decoded.Command (decode bytes at (byte_at bytes at)) (record { at = next false bytes at d })
+    here = record { command = decode bytes at (byte_at bytes at); next = record { at = next false bytes at d } }
 
     taking : (strict m p o l : Bool) → Reading
     taking strict m p o l =
-        if m (take_in (if p (if (strict && o) decoded.Retired (if l here decoded.CutOff)) decoded.Misplaced) d at (length bytes)
+        if m (take_in (if p (if (strict && o) (Err Retired) (if l (Ok here) (Err CutOff))) (Err Misplaced)) d at (length bytes)
         (read_from strict n bytes)) (refused CutOff (length bytes))
 
     go : (m : Bool) → ltb at (length bytes) ≡ m → (p o : Bool) → eqb (byte_at bytes at) 5 ≡ o → (l : Bool) → After

@@ -19,11 +19,11 @@ pub data Reading : Type 0 where
 abbrev pub go_on : Verdict → (Draft → Reading) → Reading
 go_on (goes d) next = next d
 go_on (accepts rules) next = accepted rules
-go_on (refuses reason place) next = refused reason place
+go_on (refuses why place) next = refused why place
 
 abbrev pub take_in : Result Decoded Reason → Draft → ℕ → ℕ → (ℕ → Draft → Reading) → Reading
 take_in (Ok read) d at len next = go_on (apply d read.command at len) (next read.next.at)
-take_in (Err reason) d at len next = refused reason at
+take_in (Err why) d at len next = refused why at
 
 -- From `at` on; `strict`: in the stricter reading. Every command takes a byte, so as many steps as there are bytes are enough.
 unfoldable pub read_from : Bool → ℕ → List ℕ → ℕ → Draft → Reading
@@ -42,7 +42,7 @@ read_book bytes = read_by false bytes
 abbrev pub read_strict : List ℕ → Reading
 read_strict bytes = read_by true bytes
 
--- Document 01's answer for each outcome: the rule count, or the refusal's number and place.
+-- Document 01's answer for each outcome: the rule count, or the refusal with its place.
 abbrev pub answer : Reading → Result ℕ Refusal
 answer (accepted rules) = Ok (length rules)
-answer (refused reason place) = Err (record { reason = reason; place = place })
+answer (refused why place) = Err (record { reason = why; place = place })

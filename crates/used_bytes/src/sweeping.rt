@@ -55,6 +55,7 @@ pub fn sweep_chain(
     let mut h = head;
     let mut at = end;
     let mut leads = false;
+    // A chain of links.
     while h != 0 {
         let e = table[h];
         h = words::next(e);
@@ -144,6 +145,7 @@ pub fn sweep_state(
 }
 
 // Goes through the states of the first `n` spots, which are all that the start of a rule reaches, and marks the bytes that the rule uses.
+// `n` comes beside the spots: `Reaches` speaks of the whole queue.
 pub fn sweep(
     table: &[u64],
     spots: &[u64],

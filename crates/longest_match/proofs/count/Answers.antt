@@ -1,13 +1,7 @@
 use Rattle.std.proofs.Common.{arith, refl}
 use Rattle.longest_match.proofs.Parts.{part_end}
-use Rattle.longest_match.proofs.Cutting.{cutting_start, cutting_within, cutting_next, cutting_stop, lex_stop, lex-end}
+use Rattle.longest_match.proofs.Cutting.{cutting_within, cutting_next, cutting_stop, lex_stop, lex-end}
 use Rattle.longest_match.proofs.count.Goals as goal
-
-pub loop-at-init : goal.loop-at-init
-loop-at-init c = λ rs h. cutting_start rs _
-
-pub overflow_add-tokens : goal.overflow_add-tokens
-overflow_add-tokens c = let w = c.loop-at.invariant c.requires.rules c.requires.holds in omega (arith, w.few, w.within)
 
 pub overflow_add-at : goal.overflow_add-at
 overflow_add-at c =

@@ -1,5 +1,4 @@
 use Rattle.std.proofs.Common.{arith, refl, sym}
-use Rattle.longest_match.specs.Layers.{Picks}
 use Rattle.longest_match.proofs.Lengths.{first-greatest, first_zero}
 use Rattle.longest_match.proofs.steps.choose_from.Goals as goal
 

@@ -1,10 +1,7 @@
-use Rattle.std.proofs.Common.{arith, ◌∙◌, length}
+use Rattle.std.proofs.Common.{arith}
 use Rattle.automaton.specs.Layers.{rule_at}
-use Rattle.longest_match.proofs.Picking.{prefixed_none, prefixed_next, prefixed_all}
+use Rattle.longest_match.proofs.Picking.{prefixed_next, prefixed_all}
 use Rattle.longest_match.proofs.steps.longest_prefixes.Goals as goal
-
-pub loop-rule-init : goal.loop-rule-init
-loop-rule-init c = λ rs h. prefixed_none rs _ _
 
 pub longest_prefix-requires : goal.longest_prefix-requires
 longest_prefix-requires c =

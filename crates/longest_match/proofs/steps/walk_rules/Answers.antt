@@ -1,20 +1,14 @@
 use Rattle.std.proofs.Common.{◌≡◌, ℕ, arith, length, subst}
 use Rattle.automaton.specs.Layers.{rule_at}
 use Rattle.longest_match.specs.Layers.{GoFar}
-use Rattle.longest_match.proofs.Far.{far_start, far_next}
-use Rattle.longest_match.proofs.Picking.{prefixed_none, prefixed_next, prefixed_all}
+use Rattle.longest_match.proofs.Far.{far_next}
+use Rattle.longest_match.proofs.Picking.{prefixed_next, prefixed_all}
 use Rattle.longest_match.proofs.steps.walk_rules.Goals as goal
-
-pub loop-rule-init : goal.loop-rule-init
-loop-rule-init c = λ rs h. (prefixed_none rs _ _, far_start rs _)
 
 pub walk-w-requires-clause-tabled : goal.walk-w-requires-clause-tabled
 walk-w-requires-clause-tabled c =
     let held = c.requires.held in
     record { rule = rule_at held.rules c.loop-rule.rule; table = held.holds.each c.loop-rule.rule (omega (arith, held.holds.count)) }
-
-pub walk-w-requires-clause-known_nonzero : goal.walk-w-requires-clause-known_nonzero
-walk-w-requires-clause-known_nonzero c = (c.loop-rule.invariant c.requires.held.rules c.requires.held.holds).1.some
 
 pub loop-rule-preserved : goal.loop-rule-preserved
 loop-rule-preserved c = λ rs h.

@@ -1,6 +1,5 @@
 -- A state more, and what follows from all of them.
 use mathlib.Core.Path.{◌≡◌, sym, ◌∙◌}
-use Prim.Native.Nat.{ℕ}
 use native.Mathlib.Omega.{arith}
 use Rattle.used_bytes.proofs.Useful.{over_end, over_led, over_next, over_ready, over_spot, over_start, over_storage, over_sweepable, storage_same}
 use Rattle.used_bytes.proofs.sweeping.sweep.Goals as goal
