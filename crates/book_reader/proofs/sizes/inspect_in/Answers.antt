@@ -1,0 +1,7 @@
+-- A table of zeros of a size that suits the book.
+use Rattle.std.proofs.Common.{rules}
+use Rattle.reader.proofs.Sizes.{suits_lent}
+use Rattle.book_reader.proofs.sizes.inspect_in.Goals as goal
+
+pub inspect_with-requires : goal.inspect_with-requires
+inspect_with-requires c = suits_lent c.requires
