@@ -6,7 +6,7 @@ use Rattle.answer.specs.declared.Reason.TheVariants.{BookTooLong, CutOff}
 use mathlib.Core.Path.{◌≡◌, refl, sym, ◌∙◌, ap, subst}
 use mathlib.Core.Bool.{Bool, true, false}
 use mathlib.Core.List.{List, []}
-use Prim.Native.Nat.{ℕ, zero, suc, ◌+◌, ◌/◌, ◌<◌, ◌≤◌}
+use Prim.Native.Nat.{ℕ, zero, suc, ◌+◌, ◌<◌, ◌≤◌}
 use native.Mathlib.Omega.{arith}
 use lib.Dec.{leb}
 use lib.ListN.{replicate, length-replicate, get_or-replicate, length, get_or, set, length-set, get_or-eq_default}
@@ -15,8 +15,6 @@ use borrow.Author.Count.{below_more}
 use borrow.Author.Tests.{lt-ltb, le-ltb, leb-true, leb-false}
 use Rattle.automaton.specs.Rule.{Rule, overlaps, state_count}
 use Rattle.automaton.specs.Layers.{edge_start, Holds}
-use Rattle.command.specs.declared.Command.{Command}
-use Rattle.command.specs.declared.Cursor.{Cursor}
 use Rattle.command.specs.declared.Decoded.{Decoded}
 use Rattle.command.specs.Commands.{byte_at, command_at}
 use Rattle.book.specs.declared.Book.{Book}
@@ -29,17 +27,17 @@ use Rattle.book.proofs.Fine.{fine_start}
 use Rattle.book.proofs.Filling.{stored_fresh, stored_cells}
 use Rattle.book.proofs.Steps.{inside_is}
 use Rattle.reader.specs.Reading.{accepted, refused, go_on, take_in, read_from, read_by, answer}
-use Rattle.reader.specs.Layers.{large_table, Lent, LoadedBy, Going, Copied}
+use Rattle.reader.specs.Layers.{Lent, LoadedBy, Going, Copied}
 use Rattle.reader.proofs.Accepted.{Commanded, Found, command_found}
 use Rattle.reader.proofs.Walking.{not_accepted}
 
 -- ---- answers
 
-pub loaded_refused : {strict : Bool} {bytes tb : List ℕ} {r : Result ℕ Refusal} {reason : Reason} {place : ℕ} → read_by strict bytes ≡ refused reason place
-    → r ≡ Err (record { reason = reason; place = place }) → LoadedBy strict bytes r tb
+pub loaded_refused : {strict : Bool} {bytes tb : List ℕ} {f : Refusal} {reason : Reason} {place : ℕ} → read_by strict bytes ≡ refused reason place
+    → f ≡ record { reason = reason; place = place } → LoadedBy strict bytes (Err f) tb
 loaded_refused e q =
     record {
-      answered = q ∙ ap answer (sym e);
+      answered = ap Err q ∙ ap answer (sym e);
       holds = λ rules z. not_accepted (sym e ∙ z);
     }
 
@@ -111,6 +109,10 @@ pub record Here (strict : Bool) (bytes tb rows : List ℕ) (at : ℕ) (b : Book)
   pub byte : (i : ℕ) → byte_at bytes i < 256
   pub found : Ok read ≡ command_at strict bytes at b.inside
 
+pub here : {strict : Bool} {bytes tb rows : List ℕ} {at : ℕ} {b : Book} {read : Decoded} → Going strict bytes tb rows at b → at < length bytes
+    → ((i : ℕ) → byte_at bytes i < 256) → Ok read ≡ command_at strict bytes at b.inside → Here strict bytes tb rows at b read
+here g l byte e = record { going = g; more = l; byte = byte; found = e }
+
 -- what its outcome says of the book: reading goes on behind it, the book is answered, or it still stands there and cells are too few
 abbrev pub Leaves : Bool → List ℕ → List ℕ → List ℕ → ℕ → Book → ℕ → Result Progress Refusal → Type 0
 Leaves strict bytes tb rows at b next (Ok (On b₁)) = Going strict bytes tb rows next b₁
@@ -167,7 +169,7 @@ module _ {strict : Bool} {bytes tb rows : List ℕ} {at : ℕ} {b : Book} {read 
       go (accepts rules) (Ok Narrow) q h = still h
       go (refuses why place) (Ok (On b₁)) q h = absurd h
       go (refuses why place) (Ok (Done n)) q h = absurd h
-      go (refuses why place) (Err f) q h = loaded_refused q (ap Err h)
+      go (refuses why place) (Err f) q h = loaded_refused q h
       go (refuses why place) (Ok Narrow) q h = still h
 
 -- ---- cells of zeros

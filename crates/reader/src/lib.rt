@@ -113,7 +113,7 @@ fn load_wide(
     match read_on(strict, book, table, &mut wide, cursor, state)? {
         Stop::Accepted(rules) => Ok(rules),
         // never: there is a cell for each state
-        Stop::Narrow(_, _) => Ok(0),
+        Stop::Narrow(_, _) => unreachable!(),
     }
 }
 
