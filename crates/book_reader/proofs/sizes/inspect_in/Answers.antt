@@ -4,4 +4,7 @@ use Rattle.reader.proofs.Sizes.{suits_lent}
 use Rattle.book_reader.proofs.sizes.inspect_in.Goals as goal
 
 pub inspect_with-requires : goal.inspect_with-requires
-inspect_with-requires c = suits_lent c.requires
+inspect_with-requires g c = suits_lent c.requires
+
+pub whole_as_slice-inspect_with : goal.whole_as_slice-inspect_with
+whole_as_slice-inspect_with g c = ?
