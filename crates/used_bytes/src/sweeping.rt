@@ -71,7 +71,9 @@ pub fn sweep_chain(
     Swept { leads, end: at }
 }
 
+// Made a part of its callers, here and below: each size of working storage has them for itself, so that a compiler takes them for large.
 // Where it is `said` that state `s` leads to a final state: marks it and lets go what waits at it.
+#[inline(always)]
 fn gain(
     said: bool,
     s: usize,
@@ -146,6 +148,7 @@ pub fn sweep_state(
 
 // Goes through the states of the first `n` spots, which are all that the start of a rule reaches, and marks the bytes that the rule uses.
 // `n` comes beside the spots: `Reaches` speaks of the whole queue.
+#[inline(always)]
 pub fn sweep(
     table: &[u64],
     spots: &[u64],
