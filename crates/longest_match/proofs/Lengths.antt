@@ -1,23 +1,18 @@
 -- The steps of a choice on a list of lengths: the greatest of them, and the first place at which a number stands. Assumes nothing.
 use mathlib.Core.Path.{◌≡◌, refl, sym, ◌∙◌}
-use mathlib.Core.Bool.{Bool, true, false}
+use mathlib.Core.Bool.{Bool, true, false, cond}
 use mathlib.Core.List.{List, [], ◌∷◌}
-use Prim.Native.Nat.{ℕ, zero, suc, ◌+◌, ◌<◌, ◌≤◌, max}
-use native.Mathlib.Numerals.{add-one}
+use Prim.Native.Nat.{ℕ, zero, suc, ◌+◌, ◌<◌, ◌≤◌}
 use native.Mathlib.Omega.{arith, max_cases}
 use lib.Dec.{eqb}
 use lib.ListN.{length, get_or, drop, drop_of_length-le}
-use lib.Seq.{drop-cons}
-use borrow.Author.Tests.{eqb-true, eqb-false, eq-eqb, ne_eqb}
+use Rattle.std.specs.List.{position_or_len}
+use Rattle.std.proofs.lemmas.List.Recursion.{is_position_or_len}
+use borrow.Author.Tests.{eqb-true, eqb-false, eq-eqb}
 use Rattle.automaton.specs.Choice.{if}
 use Rattle.longest_match.specs.Steps.{greatest, first_with}
 
 -- ---- the greatest
-
--- of those from place i on: the one at i, or one behind it
-pub greatest_next : (ns : List ℕ) (i : ℕ) → i < length ns → greatest (drop i ns) ≡ max (get_or ns i 0) (greatest (drop (i + 1) ns))
-unfolding greatest
-greatest_next ns i l = rw (drop-cons ns i 0 l, add-one)
 
 pub greatest-end : (ns : List ℕ) (i : ℕ) → length ns ≤ i → greatest (drop i ns) ≡ 0
 unfolding greatest
@@ -44,16 +39,6 @@ greatest_stands (n ∷ ns) p = max_cases n (greatest ns) _
 
 -- ---- the first place
 
--- of those from place k on
-module _ (n : ℕ) (ns : List ℕ) (k : ℕ) (l : k < length ns) where
-  pub first_here : get_or ns k 0 ≡ n → first_with n (drop k ns) ≡ 0
-  unfolding first_with
-  first_here e = rw (drop-cons ns k 0 l, eq-eqb _ _ e)
-
-  pub first_next : (get_or ns k 0 ≡ n → ⊥) → first_with n (drop k ns) ≡ first_with n (drop (k + 1) ns) + 1
-  unfolding first_with
-  first_next e = rw (drop-cons ns k 0 l, ne_eqb _ _ e, add-one k) (sym (add-one _))
-
 -- n stands at k, and nowhere before
 pub record First (n : ℕ) (ns : List ℕ) (k : ℕ) : Type 0 where
   pub known : k < length ns
@@ -77,6 +62,24 @@ first_is n (m ∷ ms) k l e = go (eqb m n) refl k l e (first_is n ms)
         before : First n ms (first_with n ms) → (j : ℕ) → j < suc (first_with n ms) → get_or (m ∷ ms) j 0 ≡ n → ⊥
         before f zero q z = eqb-false m n t z
         before f (suc j) q z = f.earlier j (omega arith) z
+
+-- so it is where a search for n ends
+pub first_searched : (n : ℕ) (ns : List ℕ) → first_with n ns ≡ position_or_len (λ m. eqb m n) ns
+unfolding first_with
+first_searched n ns = is_position_or_len (first_with n) (λ m. eqb m n) refl (λ m ms. go (eqb m n) (first_with n ms)) ns
+  where
+    go : (b : Bool) (k : ℕ) → if b 0 (suc k) ≡ cond b 0 (1 + k)
+    go true k = refl
+    go false k = omega arith
+
+pub first_within : (n : ℕ) (ns : List ℕ) → first_with n ns ≤ length ns
+unfolding first_with
+first_within n [] = omega arith
+first_within n (m ∷ ms) = go (eqb m n) (first_within n ms)
+  where
+    go : (b : Bool) → first_with n ms ≤ length ms → if b 0 (suc (first_with n ms)) ≤ suc (length ms)
+    go true l = omega arith
+    go false l = omega arith
 
 -- the first place of the greatest
 pub first-greatest : (ns : List ℕ) → 0 < greatest ns → First (greatest ns) ns (first_with (greatest ns) ns)

@@ -1,11 +1,12 @@
 -- What the layers of the code ask and answer between themselves. Nobody needs to believe it: the operations' contracts do not rest on it.
-use Rattle.std.specs.Prelude.{◌≡◌, true, false, List, ℕ, ◌+◌, ◌-◌, ◌<◌, ◌≤◌, length, take, drop}
+use Rattle.std.specs.Prelude.{◌≡◌, true, false, List, ℕ, ◌+◌, ◌-◌, ◌<◌, ◌≤◌, Option, Some, None, length, take, drop}
 use Rattle.std.proofs.Math.Option.{none, some}
 use Rattle.automaton.specs.Rule.{Rule, walk, matches}
 use Rattle.automaton.specs.Layers.{rule_at}
 use Rattle.longest_match.specs.Lexer.{Found, choose, lex}
 use Rattle.longest_match.specs.Steps.{prefixes, greatest, first_with}
 use Rattle.longest_match.specs.Masks.{agreeing, mask_of}
+use Rattle.longest_match.specs.declared.Choice.{Choice}
 
 -- ---- What the code answers, said of the rules that a table holds.
 
@@ -16,6 +17,19 @@ part text from to = take (to - from) (drop from text)
 -- the first len bytes of a text as a token of this tag
 abbrev pub front : ℕ → ℕ → List ℕ → Found
 front tag len text = record { token = record { tag = tag; bytes = take len text }; rest = drop len text }
+
+-- the parts of a choice; all 0 for none
+abbrev pub chosen_rule : Option Choice → ℕ
+chosen_rule (Some c) = c.rule
+chosen_rule None = 0
+
+abbrev pub chosen_len : Option Choice → ℕ
+chosen_len (Some c) = c.len
+chosen_len None = 0
+
+abbrev pub chosen_mask : Option Choice → ℕ
+chosen_mask (Some c) = c.mask
+chosen_mask None = 0
 
 -- Rule number `rule` is chosen with the first `len` bytes: it matches them, no earlier rule does, and no rule matches more.
 -- Both are 0 where nothing is chosen.

@@ -8,7 +8,6 @@ use mathlib.Core.Option.{Option, none, some}
 use mathlib.Core.List.{List, ◌++◌}
 use Prim.Native.Nat.{ℕ, ◌<◌, ◌≤◌}
 use native.Mathlib.Nat.{zero-add}
-use native.Mathlib.Omega.{arith}
 use lib.Dec.{ltb}
 use lib.ListN.{length, take, drop}
 use borrow.Author.Tests.{lt-ltb, le-ltb, ltb-true, ltb-false}
@@ -55,37 +54,37 @@ pub check_printed : (t : Bool) (reason : Reason) (place : ℕ) (out : List ℕ) 
     → (refused_if t reason place out next).answer ≡ Ok n
     → (t ≡ false) × (next.answer ≡ Ok n)
 unfolding refused_if
-check_printed true number place out next n e = let z : ◌≡◌ {A = ℕ} 0 1 = cc in absurd (omega arith)
-check_printed false number place out next n e = (refl, e)
+check_printed true reason place out next n e = cc
+check_printed false reason place out next n e = (refl, e)
 
 pub unless_printed : (o : Option Refusal) (out : List ℕ) (next : PrintOutcome) (n : ℕ) → (unless o out next).answer ≡ Ok n
     → (o ≡ none) × (next.answer ≡ Ok n)
 unfolding unless
-unless_printed (some f) out next n e = let z : ◌≡◌ {A = ℕ} 0 1 = cc in absurd (omega arith)
+unless_printed (some f) out next n e = cc
 unless_printed none out next n e = (refl, e)
 
 -- ---- up to a limit
 
-module _ (most number : ℕ) (bytes out : List ℕ) where
-  pub up_to_long : most < length bytes → {r : Result ℕ Refusal} → r ≡ Err (record { number = number; place = 0 })
-      → PrintAnswered (written_up_to most number bytes out) r out
+module _ (most : ℕ) (reason : Reason) (bytes out : List ℕ) where
+  pub up_to_long : most < length bytes → {r : Result ℕ Refusal} → r ≡ Err (record { reason = reason; place = 0 })
+      → PrintAnswered (written_up_to most reason bytes out) r out
   unfolding written_up_to refused_if
   up_to_long l a = rw (lt-ltb _ _ l) (record { answer = a; out = refl })
 
   pub up_to_fitting : length bytes ≤ most → {r : Result ℕ Refusal} {exit : List ℕ} → PrintAnswered (written bytes out) r exit
-      → PrintAnswered (written_up_to most number bytes out) r exit
+      → PrintAnswered (written_up_to most reason bytes out) r exit
   unfolding written_up_to refused_if
   up_to_fitting l a = rw (le-ltb _ _ l) a
 
   -- what is accepted, and nothing else
-  pub up_to_accepts : length bytes ≤ most → length bytes ≤ length out → written_up_to most number bytes out ≡ print_accepted bytes out
+  pub up_to_accepts : length bytes ≤ most → length bytes ≤ length out → written_up_to most reason bytes out ≡ print_accepted bytes out
   unfolding written_up_to refused_if
   up_to_accepts l m = rw (le-ltb _ _ l, le-ltb _ _ m)
 
-  pub up_to_printed : {n : ℕ} → (written_up_to most number bytes out).answer ≡ Ok n
+  pub up_to_printed : {n : ℕ} → (written_up_to most reason bytes out).answer ≡ Ok n
       → (length bytes ≤ most) × (length bytes ≤ length out)
   unfolding written_up_to
   up_to_printed {n} e =
-      let a = check_printed (ltb most (length bytes)) number 0 out _ n e in
-      let b = check_printed (ltb (length out) (length bytes)) 22 (length bytes) out _ n a.1 in
+      let a = check_printed (ltb most (length bytes)) reason 0 out _ n e in
+      let b = check_printed (ltb (length out) (length bytes)) OutputTooShort (length bytes) out _ n a.1 in
       (ltb-false _ _ a.0, ltb-false _ _ b.0)

@@ -17,6 +17,7 @@ pub struct TokenRecord {
 
 // Stores record number `k`: of the tag the low two bytes, of place and length the low four. The length goes first, since of a run of stores
 // of single bytes the compiler joins those of the first number to one.
+#[tactic(auto, using(crate::proofs::Records::record_stored))]
 pub fn put_record(records: &mut [u8], k: usize, tag: u64, place: usize, len: usize)
     requires { 10 * k + 10 ≤ length records.old }
     ensures { records.new
@@ -29,6 +30,7 @@ pub fn put_record(records: &mut [u8], k: usize, tag: u64, place: usize, len: usi
 }
 
 // Record number `k`.
+#[tactic(auto, unfolding(crate::specs::Tokens::record_at))]
 pub fn read_record(records: &[u8], k: usize) -> TokenRecord
     requires { 10 * k + 10 ≤ length records.now }
     ensures { result ≡ record_at records.now k }
@@ -42,6 +44,7 @@ pub fn read_record(records: &[u8], k: usize) -> TokenRecord
 }
 
 // Stores mask number `k`.
+#[tactic(auto, using(crate::proofs::Masks::mask_stored))]
 pub fn put_mask(masks: &mut [u8], k: usize, mask: u32)
     requires { 4 * k + 4 ≤ length masks.old }
     ensures { masks.new ≡ take (4 * k) masks.old ++ four mask ++ drop (4 * k + 4) masks.old }

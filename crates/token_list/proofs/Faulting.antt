@@ -1,4 +1,7 @@
 -- The fault of one token, by the number of its rule and what is chosen of its bytes. Assumes nothing.
+use Rattle.answer.specs.declared.Reason.{Reason}
+use Rattle.answer.specs.declared.Reason.TheVariants.{PastThePool, UnknownTag, NotAlone}
+use Rattle.std.specs.Prelude.{Some, None}
 use mathlib.Core.Path.{◌≡◌, refl, sym, ap, ◌∙◌, subst}
 use mathlib.Core.Bool.{Bool, true, false, not}
 use mathlib.Core.Option.{Option, none, some}
@@ -26,7 +29,6 @@ use Rattle.record.specs.declared.TokenRecord.{TokenRecord}
 use Rattle.record.specs.Tokens.{bytes_in}
 use Rattle.token_list.specs.Faults.{alone_in, fault_of}
 use Rattle.token_list.specs.Layers.{fault_for}
-use Rattle.token_list.specs.declared.faults.Fault.TheVariants as fault
 use Rattle.token_list.proofs.Alone.{alone_first}
 
 -- ---- by the number of the tag's rule
@@ -132,19 +134,19 @@ module _ {rules : List Rule} {tag k : ℕ} (r : Ranks rules tag k) where
 -- ---- the fault of a token
 
 module _ (rules : List Rule) (pool : List ℕ) (r : TokenRecord) where
-  pub fault_17 : length pool < r.place + r.len → fault_of rules pool r ≡ some 17
+  pub fault_outside : length pool < r.place + r.len → fault_of rules pool r ≡ some PastThePool
   unfolding fault_of
-  fault_17 l = rw (lt-ltb _ _ l)
+  fault_outside l = rw (lt-ltb _ _ l)
 
   module _ (in_pool : r.place + r.len ≤ length pool) where
-    pub fault_18 : tagged r.tag rules ≡ false → fault_of rules pool r ≡ some 18
+    pub fault_untagged : tagged r.tag rules ≡ false → fault_of rules pool r ≡ some UnknownTag
     unfolding fault_of
-    fault_18 e = rw (le-ltb _ _ in_pool, e)
+    fault_untagged e = rw (le-ltb _ _ in_pool, e)
 
     module _ (known : tagged r.tag rules ≡ true) where
-      pub fault_19 : alone_in rules r.tag (bytes_in pool r) ≡ false → fault_of rules pool r ≡ some 19
+      pub fault_unalone : alone_in rules r.tag (bytes_in pool r) ≡ false → fault_of rules pool r ≡ some NotAlone
       unfolding fault_of
-      fault_19 e = rw (le-ltb _ _ in_pool, known, e)
+      fault_unalone e = rw (le-ltb _ _ in_pool, known, e)
 
       pub fault_none : alone_in rules r.tag (bytes_in pool r) ≡ true → fault_of rules pool r ≡ none
       unfolding fault_of
@@ -163,7 +165,7 @@ fine rules pool r e = go (ltb (length pool) (r.place + r.len)) refl (tagged r.ta
   where
     go : (a : Bool) → ltb (length pool) (r.place + r.len) ≡ a → (b : Bool) → tagged r.tag rules ≡ b
         → (d : Bool) → alone_in rules r.tag (bytes_in pool r) ≡ d
-        → if {A = Option ℕ} a (some 17) (if (not b) (some 18) (if (not d) (some 19) none)) ≡ none → Fine rules pool r
+        → if {A = Option Reason} a (some PastThePool) (if (not b) (some UnknownTag) (if (not d) (some NotAlone) none)) ≡ none → Fine rules pool r
     go true p b q d s z = nothing z refl
     go false p false q d s z = nothing z refl
     go false p true q false s z = nothing z refl
@@ -172,35 +174,38 @@ fine rules pool r e = go (ltb (length pool) (r.place + r.len)) refl (tagged r.ta
 -- ---- the check of a token
 
 pub checked_outside : (rules : List Rule) (pool : List ℕ) (r : TokenRecord) → length pool < r.place + r.len
-    → fault.By 17 ≡ fault_for (fault_of rules pool r)
-checked_outside rules pool r l = ap fault_for (sym (fault_17 rules pool r l))
+    → Some PastThePool ≡ fault_for (fault_of rules pool r)
+checked_outside rules pool r l = ap fault_for (sym (fault_outside rules pool r l))
 
 pub bytes_length : (pool : List ℕ) (r : TokenRecord) → r.place + r.len ≤ length pool → length (bytes_in pool r) ≡ r.len
 bytes_length pool r l = length-take-le r.len (drop r.place pool) (simp length-drop (omega arith))
 
 module _ {tb : List ℕ} {rules : List Rule} (h : Holds tb rules) (pool : List ℕ) (r : TokenRecord)
-    (in_pool : r.place + r.len ≤ length pool) {k n : ℕ} (ranks : Ranks rules r.tag k) (count : n ≡ length rules) where
-  pub checked_unknown : k ≡ n → fault.By 18 ≡ fault_for (fault_of rules pool r)
-  checked_unknown e = ap fault_for (sym (fault_18 rules pool r in_pool (ranks_none ranks (e ∙ count))))
+    (in_pool : r.place + r.len ≤ length pool) where
+  pub checked_unknown : Ranks rules r.tag (length rules) → Some UnknownTag ≡ fault_for (fault_of rules pool r)
+  checked_unknown ranks = ap fault_for (sym (fault_untagged rules pool r in_pool (ranks_none ranks refl)))
 
-  module _ (differs : k ≡ n → ⊥) {rule len : ℕ} (c : Chooses rules (bytes_in pool r) rule len) where
+  module _ {k : ℕ} (ranks : (k < length rules) × Ranks rules r.tag k) {rule len : ℕ} (c : Chooses rules (bytes_in pool r) rule len) where
     known : k ≡ length rules → ⊥
-    known e = differs (e ∙ sym count)
+    known e = let l = ranks.0 in omega arith
 
-    not_alone : alone_in rules r.tag (bytes_in pool r) ≡ false → fault.By 19 ≡ fault_for (fault_of rules pool r)
-    not_alone e = ap fault_for (sym (fault_19 rules pool r in_pool (ranks_some ranks known) e))
+    not_alone : alone_in rules r.tag (bytes_in pool r) ≡ false → Some NotAlone ≡ fault_for (fault_of rules pool r)
+    not_alone e = ap fault_for (sym (fault_unalone rules pool r in_pool (ranks_some ranks.1 known) e))
 
-    pub checked-idle : len ≡ 0 → fault.By 19 ≡ fault_for (fault_of rules pool r)
-    checked-idle e = not_alone (alone_idle ranks known (held_empty h) c e)
+    pub checked-idle : len ≡ 0 → Some NotAlone ≡ fault_for (fault_of rules pool r)
+    checked-idle e = not_alone (alone_idle ranks.1 known (held_empty h) c e)
 
-    pub checked-part : (len ≡ r.len → ⊥) → fault.By 19 ≡ fault_for (fault_of rules pool r)
-    checked-part ne = not_alone (alone_part ranks known (held_empty h) c (λ e. ne (e ∙ bytes_length pool r in_pool)))
+    pub checked-part : (len ≡ r.len → ⊥) → Some NotAlone ≡ fault_for (fault_of rules pool r)
+    checked-part ne = not_alone (alone_part ranks.1 known (held_empty h) c (λ e. ne (e ∙ bytes_length pool r in_pool)))
 
-    module _ (some_byte : len ≡ 0 → ⊥) (all : len ≡ r.len) where
-      pub checked_other : (rule ≡ k → ⊥) → fault.By 19 ≡ fault_for (fault_of rules pool r)
-      checked_other ne = not_alone (alone_other ranks known (held_empty h) c some_byte (all ∙ sym (bytes_length pool r in_pool)) ne)
+    module _ (some_byte : 0 < len) (all : len ≡ r.len) where
+      idle : len ≡ 0 → ⊥
+      idle z = omega arith
 
-      pub checked_same : rule ≡ k → fault.Nothing ≡ fault_for (fault_of rules pool r)
+      pub checked_other : (rule ≡ k → ⊥) → Some NotAlone ≡ fault_for (fault_of rules pool r)
+      checked_other ne = not_alone (alone_other ranks.1 known (held_empty h) c idle (all ∙ sym (bytes_length pool r in_pool)) ne)
+
+      pub checked_same : rule ≡ k → None ≡ fault_for (fault_of rules pool r)
       checked_same e =
-          ap fault_for (sym (fault_none rules pool r in_pool (ranks_some ranks known)
-          (alone_same ranks known (held_empty h) c some_byte (all ∙ sym (bytes_length pool r in_pool)) e)))
+          ap fault_for (sym (fault_none rules pool r in_pool (ranks_some ranks.1 known)
+          (alone_same ranks.1 known (held_empty h) c idle (all ∙ sym (bytes_length pool r in_pool)) e)))

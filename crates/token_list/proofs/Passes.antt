@@ -1,11 +1,14 @@
 -- The passes over a list of tokens: what holds at the head of each loop, and how a turn keeps it. Assumes nothing.
+use Rattle.answer.specs.declared.Reason.{Reason}
+use Rattle.std.specs.Prelude.{Ok, Err, Some, None}
 use mathlib.Core.Path.{◌≡◌, refl, sym, ap, ◌∙◌, subst}
 use mathlib.Core.Option.{Option, none, some}
 use mathlib.Core.List.{List, [], ◌∷◌, ◌++◌}
-use Prim.Native.Nat.{ℕ, zero, suc, ◌+◌, ◌-◌, ◌<◌, ◌≤◌}
+use Prim.Native.Nat.{ℕ, zero, suc, ◌+◌, ◌-◌, ◌*◌, ◌<◌, ◌≤◌}
 use native.Mathlib.Omega.{arith}
 use native.Mathlib.Numerals.{add-one}
-use lib.ListN.{length, drop}
+use lib.ListN.{length, get_or, drop}
+use Rattle.record.specs.Encoding.{Fits}
 use lib.Seq.{paste}
 use Rattle.automaton.specs.Choice.{All}
 use Rattle.automaton.specs.Rule.{Rule}
@@ -18,10 +21,7 @@ use Rattle.output.proofs.Filling.{Filling, filling_start, filling_room, filling_
 use Rattle.token_list.specs.Faults.{fault_of}
 use Rattle.token_list.specs.Checks.{refuse_by, first_fault}
 use Rattle.token_list.specs.Layers.{checked_of, fault_for, Fitting, Joined}
-use Rattle.token_list.specs.declared.faults.Fault.TheVariants as faults
 use Rattle.token_list.proofs.Faulting.{fine, bytes_length}
-use Rattle.token_list.specs.declared.Checked.{Checked}
-use Rattle.token_list.specs.declared.Checked.TheVariants as checked
 
 -- ---- the records from number k on
 
@@ -51,52 +51,62 @@ record_at_lem P records h k l = (subst (All P) (left_next records k l) (from k (
         let q : j < record_count records = omega arith in
         subst (λ (i : ℕ). All P (left records i)) (add-one j) (subst (All P) (left_next records j q) (from j (omega arith))).1
 
+-- a record of bytes has fields that fit their types
+pub record_fits : (records : List ℕ) (k : ℕ) {r : TokenRecord} → r ≡ record_at records k → ((i : ℕ) → get_or records i 0 < 256) → Fits r
+unfolding record_at
+record_fits records k e b =
+    subst Fits (sym e)
+    (record {
+      tag = omega (arith, b (10 * k), b (10 * k + 1));
+      place = omega (arith, b (10 * k + 2), b (10 * k + 2 + 1), b (10 * k + 2 + 2), b (10 * k + 2 + 3));
+      len = omega (arith, b (10 * k + 6), b (10 * k + 6 + 1), b (10 * k + 6 + 2), b (10 * k + 6 + 3));
+    })
+
 -- ---- the first fault
 
-pub by_number : {number : ℕ} (o : Option ℕ) → faults.By number ≡ fault_for o → o ≡ some number
-by_number none e = let z : ◌≡◌ {A = ℕ} 0 1 = cc in absurd (omega arith)
-by_number {number} (some n) e = let z : n ≡ number = cc in ap some z
+pub by_reason : {reason : Reason} (o : Option Reason) → Some reason ≡ fault_for o → o ≡ some reason
+by_reason none e = cc
+by_reason (some n) e = cc
 
-pub by_none : (o : Option ℕ) → faults.Nothing ≡ fault_for o → o ≡ none
+pub by_none : (o : Option Reason) → None ≡ fault_for o → o ≡ none
 by_none none e = refl
-by_none (some n) e = let z : ◌≡◌ {A = ℕ} 0 1 = cc in absurd (omega arith)
+by_none (some n) e = cc
 
 -- the first k tokens have no fault
-pub record Passing (fault : TokenRecord → Option ℕ) (records : List ℕ) (k : ℕ) : Type 0 where
+pub record Passing (fault : TokenRecord → Option Reason) (records : List ℕ) (k : ℕ) : Type 0 where
   pub within : k ≤ record_count records
   pub first : first_fault fault (records_of records) 0 ≡ first_fault fault (left records k) k
 
-pub passing_start : (fault : TokenRecord → Option ℕ) (records : List ℕ) → Passing fault records 0
+pub passing_start : (fault : TokenRecord → Option Reason) (records : List ℕ) → Passing fault records 0
 passing_start fault records = record { within = omega arith; first = rw left-start }
 
-module _ {fault : TokenRecord → Option ℕ} {records : List ℕ} {k : ℕ} (w : Passing fault records k) where
+module _ {fault : TokenRecord → Option Reason} {records : List ℕ} {k : ℕ} (w : Passing fault records k) where
   module _ (more : k < record_count records) {r : TokenRecord} (e : r ≡ record_at records k) where
     fault_here : first_fault fault (records_of records) 0 ≡ refuse_by (fault r) k (first_fault fault (left records (k + 1)) (k + 1))
     unfolding first_fault
     fault_here = w.first ∙ rw (left_next records k more, ← e, add-one)
 
-    pub passing_refused : {number : ℕ} → faults.By number ≡ fault_for (fault r)
-        → {c : Checked} → c ≡ checked.Refused (record { number = number; place = k }) → c
-        ≡ checked_of (first_fault fault (records_of records) 0)
+    pub passing_refused : {reason : Reason} → Some reason ≡ fault_for (fault r)
+        → Err (record { reason = reason; place = k }) ≡ checked_of (first_fault fault (records_of records) 0)
     unfolding refuse_by
-    passing_refused {number} f a = a ∙ rw (fault_here, by_number (fault r) f)
+    passing_refused f = rw (fault_here, by_reason (fault r) f)
 
-    pub passing_next : faults.Nothing ≡ fault_for (fault r) → Passing fault records (k + 1)
+    pub passing_next : None ≡ fault_for (fault r) → Passing fault records (k + 1)
     unfolding refuse_by
     passing_next f = record { within = omega arith; first = fault_here ∙ rw (by_none (fault r) f) }
 
-  pub passing_end : record_count records ≤ k → checked.Passed ≡ checked_of (first_fault fault (records_of records) 0)
+  pub passing_end : record_count records ≤ k → Ok tt ≡ checked_of (first_fault fault (records_of records) 0)
   unfolding first_fault
   passing_end l = rw (w.first, left_end records k l)
 
 -- no fault in a list: none at its front and none behind
-pub faultless_front : (fault : TokenRecord → Option ℕ) (r : TokenRecord) (rs : List TokenRecord) (k : ℕ) → first_fault fault (r ∷ rs) k
+pub faultless_front : (fault : TokenRecord → Option Reason) (r : TokenRecord) (rs : List TokenRecord) (k : ℕ) → first_fault fault (r ∷ rs) k
     ≡ none
     → (fault r ≡ none) × (first_fault fault rs (suc k) ≡ none)
 unfolding first_fault refuse_by
 faultless_front fault r rs k e = go (fault r) refl e
   where
-    go : (o : Option ℕ) → fault r ≡ o → refuse_by o k (first_fault fault rs (suc k)) ≡ none
+    go : (o : Option Reason) → fault r ≡ o → refuse_by o k (first_fault fault rs (suc k)) ≡ none
         → (fault r ≡ none) × (first_fault fault rs (suc k) ≡ none)
     go (some n) q z = nothing z refl
     go none q z = (q, z)

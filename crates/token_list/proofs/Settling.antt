@@ -1,12 +1,16 @@
 -- The loops of `measure` and `read_back`: what holds at their heads, how a turn keeps it, and how they end. Assumes nothing.
 use Rattle.answer.specs.declared.Reason.TheVariants.{ReadOn}
-use mathlib.Core.Path.{◌≡◌, sym, ap, ◌∙◌, subst}
-use mathlib.Core.Bool.{true}
+use Rattle.std.specs.Prelude.{Option as Maybe, Some, None, MatchOption}
+use mathlib.Core.Path.{◌≡◌, refl, sym, ap, ◌∙◌, subst}
+use mathlib.Core.Bool.{Bool, true, false, not}
 use mathlib.Core.Option.{none, some}
 use mathlib.Core.List.{List, [], ◌∷◌, ◌++◌}
 use Prim.Native.Nat.{ℕ, ◌+◌, ◌<◌, ◌≤◌}
 use native.Mathlib.Omega.{arith}
 use native.Mathlib.Numerals.{add-one}
+use lib.Dec.{eqb}
+use borrow.Author.Tests.{eqb-true, eq-eqb}
+use Rattle.std.specs.Option.{option_eq}
 use lib.ListN.{length, drop, length-append, length-drop}
 use lib.Seq.{drop-drop, drop_at}
 use Rattle.automaton.specs.Choice.{All}
@@ -27,12 +31,8 @@ use Rattle.token_list.specs.Checks.{refuse_by, first_fault, first_extended}
 use Rattle.token_list.proofs.Extended.{matched_long, read_no_more, read_on, extended_later, extended_here}
 use Rattle.token_list.proofs.Passes.{left, left-start, left_next, left_end, record_at_lem, faultless_front}
 use Rattle.token_list.specs.Layers.{Spanned, Spans, Spread, Faultless, ReadsBack}
-use Rattle.token_list.specs.declared.readback.Extent.TheVariants as extent
 
 -- ---- how many bytes
-
-beyond_bytes : {n : ℕ} → extent.Beyond ≡ extent.Bytes n → ⊥
-beyond_bytes e = let z : ◌≡◌ {A = ℕ} 0 1 = cc in omega arith
 
 -- the first k tokens lie in the pool and have `total` bytes
 pub record Spanning (records pool : List ℕ) (total k : ℕ) : Type 0 where
@@ -52,10 +52,10 @@ spanning_start records pool =
 
 module _ {records pool : List ℕ} {total k : ℕ} (w : Spanning records pool total k) where
   module _ (more : k < record_count records) {r : TokenRecord} (e : r ≡ record_at records k) where
-    pub spanning_outside : length pool < r.place + r.len → Spans records pool extent.Beyond
+    pub spanning_outside : length pool < r.place + r.len → Spans records pool None
     spanning_outside l =
         record {
-          fits = λ n q. absurd (beyond_bytes q);
+          fits = λ n q. cc;
           beyond = λ _ h. let i = subst (InPool pool) (sym e) (record_at_lem (InPool pool) records h k more) in absurd
               (omega (arith, i.in_pool));
         }
@@ -78,8 +78,8 @@ module _ {records pool : List ℕ} {total k : ℕ} (w : Spanning records pool to
             sum = longer;
           }
 
-      pub spanning_long : max_text < total + r.len → Spans records pool extent.Beyond
-      spanning_long l = record { fits = λ n q. absurd (beyond_bytes q); beyond = λ _ h. omega (arith, longer) }
+      pub spanning_long : max_text < total + r.len → Spans records pool None
+      spanning_long l = record { fits = λ n q. cc; beyond = λ _ h. omega (arith, longer) }
 
   spanned : record_count records ≤ k → Spanned records pool total
   unfolding tokens_in
@@ -87,14 +87,25 @@ module _ {records pool : List ℕ} {total k : ℕ} (w : Spanning records pool to
       let s = rw (left_end records k l) at w.sum in
       record { each = w.inside (rw (left_end records k l) tt); bytes = omega arith; short = w.short }
 
-  pub spanning_end : record_count records ≤ k → Spans records pool (extent.Bytes total)
+  pub spanning_end : record_count records ≤ k → Spans records pool (Some total)
   spanning_end l =
       record {
         fits = λ n q. let e : total ≡ n = cc in subst (Spanned records pool) e (spanned l);
-        beyond = λ q. absurd (beyond_bytes (sym q));
+        beyond = λ q. cc;
       }
 
 -- ---- reading back
+
+-- the number that is found is the one that is asked for
+pub found : {rules : List Rule} {tag rule : ℕ} (o : Maybe ℕ)
+    → MatchOption o (Ranks rules tag (length rules)) (λ (i : ℕ). (i < length rules) × Ranks rules tag i)
+    → not (option_eq eqb o (Some rule)) ≡ false → (rule < length rules) × Ranks rules tag rule
+found None ranks e = cc
+found {rules} {tag} {rule} (Some rank) ranks e = go (eqb rank rule) refl e
+  where
+    go : (t : Bool) → eqb rank rule ≡ t → not t ≡ false → (rule < length rules) × Ranks rules tag rule
+    go true q z = subst (λ (i : ℕ). (i < length rules) × Ranks rules tag i) (eqb-true rank rule q) ranks
+    go false q z = cc
 
 -- the first k tokens, `at` bytes, are alone and not read on
 pub record Retracing (rules : List Rule) (records pool text : List ℕ) (at k : ℕ) : Type 0 where
@@ -143,38 +154,9 @@ module _ {rules : List Rule} {records pool text : List ℕ} {at k : ℕ} (w : Re
         → ReadsBack rules records pool k
     here_first f = record { settled = λ l. absurd (omega arith); first = λ _. f }
 
-    module _ {rank rule len : ℕ} (ranks : Ranks rules r.tag rank) (c : Chooses rules (drop at text) rule len) where
+    module _ {rule len : ℕ} (c : Chooses rules (drop at text) rule len) where
       chosen_here : Chooses rules (bytes_in pool r ++ join (tokens_in pool (left records (k + 1)))) rule len
       chosen_here = subst (λ (x : List ℕ). Chooses rules x rule len) split c
-
-      -- the token itself is chosen
-      module _ (some_byte : len ≡ 0 → ⊥) (all : len ≡ r.len) (same : rule ≡ rank) where
-        known : rank ≡ length rules → ⊥
-        known z = let l = c.known (omega arith) in omega arith
-
-        alone : alone_in rules r.tag (bytes_in pool r) ≡ true
-        alone = front_same ranks known (bytes_in pool r) (join (tokens_in pool (left records (k + 1)))) chosen_here some_byte
-            (all ∙ sym long) same
-
-        no_fault : fault_of rules pool r ≡ none
-        no_fault = fault_none rules pool r in_pool (ranks_some ranks known) alone
-
-        pub retracing_next : Retracing rules records pool text (at + r.len) (k + 1)
-        unfolding first_fault tokens_in refuse_by
-        retracing_next =
-            record {
-              within = retracing_within;
-              few = omega arith;
-              behind = sym (drop-drop r.len at text) ∙ rw split
-                  (drop_at (bytes_in pool r) (join (tokens_in pool (left records (k + 1)))) r.len long);
-              each = each_here.1;
-              faults = w.faults ∙ rw (front_is, no_fault, add-one);
-              first = w.first ∙ rw front_is
-                  (extended_later rules (token_in pool r) (tokens_in pool (left records (k + 1))) k
-                  (read_no_more rules (bytes_in pool r) (join (tokens_in pool (left records (k + 1)))) r.tag empty
-                  (alone_first rules r.tag (bytes_in pool r) alone) chosen_here (all ∙ sym long))
-                  ∙ ap (first_extended rules (tokens_in pool (left records (k + 1)))) (sym (add-one k)));
-            }
 
       -- if no token is at fault, this one is chosen, or read on
       module _ (none-at-fault : Faultless rules records pool) where
@@ -197,11 +179,14 @@ module _ {rules : List Rule} {records pool text : List ℕ} {at k : ℕ} (w : Re
         none_chosen : len ≡ 0 → len ≡ r.len → ⊥
         none_chosen z q = let l = matched_long rules (bytes_in pool r) r.tag empty matched in omega (arith, long)
 
-        another_rule : (len ≡ 0 → ⊥) → len ≡ r.len → (rule ≡ rank → ⊥) → ⊥
-        another_rule some_byte all ne =
+        unranked : Ranks rules r.tag (length rules) → ⊥
+        unranked ranks = clash token_fine.known (ranks_none ranks refl)
+
+        another_rule : {rank : ℕ} → Ranks rules r.tag rank → 0 < len → len ≡ r.len → (rule ≡ rank → ⊥) → ⊥
+        another_rule ranks some_byte all ne =
             clash token_fine.alone
             (front_other ranks (λ z. clash token_fine.known (ranks_none ranks z)) (bytes_in pool r)
-            (join (tokens_in pool (left records (k + 1)))) chosen_here some_byte (all ∙ sym long) ne)
+            (join (tokens_in pool (left records (k + 1)))) chosen_here (λ z. omega arith) (all ∙ sym long) ne)
 
       -- the token is not what is chosen
       pub retracing_none : len ≡ 0 → ReadsBack rules records pool k
@@ -210,8 +195,42 @@ module _ {rules : List Rule} {records pool text : List ℕ} {at k : ℕ} (w : Re
       pub retracing_longer : (len ≡ r.len → ⊥) → ReadsBack rules records pool k
       retracing_longer ne = here_first (λ f. reading_on f ne)
 
-      pub retracing_other : (len ≡ 0 → ⊥) → len ≡ r.len → (rule ≡ rank → ⊥) → ReadsBack rules records pool k
-      retracing_other some_byte all ne = here_first (λ f. absurd (another_rule f some_byte all ne))
+      module _ (some_byte : 0 < len) (all : len ≡ r.len) where
+        pub retracing_other : (o : Maybe ℕ)
+            → MatchOption o (Ranks rules r.tag (length rules)) (λ (i : ℕ). (i < length rules) × Ranks rules r.tag i)
+            → not (option_eq eqb o (Some rule)) ≡ true → ReadsBack rules records pool k
+        retracing_other None ranks ne = here_first (λ f. absurd (unranked f ranks))
+        retracing_other (Some rank) ranks ne =
+            here_first (λ f. absurd (another_rule f ranks.1 some_byte all (λ e. clash ne (ap not (eq-eqb rank rule (sym e))))))
+
+        -- the token itself is chosen
+        module _ (ranks : (rule < length rules) × Ranks rules r.tag rule) where
+          known : rule ≡ length rules → ⊥
+          known z = let l = ranks.0 in omega arith
+
+          alone : alone_in rules r.tag (bytes_in pool r) ≡ true
+          alone = front_same ranks.1 known (bytes_in pool r) (join (tokens_in pool (left records (k + 1)))) chosen_here (λ z. omega arith)
+              (all ∙ sym long) refl
+
+          no_fault : fault_of rules pool r ≡ none
+          no_fault = fault_none rules pool r in_pool (ranks_some ranks.1 known) alone
+
+          pub retracing_next : Retracing rules records pool text (at + r.len) (k + 1)
+          unfolding first_fault tokens_in refuse_by
+          retracing_next =
+              record {
+                within = retracing_within;
+                few = omega arith;
+                behind = sym (drop-drop r.len at text) ∙ rw split
+                    (drop_at (bytes_in pool r) (join (tokens_in pool (left records (k + 1)))) r.len long);
+                each = each_here.1;
+                faults = w.faults ∙ rw (front_is, no_fault, add-one);
+                first = w.first ∙ rw front_is
+                    (extended_later rules (token_in pool r) (tokens_in pool (left records (k + 1))) k
+                    (read_no_more rules (bytes_in pool r) (join (tokens_in pool (left records (k + 1)))) r.tag empty
+                    (alone_first rules r.tag (bytes_in pool r) alone) chosen_here (all ∙ sym long))
+                    ∙ ap (first_extended rules (tokens_in pool (left records (k + 1)))) (sym (add-one k)));
+              }
 
   pub retracing_end : record_count records ≤ k → ReadsBack rules records pool k
   unfolding first_fault first_extended tokens_in

@@ -10,8 +10,8 @@ use Rattle.record.specs.declared.TokenRecord.{TokenRecord}
 
 -- refused by this number at this place where the test holds; the place of a token is its number, the first being number k
 unfoldable pub refuse : Bool → Reason → ℕ → Option Refusal → Option Refusal
-refuse true reason place next = some (record { reason = reason; place = place })
-refuse false reason place next = next
+refuse true why place next = some (record { reason = why; place = place })
+refuse false why place next = next
 
 -- refused by the number, if there is one
 unfoldable pub refuse_by : Option Reason → ℕ → Option Refusal → Option Refusal

@@ -9,6 +9,8 @@ use Rattle.automaton.specs.Rule.{Rule}
 use Rattle.book.specs.Limits.{max_text}
 use Rattle.longest_match.specs.Lexer.{join}
 use Rattle.record.specs.Records.{record_count}
+use Rattle.record.specs.Encoding.{Fits}
+use Rattle.record.specs.declared.TokenRecord.{TokenRecord}
 use Rattle.record.specs.Tokens.{records_of, tokens_of, InPool}
 use Rattle.token_list.specs.Faults.{fault_of}
 use Rattle.token_list.specs.Checks.{first_fault, first_extended}
@@ -22,6 +24,10 @@ checked_of (some f) = Err f
 abbrev pub fault_for : Option Reason → Maybe Reason
 fault_for none = None
 fault_for (some reason) = Some reason
+
+-- whatever is answered of a token whose fields fit their types is the reason that `fault` gives
+abbrev pub Finds : (TokenRecord → Maybe Reason → Type 0) → (TokenRecord → Option Reason) → Type 0
+Finds answers fault = (r : TokenRecord) (o : Maybe Reason) → Fits r → answers r o → o ≡ fault_for (fault r)
 
 -- ---- joining
 
