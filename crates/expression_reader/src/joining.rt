@@ -38,8 +38,7 @@ fn widen(flag: bool, set: u64, other: u64) -> u64
 
 // To each position from `from` up to `to` that is in `last`, those of `first` follow.
 #[tactic(auto, using(crate::proofs::Linking::link_all))]
-fn link(follow: &mut [u64], from: usize, to: usize, last: u64, first: u64)
-    requires { length follow.old ≡ 64 }
+fn link(follow: &mut [u64; 64], from: usize, to: usize, last: u64, first: u64)
     ensures { Linked from to last first follow.old follow.new }
 {
     for p in from..to.min(64) {

@@ -64,7 +64,6 @@ module _ (text : List ℕ) (at low high next s : ℕ) (t t' : List ℕ)
         record {
           behind = omega (arith, f.behind);
           inside = omega arith;
-          full = m.full;
           answer =
               subst (λ (n : ℕ). (r : Result ℕ ℕ) (end : List ℕ) → ListReads text n s t' end r → ListReads text at s t end r) (sym e) (on l q);
         }
@@ -90,7 +89,6 @@ list_fault text at place f = record { fault = items_unfold (drop at text) ∙ ap
 -- what reading from `at` on answers is the answer
 pub record Listing (text : List ℕ) (start s : ℕ) (t t' : List ℕ) (at : ℕ) : Type 0 where
   pub inside : at ≤ length text
-  pub full : length t' ≡ 256
   pub answer : (r : Result ℕ ℕ) (end : List ℕ) → ListReads text at s t' end r → ListReads text start s t end r
 
 pub listing_closed : {text : List ℕ} {start s at next : ℕ} {t t' end : List ℕ} → Listing text start s t t' at

@@ -41,12 +41,12 @@ same_test false false f g = refl
 -- ---- marks
 
 pub marked_same : {f g : ℕ → Bool} {s : ℕ} {t t' : List ℕ} → Marked f s t t' → ((b : ℕ) → b < 256 → f b ≡ g b) → Marked g s t t'
-marked_same m h = record { full = m.full; marked = λ b l. rw (← h b l) (m.marked b l) }
+marked_same m h = record { marked = λ b l. rw (← h b l) (m.marked b l) }
 
 -- one after the other
 pub marked_or : {f g : ℕ → Bool} {s : ℕ} {t t' t'' : List ℕ} → Marked f s t t' → Marked g s t' t'' → Marked (λ b. f b || g b) s t t''
 marked_or {f} {g} {s} {t} m k =
-    record { full = k.full; marked = λ b l. k.marked b l ∙ rw (m.marked b l) (go (f b) (g b) (get_or t b 0)) }
+    record { marked = λ b l. k.marked b l ∙ rw (m.marked b l) (go (f b) (g b) (get_or t b 0)) }
   where
     go : (x y : Bool) (a : ℕ) → if y (bit_or (if x (bit_or a s) a) s) (if x (bit_or a s) a) ≡ if (x || y) (bit_or a s) a
     go true true a = or_again a s

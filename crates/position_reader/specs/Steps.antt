@@ -16,14 +16,8 @@ use Rattle.position_reader.specs.declared.ListStep.TheVariants.{More, Closed}
 abbrev pub only : ℕ → ℕ
 only n = set_of (λ (p : ℕ). eqb p n)
 
--- the tables have a set for each byte and for each position below 64
-pub record Full (takers follow : List ℕ) : Type 0 where
-  pub bytes : length takers ≡ 256
-  pub positions : length follow ≡ 64
-
 -- to each byte that passes the test the set is added
 pub record Marked (test : ℕ → Bool) (set : ℕ) (takers takers' : List ℕ) : Type 0 where
-  pub full : length takers' ≡ 256
   pub marked : (b : ℕ) → b < 256 → get_or takers' b 0 ≡ if (test b) (bit_or (get_or takers b 0) set) (get_or takers b 0)
 
 -- ---- a bracket list
@@ -60,7 +54,6 @@ ListReads text at set takers takers' r = MatchResult r (λ next. ListFound text 
 pub record ListOn (text : List ℕ) (at set next : ℕ) (takers takers' : List ℕ) : Type 0 where
   pub behind : at < next
   pub inside : next ≤ length text
-  pub full : length takers' ≡ 256
   pub answer : (r : Result ℕ ℕ) (last : List ℕ) → ListReads text next set takers' last r → ListReads text at set takers last r
 
 abbrev pub ListGoes : List ℕ → ℕ → ℕ → List ℕ → List ℕ → ListStep → Type 0

@@ -8,7 +8,7 @@ ghost use Rattle.expression.specs.Spelling.{is_special, is_ordinary, is_listed};
 ghost use Rattle.expression.specs.Reading.{Parsed, item_at, low_end, high_end, list_of, items_in, escaped_at, atom_at};
 ghost use Rattle.position_reader.specs.Layers.{Reads, Ready, starts_with};
 ghost use Rattle.position_reader.specs.Steps.{only, Marked, ItemReads, Behind, ListReads, ListSteps};
-ghost use Rattle.position_reader.specs.Steps.{Full, Positioned, ReadPosition};
+ghost use Rattle.position_reader.specs.Steps.{Positioned, ReadPosition};
 
 // What has been read of a text, with the positions from a number on: the place behind it, the number of the next position, how deep its
 // parentheses are, whether it matches the empty string, and which positions can match the first and the last byte of a string.
@@ -70,8 +70,7 @@ fn is_listed(b: u8) -> bool
 }
 
 // Adds a set to the bytes from `low` to `high`.
-fn mark(takers: &mut [u64], low: u8, high: u8, added: u64)
-    requires { length takers.old ≡ 256 }
+fn mark(takers: &mut [u64; 256], low: u8, high: u8, added: u64)
     ensures { Marked (λ (b : ℕ). leb low b && leb b high) added takers.old takers.new }
 {
     for b in low..=high {
@@ -124,8 +123,8 @@ fn read_high_end(text: &[u8], low: u8, at: usize) -> Result<Item, usize>
 }
 
 // An item of a list, whose bytes get the set; and what stands behind it.
-fn list_step(text: &[u8], at: usize, added: u64, takers: &mut [u64]) -> Result<ListStep, usize>
-    requires { (at ≤ length text.now) × (length takers.old ≡ 256) }
+fn list_step(text: &[u8], at: usize, added: u64, takers: &mut [u64; 256]) -> Result<ListStep, usize>
+    requires { at ≤ length text.now }
     ensures { ListSteps text.now at added takers.old takers.new result }
 {
     let item = read_item(text, at)?;
@@ -147,8 +146,8 @@ fn after_item(text: &[u8], at: usize) -> Result<ListStep, usize>
 
 // A list, behind its [, up to behind its ]; the bytes of its items get the set.
 #[tactic(auto, using(crate::proofs::Lists::listing_closed, crate::proofs::Lists::listing_fault))]
-fn read_list(text: &[u8], start: usize, added: u64, takers: &mut [u64]) -> Result<usize, usize>
-    requires { (start ≤ length text.now) × (length takers.old ≡ 256) }
+fn read_list(text: &[u8], start: usize, added: u64, takers: &mut [u64; 256]) -> Result<usize, usize>
+    requires { start ≤ length text.now }
     ensures { ListReads text.now start added takers.old takers.new result }
 {
     let mut at = start;
@@ -162,8 +161,8 @@ fn read_list(text: &[u8], start: usize, added: u64, takers: &mut [u64]) -> Resul
 
 // The part that is position `base`, up to `at`; as yet no position follows it.
 #[tactic(auto, using(crate::proofs::Parts::positioned_below, crate::proofs::Parts::positioned_above))]
-fn position_part(at: usize, base: usize, follow: &mut [u64]) -> Part
-    requires { (base < at) × (length follow.old ≡ 64) }
+fn position_part(at: usize, base: usize, follow: &mut [u64; 64]) -> Part
+    requires { base < at }
     ensures { Positioned at base result follow.old follow.new }
 {
     if base < 64 {
@@ -181,8 +180,8 @@ fn position_part(at: usize, base: usize, follow: &mut [u64]) -> Part
 }
 
 // A byte that stands for itself, up to `at`.
-fn read_byte(b: u8, at: usize, base: usize, takers: &mut [u64], follow: &mut [u64]) -> Part
-    requires { (base < at) × Full takers.old follow.old }
+fn read_byte(b: u8, at: usize, base: usize, takers: &mut [u64; 256], follow: &mut [u64; 64]) -> Part
+    requires { base < at }
     ensures { ReadPosition (byte b) at base result takers.old takers.new follow.old follow.new }
 {
     mark(takers, b, b, bit(base));
@@ -190,8 +189,8 @@ fn read_byte(b: u8, at: usize, base: usize, takers: &mut [u64], follow: &mut [u6
 }
 
 // A period, up to `at`.
-fn read_period(at: usize, base: usize, takers: &mut [u64], follow: &mut [u64]) -> Part
-    requires { (base < at) × Full takers.old follow.old }
+fn read_period(at: usize, base: usize, takers: &mut [u64; 256], follow: &mut [u64; 64]) -> Part
+    requires { base < at }
     ensures { ReadPosition period at base result takers.old takers.new follow.old follow.new }
 {
     let set = bit(base);
@@ -205,10 +204,10 @@ fn read_escape(
     text: &[u8],
     at: usize,
     base: usize,
-    takers: &mut [u64],
-    follow: &mut [u64],
+    takers: &mut [u64; 256],
+    follow: &mut [u64; 64],
 ) -> Result<Part, usize>
-    requires { (at ≤ length text.now) × (base < at) × Full takers.old follow.old }
+    requires { (at ≤ length text.now) × (base < at) }
     ensures { Reads text.now base (escaped_at (drop at text.now)) result
         takers.old takers.new follow.old follow.new }
 {
@@ -223,10 +222,10 @@ fn read_bracket(
     text: &[u8],
     at: usize,
     base: usize,
-    takers: &mut [u64],
-    follow: &mut [u64],
+    takers: &mut [u64; 256],
+    follow: &mut [u64; 64],
 ) -> Result<Part, usize>
-    requires { (at ≤ length text.now) × (base < at) × Full takers.old follow.old }
+    requires { (at ≤ length text.now) × (base < at) }
     ensures { Reads text.now base (list_of (items_in (drop at text.now))) result
         takers.old takers.new follow.old follow.new }
 {

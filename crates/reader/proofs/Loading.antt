@@ -1,7 +1,7 @@
 -- The loop of `load`: the rest of the book decides as the whole does. Assumes nothing.
 use Rattle.answer.specs.declared.Reason.{Reason}
 use Rattle.answer.specs.declared.Refusal.{Refusal}
-use Rattle.std.specs.Prelude.{Result, Ok, Err}
+use Rattle.std.specs.Prelude.{Result, Ok, Err, MatchResult, IsErrAnd}
 use Rattle.answer.specs.declared.Reason.TheVariants.{BookTooLong, CutOff}
 use mathlib.Core.Path.{◌≡◌, refl, sym, ◌∙◌, ap, subst}
 use mathlib.Core.Bool.{Bool, true, false}
@@ -224,3 +224,18 @@ going_wide m {rows = rows} {rows₁ = rows₁} g c =
     same s false e =
         let l : length rows ≤ s = omega (arith, leb-false (suc s) (length rows) e) in
         c.kept s l ∙ zeros_zero m s ∙ sym (get_or-eq_default rows 0 l)
+
+-- ---- why no command stands there, made a refusal at a place
+
+module _ (P : Reason → Refusal → Type 0) where
+  pub mapped_ok : (r : Result Decoded Reason) {s : Result Decoded Refusal} {read : Decoded}
+      → MatchResult r (λ x. s ≡ Ok x) (λ e. IsErrAnd s (P e)) → s ≡ Ok read → Ok read ≡ r
+  mapped_ok (Ok x) h e = cc
+  mapped_ok (Err why) h e = absurd (rw e at h)
+
+  pub no_command : (r : Result Decoded Reason) {s : Result Decoded Refusal} {f : Refusal} {strict : Bool} {bytes tb rows : List ℕ} {at : ℕ} {b : Book}
+      → Going strict bytes tb rows at b → at < length bytes → r ≡ command_at strict bytes at b.inside
+      → ((why : Reason) (f : Refusal) → P why f → f ≡ record { reason = why; place = at })
+      → MatchResult r (λ x. s ≡ Ok x) (λ e. IsErrAnd s (P e)) → s ≡ Err f → LoadedBy strict bytes (Err f) tb
+  no_command (Ok x) g l found same h e = cc
+  no_command (Err why) {f = f} g l found same h e = loaded_refused (going-takes g l (Err why) found).same (same why f (rw e at h))

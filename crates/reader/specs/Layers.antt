@@ -12,10 +12,6 @@ use Rattle.reader.specs.declared.Stop.{Stop}
 use Rattle.reader.specs.declared.Stop.TheVariants.{Accepted, Narrow}
 use Rattle.reader.specs.Reading.{accepted, read_from, read_by, answer}
 
--- words of a table for any book
-abbrev pub large_table : ℕ
-large_table = 16450
-
 -- a table as it is lent for a book of so many bytes: with room for what an accepted book needs, and no rule in it
 pub record Lent (n : ℕ) (tb : List ℕ) : Type 0 where
   pub head : edge_start ≤ length tb

@@ -153,6 +153,7 @@ fn write_commands(
     put(&[CLOSE], out, close_at)
 }
 
+// `row_count` stands beside `targets`, since a slice of just the rows would need a clause that they are whole.
 // Writes the rule that has `finals` as its final states and, for each of its first `row_count` states, a row of 256 targets: the number of
 // bytes, which stand at the start of `out`, or 22. Every other byte of `out` stays as it was.
 pub fn write_rule(

@@ -120,6 +120,7 @@ pub fn explore(
 {
     let mut count = 0;
     let mut k = 0;
+    // `count` grows on the way, so this is no range.
     while k <= count {
         let ahead = ahead_of(first, follow, sets, k);
         count = fill_row(

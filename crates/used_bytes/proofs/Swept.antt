@@ -17,7 +17,7 @@ use Rattle.automaton.proofs.Tests.{or_true, or_none, all_map, all_among}
 use Rattle.table_builder.specs.Layers.{row_word, cell_at, head_in, Built}
 use Rattle.table_builder.proofs.Built.{stamp_set, built_edge}
 use Rattle.byte_set.specs.Layers.{between}
-use Rattle.used_bytes.specs.Layers.{hits, queued, Worklist, noted, turned, Marked, Free, Releases, Waits, Waiting, waits, Passes}
+use Rattle.used_bytes.specs.Layers.{hits, queued, Worklist, noted, turned, Marked, Free, Releases, Waits, Waiting, waits, Passes, Passing}
 use Rattle.used_bytes.proofs.Marking.{or_swap}
 use Rattle.used_bytes.proofs.States.{noted-all, noted_here}
 use Rattle.used_bytes.proofs.Queues.{Standing, hits_new, standing}
@@ -254,3 +254,12 @@ module _ {bound : ℕ} {good : List ℕ} {stamp : ℕ} {queue gs : List ℕ} (w 
             → All (λ (u : Transition). (among u.to (noted gs s) ≡ true) × Marked marks u) vs
         none [] c = tt
         none (v ∷ vs) (k, c) = let q = k.some in absurd (omega arith)
+
+-- of the chain that is known to be there
+pub going_passing : {tb : List ℕ} {head from : ℕ} {good : List ℕ} {stamp : ℕ} {words₀ rows₀ : List ℕ} {end : ℕ}
+    (a : Passing tb head from good stamp words₀ rows₀ end) {set₀ : List Bool} {words rows : List ℕ} {set : List Bool} {h at : ℕ} {leads : Bool}
+    → ((bound first : ℕ) (ts us : List Transition) (gs : List ℕ) → Chain tb first head ts → All (λ (t : Transition). t.from ≡ from) ts
+    → Waiting bound words₀ rows₀ stamp end us → ((x : ℕ) → eqb (get_or good x 0) stamp ≡ among x gs)
+    → Going bound tb first from stamp gs ts us end set₀ words rows set h at leads)
+    → Going a.bound tb a.leading.first from stamp a.states a.leading.transitions a.transitions end set₀ words rows set h at leads
+going_passing a w = w a.bound a.leading.first a.leading.transitions a.transitions a.states a.leading.chain a.froms a.waiting a.same

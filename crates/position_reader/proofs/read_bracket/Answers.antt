@@ -1,5 +1,5 @@
 -- `read_bracket`: by what reading the list answers. Assumes nothing.
-use Rattle.std.proofs.Common.{arith, rules}
+use Rattle.std.proofs.Common.{arith}
 use Rattle.position_reader.proofs.Lists.{list_behind}
 use Rattle.position_reader.proofs.Reading.{bracket_found, bracket_fault}
 use Rattle.std.proofs.lemmas.Result.{err_from_is_err_and}
@@ -15,4 +15,4 @@ returns-in_err-next c =
     rw (p.1, p.2) (bracket_fault _ _ _ _ _ _ _ c.in_err-next.ensures)
 
 pub position_part-requires : goal.position_part-requires
-position_part-requires c = (omega (arith, list_behind c.in_ok-next.ensures c.requires.0), search rules)
+position_part-requires c = omega (arith, list_behind c.in_ok-next.ensures c.requires.0)
