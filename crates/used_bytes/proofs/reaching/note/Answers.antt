@@ -1,6 +1,6 @@
 -- `note`: the state has a mark, or gets one and is queued.
 use native.Mathlib.Omega.{arith}
-use Rattle.used_bytes.proofs.Queues.{notes_new, notes_old, notes_room, worklist_most}
+use Rattle.used_bytes.proofs.Queues.{notes_new, notes_room, worklist_most}
 use Rattle.used_bytes.proofs.reaching.note.Goals as goal
 
 pub offset_bounds-queue-count : goal.offset_bounds-queue-count

@@ -1,10 +1,7 @@
 -- A link more, and no more.
 use native.Mathlib.Omega.{arith}
-use Rattle.used_bytes.proofs.Queues.{following_end, following_here, following_next, following_start}
+use Rattle.used_bytes.proofs.Queues.{following_end, following_here, following_next}
 use Rattle.used_bytes.proofs.reaching.note_chain.Goals as goal
-
-pub loop-h-init : goal.loop-h-init
-loop-h-init c = λ bound base w first ts k. following_start w k
 
 pub offset_bounds-table-h : goal.offset_bounds-table-h
 offset_bounds-table-h c =

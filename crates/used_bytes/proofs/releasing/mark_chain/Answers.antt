@@ -1,10 +1,7 @@
 -- A link more, and no more.
 use native.Mathlib.Omega.{arith}
-use Rattle.used_bytes.proofs.Waiting.{bytes_at, bytes_end, bytes_next, bytes_start}
+use Rattle.used_bytes.proofs.Waiting.{bytes_at, bytes_end, bytes_next}
 use Rattle.used_bytes.proofs.releasing.mark_chain.Goals as goal
-
-pub loop-h-init : goal.loop-h-init
-loop-h-init c = λ first ts k. bytes_start k c.requires.1
 
 pub offset_bounds-words-h : goal.offset_bounds-words-h
 offset_bounds-words-h c =
@@ -13,11 +10,6 @@ offset_bounds-words-h c =
 
 pub bounds-words-h : goal.bounds-words-h
 bounds-words-h c = let a = c.requires.0 in (bytes_at (c.loop-h.invariant a.first a.transitions a.chain) (omega arith)).link.edge.room
-
-pub mark_range-requires : goal.mark_range-requires
-mark_range-requires c =
-    let a = c.requires.0 in
-    (omega (arith, c.high.ensures), (c.loop-h.invariant a.first a.transitions a.chain).marked.size)
 
 pub loop-h-smaller : goal.loop-h-smaller
 loop-h-smaller c =

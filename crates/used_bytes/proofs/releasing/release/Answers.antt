@@ -3,19 +3,13 @@ use native.Mathlib.Omega.{arith}
 use Prim.Native.Nat.{◌<◌}
 use Rattle.automaton.specs.Layers.{edge_start, leaving}
 use Rattle.used_bytes.proofs.Queues.{worklist_most}
-use Rattle.used_bytes.proofs.Waiting.{releasing_below, releasing_end, releasing_next, releasing_start, waits_chain, waits_leading}
+use Rattle.used_bytes.proofs.Waiting.{releasing_below, releasing_end, releasing_next, waits_chain, waits_leading}
 use Rattle.used_bytes.proofs.releasing.release.Goals as goal
 
 pub let_go-n-requires : goal.let_go-n-requires
 let_go-n-requires c =
     let a = c.requires in
     (a.0, waits_leading a.1 a.2 c.head-head.ensures, a.3, a.4)
-
-pub loop-next-init : goal.loop-next-init
-loop-next-init c = λ bound base w end us k.
-    let a = c.requires in
-    releasing_start w (c.let_go-n.ensures a.0 a.3.base a.3.worklist edge_start (leaving c.args.s a.1.transitions)
-    (waits_chain a.1.built (omega (arith, a.2, a.1.within)) c.head-head.ensures)).marks.size
 
 pub offset_bounds-queue-next : goal.offset_bounds-queue-next
 offset_bounds-queue-next c =

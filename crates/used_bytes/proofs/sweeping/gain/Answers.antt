@@ -3,7 +3,7 @@ use native.Mathlib.Omega.{arith}
 use Rattle.used_bytes.specs.Layers.{noted}
 use Rattle.used_bytes.proofs.States.{noted_here}
 use Rattle.used_bytes.proofs.Swept.{gain_alone, worklist_gain}
-use Rattle.used_bytes.proofs.Useful.{gains_not, gains_said}
+use Rattle.used_bytes.proofs.Useful.{gains_said}
 use Rattle.used_bytes.proofs.sweeping.gain.Goals as goal
 
 pub release-requires : goal.release-requires
@@ -24,6 +24,3 @@ returns-else-head-ne0 c = λ bound m end gs us w e.
     let a = c.requires in
     gains_said w _ (e c.if-said.true) (gain_alone w.worklist _ (omega (arith, a.below, a.working.worklist.cells, w.worklist.cells))
     w.waiting.built c.head.ensures c.if-head-ne0.false a.size)
-
-pub returns-else-said : goal.returns-else-said
-returns-else-said c = λ bound m end gs us w e. gains_not w _ c.if-said.false

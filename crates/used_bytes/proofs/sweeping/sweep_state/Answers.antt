@@ -5,9 +5,6 @@ use Rattle.used_bytes.proofs.Useful.{final-ends, goes, led_chain, led_froms, led
 use Rattle.used_bytes.proofs.Useful.{worklist_same}
 use Rattle.used_bytes.proofs.sweeping.sweep_state.Goals as goal
 
-pub gain-requires : goal.gain-requires
-gain-requires c = led_gain c.requires.led c.state-s.ensures c.requires.sweeping
-
 pub sweep_chain-swept-requires : goal.sweep_chain-swept-requires
 sweep_chain-swept-requires c =
     let a = c.requires in

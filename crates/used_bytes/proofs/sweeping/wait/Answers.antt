@@ -1,7 +1,7 @@
 -- `wait` puts the transition turned round.
 use mathlib.Core.Path.{◌≡◌, sym, ap, ◌∙◌}
 use Rattle.automaton.specs.Layers.{state_of}
-use Rattle.used_bytes.proofs.Swept.{waiting_put, waits_short}
+use Rattle.used_bytes.proofs.Swept.{waiting_put}
 use Rattle.used_bytes.proofs.sweeping.wait.Goals as goal
 
 pub returns : goal.returns
