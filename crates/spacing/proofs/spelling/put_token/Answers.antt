@@ -29,5 +29,6 @@ returns c = λ rs h a us e l.
 
 pub returns-in_err-start : goal.returns-in_err-start
 returns-in_err-start c = λ rs h a us e l.
-    token_full rs c.args.mode c.args.pool.now c.args.token c.args.separator us (drop c.args.at c.args.scratch.now) e c.in_err-start.was
-    c.put_token.ensures
+    rw c.from_residual.ensures
+    (token_full rs c.args.mode c.args.pool.now c.args.token c.args.separator us (drop c.args.at c.args.scratch.now) e c.in_err-start.was
+    c.put_token.ensures)
