@@ -1,5 +1,6 @@
 // Which of the states that the start reaches lead to a final state, and the bytes of the transitions between such states. The states are
 // taken from the last one reached to the first, so that most transitions lead to a state of which that is known. One that does not waits.
+// The slices of the workspace come one by one: some are lent to read and some to write, which a struct of them would leave to clauses.
 ghost use Rattle.std.specs.Prelude.{◌≡◌, true, false, List, ◌∷◌, eqb, ℕ, ◌+◌, ◌<◌, ◌≤◌, length, get_or};
 ghost use Rattle.automaton.specs.Choice.{All, among};
 ghost use Rattle.automaton.specs.Rule.{Transition, Rule, ends, used};
@@ -71,7 +72,7 @@ pub fn sweep_chain(
     Swept { leads, end: at }
 }
 
-// Made a part of its callers, here and below: each size of working storage has them for itself, so that a compiler takes them for large.
+// It becomes a part of its callers, and so does `sweep`: there are several for each size of workspace, and as calls they cost a sixth more.
 // Where it is `said` that state `s` leads to a final state: marks it and lets go what waits at it.
 #[inline(always)]
 fn gain(

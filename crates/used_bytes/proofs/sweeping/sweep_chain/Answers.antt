@@ -1,10 +1,13 @@
 -- A link more, whose transition leads to a good state or waits.
-use mathlib.Core.Path.{ap, ◌∙◌}
+use mathlib.Core.Path.{refl, ap, ◌∙◌}
 use native.Mathlib.Omega.{arith}
 use Rattle.automaton.specs.Layers.{state_of}
-use Rattle.used_bytes.proofs.Swept.{going_end, going_good, going_here, going-room, going_wait, good_in, good_out}
+use Rattle.used_bytes.proofs.Swept.{going_end, going_good, going_here, going-room, going_start, going_wait, good_in, good_out}
 use Rattle.used_bytes.proofs.Swept.{going_passing, waiting_waits}
 use Rattle.used_bytes.proofs.sweeping.sweep_chain.Goals as goal
+
+pub loop-h-init : goal.loop-h-init
+loop-h-init c = λ bound first ts us gs k f w e. going_start k f w c.requires.1 refl
 
 pub offset_bounds-table-h : goal.offset_bounds-table-h
 offset_bounds-table-h c =
