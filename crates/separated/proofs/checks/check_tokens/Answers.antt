@@ -5,4 +5,4 @@ use Rattle.separated.proofs.Checking.{plain_fault_lem}
 use Rattle.separated.proofs.checks.check_tokens.Goals as goal
 
 pub returns : goal.returns
-returns c = λ rs h. c.first_refused.ensures (plain_fault rs c.args.pool.now) (λ r o f p. plain_fault_lem rs _ _ ?)
+returns c = λ rs h. c.first_refused.ensures (plain_fault rs c.args.pool.now) (λ r o f p. plain_fault_lem rs _ _ (search rules))
