@@ -1,7 +1,8 @@
 -- From what the walk finds to what is chosen, and by which rule. Assumes nothing.
 use mathlib.Core.Path.{◌≡◌, refl, sym, ◌∙◌, ap}
 use mathlib.Core.Bool.{false}
-use mathlib.Core.Option.{some}
+use mathlib.Core.Option.{none, some}
+use Rattle.std.specs.Prelude.{Option as Maybe, None, Some, MatchOption, IfSome}
 use mathlib.Core.List.{List, ◌∷◌}
 use Prim.Native.Nat.{ℕ, zero, suc, ◌+◌, ◌-◌, ◌<◌, ◌≤◌}
 use native.Mathlib.Nat.{zero-add}
@@ -17,6 +18,7 @@ use Rattle.longest_match.specs.Layers.{front, Chooses, Agrees}
 use Rattle.longest_match.proofs.First.{Earliest}
 use Rattle.longest_match.proofs.Choosing.{choose_some}
 use Rattle.builtin.specs.Book.{builtin_rules}
+use Rattle.builtin.specs.declared.scanner.Match.{Match}
 use Rattle.builtin.specs.Layers.{Scanned, Stays, State, states_of, next_state, tag_at, mask_of_state, dead, start, accepting}
 use Rattle.builtin.proofs.Product.{Scan, final_mask, agreeing-walks, tagged, found_front}
 use Rattle.builtin.proofs.Product.{scan_start, scan_accept, scan_pass, scan_dead, scan_end}
@@ -32,7 +34,7 @@ walked_start text = scan_start joined text
 
 module _ {text : List ℕ} {s last len i s₁ : ℕ} (w : Walked text s last len i) (more : i < length text) (byte : get_or text i 0 < 256)
     (e : s₁ ≡ next_state s (get_or text i 0)) where
-  reaches : State s₁
+  pub reaches : State s₁
   reaches = rw e (joined.next_state_lem s (get_or text i 0) w.inside byte)
 
   pub walked_accept : accepting ≤ s₁ → Walked text s₁ s₁ (i + 1) (i + 1)
@@ -71,23 +73,47 @@ stays_more {s} {from} {i} {text} w l e =
       same = λ k a b. below_more (λ (m : ℕ). from ≤ m → next_state s (get_or text m 0) ≡ s) i (λ m c d. w.same m d c) (λ d. e) k b a;
     }
 
-settled : {text : List ℕ} {s last len i : ℕ} → Walked text s last len i
-    → choose builtin_rules text ≡ found (tagged (tag_at last)) (take len text) (drop len text) → Scanned text last len
-settled {text} {last = last} {len = len} w e = record {
-  known = w.known;
-  within = omega (arith, w.within, w.reached);
-  nothing = λ z. e ∙ rw (w.idle z);
-  chosen = λ p. e ∙ found_front (tag_at last) len text (w.taken p);
-  agreed = λ p.
-      mask_is last w.known ∙ ap (final_mask builtin_rules) (w.there p) ∙ sym (agreeing-walks builtin_rules (take len text));
-}
+-- the state behind a token and its length; those of none before the first
+abbrev pub state_in : Maybe Match → ℕ
+state_in None = dead
+state_in (Some m) = m.state
 
-pub scanned_end : {text : List ℕ} {s last len i : ℕ} → Walked text s last len i → length text ≤ i → Scanned text last len
-scanned_end w l = settled w (scan_end joined w l)
+abbrev pub len_in : Maybe Match → ℕ
+len_in None = 0
+len_in (Some m) = m.len
 
-pub scanned_dead : {text : List ℕ} {s last len i s₁ : ℕ} → Walked text s last len i → i < length text → get_or text i 0 < 256
-    → s₁ ≡ next_state s (get_or text i 0) → s₁ ≡ dead → Scanned text last len
-scanned_dead w l b e z = settled w (scan_dead joined w l b e z)
+-- the walk stands in s at i, and this is the longest token so far
+pub record Walking (text : List ℕ) (s : ℕ) (longest : Maybe Match) (i : ℕ) : Type 0 where
+  pub walked : Walked text s (state_in longest) (len_in longest) i
+  pub some : IfSome longest (λ m. 0 < m.len)
+
+-- what stands at the front of a text
+abbrev pub Front : List ℕ → Maybe Match → Type 0
+Front text r = MatchOption r (choose builtin_rules text ≡ none) (λ m. Scanned text m.state m.len)
+
+settled : {text : List ℕ} {s : ℕ} (longest : Maybe Match) {i : ℕ} → Walking text s longest i
+    → choose builtin_rules text
+    ≡ found (tagged (tag_at (state_in longest))) (take (len_in longest) text) (drop (len_in longest) text)
+    → Front text longest
+settled None w e = e ∙ rw (w.walked.idle refl)
+settled {text} (Some m) w e =
+    let v = w.walked in
+    let p = w.some in
+    record {
+      known = v.known;
+      some = p;
+      within = omega (arith, v.within, v.reached);
+      chosen = e ∙ found_front (tag_at m.state) m.len text (v.taken p);
+      agreed = mask_is m.state v.known ∙ ap (final_mask builtin_rules) (v.there p) ∙ sym (agreeing-walks builtin_rules (take m.len text));
+    }
+
+pub scanned_end : {text : List ℕ} {s : ℕ} {longest : Maybe Match} {i : ℕ} → Walking text s longest i → length text ≤ i
+    → Front text longest
+scanned_end {longest = longest} w l = settled longest w (scan_end joined w.walked l)
+
+pub scanned_dead : {text : List ℕ} {s : ℕ} {longest : Maybe Match} {i s₁ : ℕ} → Walking text s longest i → i < length text
+    → get_or text i 0 < 256 → s₁ ≡ next_state s (get_or text i 0) → s₁ ≡ dead → Front text longest
+scanned_dead {longest = longest} w l b e z = settled longest w (scan_dead joined w.walked l b e z)
 
 -- ---- the rule
 
@@ -95,7 +121,7 @@ scanned_dead w l b e z = settled w (scan_dead joined w l b e z)
 pub record Picked (rules : List Rule) (text : List ℕ) (tag len : ℕ) : Type 0 where
   pub rule : ℕ
   pub chooses : Chooses rules text rule len
-  pub names : 0 < len → tag ≡ (rule_at rules rule).tag
+  pub names : tag ≡ (rule_at rules rule).tag
 
 module _ (rules : List Rule) (text : List ℕ) (tag len : ℕ) (p : 0 < len) (within : len ≤ length text)
     (e : choose rules text ≡ some (front tag len text))
@@ -125,28 +151,14 @@ module _ (rules : List Rule) (text : List ℕ) (tag len : ℕ) (p : 0 < len) (wi
       earlier = λ q. earlier_at;
       chosen = λ q. rw (← named) e;
     };
-    names = λ q. named;
+    names = named;
   }
 
 pub picked : {text : List ℕ} {last len : ℕ} → Scanned text last len → Picked builtin_rules text (tag_at last) len
-picked {text} {last} {len = zero} s = record {
-  rule = 0;
-  chooses = record {
-    within = s.within;
-    nothing = s.nothing;
-    idle = λ z. refl;
-    known = λ q. absurd (omega arith);
-    matched = λ q. absurd (omega arith);
-    earlier = λ q. absurd (omega arith);
-    chosen = λ q. absurd (omega arith);
-  };
-  names = λ q. absurd (omega arith);
-}
-picked {text} {last} {len = suc n} s =
-    let e = s.chosen (omega arith) in
-    picked_some builtin_rules text (tag_at last) (suc n) (omega arith) s.within e
-    (choose_some builtin_rules text (front (tag_at last) (suc n) text) e).earliest
+picked {text} {last} {len} s =
+    picked_some builtin_rules text (tag_at last) len s.some s.within s.chosen
+    (choose_some builtin_rules text (front (tag_at last) len text) s.chosen).earliest
 
 -- the mask of the state behind the token is that of the rules that agree on it
-pub agrees : {text : List ℕ} {last len : ℕ} → Scanned text last len → 0 < len → Agrees builtin_rules text len (mask_of_state last)
-agrees s p = record { empty = λ z. absurd (omega arith); agreed = s.agreed }
+pub agrees : {text : List ℕ} {last len : ℕ} → Scanned text last len → Agrees builtin_rules text len (mask_of_state last)
+agrees s = let p = s.some in record { empty = λ z. absurd (omega arith); agreed = λ q. s.agreed }

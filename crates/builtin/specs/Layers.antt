@@ -2,7 +2,7 @@
 -- One automaton for all five rules: what its states stand for, and its tables. The number of a state is the place of its row in
 -- `next_table`, so that a step adds only the class; a row has an entry for each class and seven that are not used.
 use Rattle.std.specs.Prelude.{◌≡◌, List, [], ◌∷◌, ℕ, ◌+◌, ◌/◌, ◌%◌, ◌<◌, ◌≤◌, length, get_or, take}
-use Rattle.std.proofs.Math.Option.{none, some}
+use Rattle.std.proofs.Math.Option.{some as found}
 use Rattle.longest_match.specs.Lexer.{choose}
 use Rattle.longest_match.specs.Masks.{agreeing}
 use Rattle.longest_match.specs.Layers.{front}
@@ -100,26 +100,16 @@ mask_table = 0 ∷ 0 ∷ 0 ∷ 0 ∷ 0 ∷ 0 ∷ 0 ∷ 0 ∷ 0 ∷ 0 ∷ 16 ∷ 
 abbrev pub mask_of_state : ℕ → ℕ
 mask_of_state s = get_or mask_table (s / 16) 0
 
--- the tables as they are lent: those of the walk, and those of what a state stands for
-pub record Lent (classes next : List ℕ) : Type 0 where
-  pub classes_are : classes ≡ class_table
-  pub next_are : next ≡ next_table
-
-pub record Told (tags masks : List ℕ) : Type 0 where
-  pub tags_are : tags ≡ tag_table
-  pub masks_are : masks ≡ mask_table
-
 -- each byte of a text from one place up to another leads from s back to s
 pub record Stays (s : ℕ) (text : List ℕ) (from to : ℕ) : Type 0 where
   pub further : from ≤ to
   pub within : to ≤ length text
   pub same : (k : ℕ) → from ≤ k → k < to → next_state s (get_or text k 0) ≡ s
 
--- The longest token at the front of a text has so many bytes, and s is the state behind them, which has its tag and its mask; none where
--- there are 0.
+-- The longest token at the front of a text has so many bytes, one at least, and s is the state behind them, which has its tag and its mask.
 pub record Scanned (text : List ℕ) (s len : ℕ) : Type 0 where
   pub known : State s
+  pub some : 0 < len
   pub within : len ≤ length text
-  pub nothing : len ≡ 0 → choose builtin_rules text ≡ none
-  pub chosen : 0 < len → choose builtin_rules text ≡ some (front (tag_at s) len text)
-  pub agreed : 0 < len → mask_of_state s ≡ agreeing builtin_rules (take len text)
+  pub chosen : choose builtin_rules text ≡ found (front (tag_at s) len text)
+  pub agreed : mask_of_state s ≡ agreeing builtin_rules (take len text)

@@ -1,9 +1,9 @@
 // The byte classes (document 01, 'The built-in book', sentence 6), and one automaton for all five built-in rules.
-// A local array of each is made once for a text and lent to the loops: a constant that is indexed in a loop would be laid out anew
-// at every turn.
 ghost use Rattle.std.specs.Prelude.{◌≡◌};
 ghost use Rattle.builtin.specs.Classes.{class_table};
-ghost use Rattle.builtin.specs.Layers.{next_table, tag_table, mask_table};
+ghost use Rattle.builtin.specs.Layers.{
+    State, next_table, next_state, tag_table, tag_at, mask_table, mask_of_state,
+};
 
 // The class of each byte.
 const CLASSES: [u8; 256] = [
@@ -83,26 +83,51 @@ const TAGS: [u8; 16] = [0, 0, 0, 0, 0, 0, 0, 0, 0, 0, 5, 5, 2, 3, 4, 1];
 // The mask of the rules that match in each state, bit k for rule number k.
 const MASKS: [u32; 16] = [0, 0, 0, 0, 0, 0, 0, 0, 0, 0, 16, 16, 2, 4, 8, 1];
 
-pub fn classes() -> [u8; 256]
-    ensures { result ≡ class_table }
-{
-    CLASSES
+// All four. They are made once for a text and lent to the loops: a constant that is indexed in a loop would be laid out anew at every turn.
+#[derive(Drop)]
+pub struct Tables {
+    classes: [u8; 256],
+    next: [u8; 256],
+    tags: [u8; 16],
+    masks: [u32; 16],
+    ghost classes_are: { classes ≡ class_table },
+    ghost next_are: { next ≡ next_table },
+    ghost tags_are: { tags ≡ tag_table },
+    ghost masks_are: { masks ≡ mask_table },
 }
 
-pub fn next_states() -> [u8; 256]
-    ensures { result ≡ next_table }
-{
-    NEXT
-}
+impl Tables {
+    pub fn new() -> Self {
+        Tables {
+            classes: CLASSES,
+            next: NEXT,
+            tags: TAGS,
+            masks: MASKS,
+        }
+    }
 
-pub fn tags() -> [u8; 16]
-    ensures { result ≡ tag_table }
-{
-    TAGS
-}
+    // Where a byte leads from state `s`.
+    pub fn step(&self, s: usize, byte: u8) -> usize
+        requires { State s }
+        ensures { result ≡ next_state s byte }
+    {
+        let class = self.classes[byte as usize];
+        self.next[s + (class as usize)] as usize
+    }
 
-pub fn masks() -> [u32; 16]
-    ensures { result ≡ mask_table }
-{
-    MASKS
+    // The tag of state `s`.
+    pub fn tag_of(&self, s: usize) -> u8
+        requires { State s }
+        ensures { result ≡ tag_at s }
+    {
+        self.tags[s / 16]
+    }
+
+    // Its mask.
+    pub fn mask_of(&self, s: usize) -> u32
+        requires { State s }
+        ensures { result ≡ mask_of_state s }
+    {
+        self.masks[s / 16]
+    }
 }

@@ -1,9 +1,9 @@
 -- A cut with masks beside the same one without: what both answer and leave. Assumes nothing.
 use Rattle.answer.specs.declared.Cut.{Cut}
-use Rattle.std.specs.Prelude.{Result, Err}
+use Rattle.std.specs.Prelude.{Result, Ok, Err}
 use Rattle.answer.specs.declared.Reason.TheVariants.{TextTooLong, TooFewRecords}
 use Rattle.answer.specs.Answers.{lexed}
-use mathlib.Core.Path.{◌≡◌, refl, sym, subst}
+use mathlib.Core.Path.{◌≡◌, refl, sym, ap, subst}
 use mathlib.Core.Logic.{◌⊎◌, inl, inr}
 use mathlib.Core.Bool.{Bool, true, false}
 use mathlib.Core.List.{List, ◌++◌}
@@ -23,6 +23,11 @@ use Rattle.record.specs.Records.{record_count}
 use Rattle.record.specs.Masks.{mask_bytes, mask_count}
 use Rattle.lexer.specs.Outcome.{LexOutcome, lex_refused, lex_accepted, lex_rules, lex_reading, lex_outcome}
 use Rattle.lexer.specs.Masked.{MaskedOutcome, masked_refused, with_masks, masked_rules, masked_reading, masked_outcome}
+
+same_tokens : {m at n place : ℕ} → lexed m at ≡ lexed n place → m ≡ n
+same_tokens {m} {at} {n} {place} e =
+    let k : record { tokens = m; rest = at } ≡ record { tokens = n; rest = place } = cc in
+    ap (λ (cut : Cut). cut.tokens) k
 
 -- ---- from any answer and what is stored beside it
 
@@ -54,35 +59,35 @@ module _ (stored agreed records masks : List ℕ) where
 
   with_enough : (a : Result Cut Refusal) → ((n place : ℕ) → a ≡ lexed n place → n ≤ mask_count masks) → Same (outcome a) (masked a)
   with_enough (Err f) h = record { answers = refl; stores = refl }
-  with_enough (lexed n place) h = rw (le-ltb _ _ (h n place refl)) (record { answers = refl; stores = refl })
+  with_enough (Ok cut) h = rw (le-ltb _ _ (h cut.tokens cut.rest refl)) (record { answers = refl; stores = refl })
 
   with_refused : (a : Result Cut Refusal) (f : Refusal) → (masked a).answer ≡ Err f → Refuses (outcome a) (masked a) records masks f
   with_refused (Err g) f e = record { keeps = refl; why = inl (e, refl) }
-  with_refused (lexed n place) f e = go (ltb (mask_count masks) n) refl e
+  with_refused (Ok cut) f e = go (ltb (mask_count masks) cut.tokens) refl e
     where
-      go : (b : Bool) → ltb (mask_count masks) n ≡ b
-          → (if b (masked_refused (record { reason = TooFewRecords; place = n }) records masks)
-          (record { answer = lexed n place; records = stored; masks = mask_bytes agreed ++ drop (4 * n) masks })).answer
+      go : (b : Bool) → ltb (mask_count masks) cut.tokens ≡ b
+          → (if b (masked_refused (record { reason = TooFewRecords; place = cut.tokens }) records masks)
+          (record { answer = Ok cut; records = stored; masks = mask_bytes agreed ++ drop (4 * cut.tokens) masks })).answer
           ≡ Err f
-          → Refuses (outcome (lexed n place)) (masked (lexed n place)) records masks f
+          → Refuses (outcome (Ok cut)) (masked (Ok cut)) records masks f
       go true q z =
-          let w : record { reason = TooFewRecords; place = n } ≡ f = cc in
-          rw q (record { keeps = refl; why = inr (n, place, refl, ltb-true _ _ q, sym w, refl) })
+          let w : record { reason = TooFewRecords; place = cut.tokens } ≡ f = cc in
+          rw q (record { keeps = refl; why = inr (cut.tokens, cut.rest, refl, ltb-true _ _ q, sym w, refl) })
       go false q z = let y : ◌≡◌ {A = ℕ} 0 1 = cc in absurd (omega arith)
 
   with_lexed : (a : Result Cut Refusal) (n place : ℕ) → (masked a).answer ≡ lexed n place
       → Accepts (outcome a) (masked a) agreed masks n place
   with_lexed (Err g) n place e = let y : ◌≡◌ {A = ℕ} 0 1 = cc in absurd (omega arith)
-  with_lexed (lexed m at) n place e = go (ltb (mask_count masks) m) refl e
+  with_lexed (Ok cut) n place e = go (ltb (mask_count masks) cut.tokens) refl e
     where
-      go : (b : Bool) → ltb (mask_count masks) m ≡ b
-          → (if b (masked_refused (record { reason = TooFewRecords; place = m }) records masks)
-          (record { answer = lexed m at; records = stored; masks = mask_bytes agreed ++ drop (4 * m) masks })).answer
+      go : (b : Bool) → ltb (mask_count masks) cut.tokens ≡ b
+          → (if b (masked_refused (record { reason = TooFewRecords; place = cut.tokens }) records masks)
+          (record { answer = Ok cut; records = stored; masks = mask_bytes agreed ++ drop (4 * cut.tokens) masks })).answer
           ≡ lexed n place
-          → Accepts (outcome (lexed m at)) (masked (lexed m at)) agreed masks n place
+          → Accepts (outcome (Ok cut)) (masked (Ok cut)) agreed masks n place
       go true q z = let y : ◌≡◌ {A = ℕ} 0 1 = cc in absurd (omega arith)
       go false q z =
-          let k : m ≡ n = cc in
+          let k = same_tokens z in
           rw q (record {
             same = record { answers = refl; stores = refl };
             cut = z;
@@ -106,7 +111,7 @@ lexed_fits book text records n place e = go (read_book book) e
     by_rules rules true few f q = let y : ◌≡◌ {A = ℕ} 0 1 = cc in absurd (omega arith)
     by_rules rules false true f q = let y : ◌≡◌ {A = ℕ} 0 1 = cc in absurd (omega arith)
     by_rules rules false false f q =
-        let k : length (lex rules text).tokens ≡ n = cc in
+        let k = same_tokens q in
         subst (λ (x : ℕ). x ≤ record_count records) k (ltb-false _ _ f)
 
     go : (o : Reading) → (lex_reading o text records).answer ≡ lexed n place → n ≤ record_count records
@@ -127,7 +132,7 @@ module _ (book text records masks : List ℕ) where
     where
       go : (o : Reading) → ((n place : ℕ) → (lex_reading o text records).answer ≡ lexed n place → n ≤ mask_count masks)
           → Same (lex_reading o text records) (masked_reading o text records masks)
-      go (refused reason place) q = record { answers = refl; stores = refl }
+      go (refused _ _) q = record { answers = refl; stores = refl }
       go (accepted rules) q =
           with_enough (lex_rules rules text records).records (masks_of rules (lex rules text).tokens) records masks
           (lex_rules rules text records).answer q
@@ -142,7 +147,7 @@ module _ (book text records masks : List ℕ) where
     where
       go : (o : Reading) → (masked_reading o text records masks).answer ≡ Err f
           → Refuses (lex_reading o text records) (masked_reading o text records masks) records masks f
-      go (refused reason place) q = record { keeps = refl; why = inl (q, refl) }
+      go (refused _ _) q = record { keeps = refl; why = inl (q, refl) }
       go (accepted rules) q =
           with_refused (lex_rules rules text records).records (masks_of rules (lex rules text).tokens) records masks
           (lex_rules rules text records).answer f q

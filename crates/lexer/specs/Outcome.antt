@@ -59,7 +59,7 @@ rest_rules rules text = if (ltb max_text (length text)) text (lex rules text).re
 
 -- the book is refused
 abbrev pub rest_reading : Reading → List ℕ → List ℕ
-rest_reading (refused reason place) text = text
+rest_reading (refused _ _) text = text
 rest_reading (accepted rules) text = rest_rules rules text
 
 -- what the call for the rest hands back ('Cutting', sentence 3), by the bytes of a book

@@ -7,7 +7,8 @@ ghost use Rattle.lexer.specs.Layers.{RecordsRoom, Fills};
 
 use answer::Cut;
 
-// How `text` is cut, with a record and a mask of each token stored from the starts of `records` and `masks`.
+// How `text` is cut, with a record and a mask of each token stored from the starts of `records` and `masks`. `longest_match::count` stays
+// beside it: one loop for both asks at each token whether to write, and is no plainer.
 pub fn fill(table: &[u64], text: &[u8], records: &mut [u8], masks: &mut [u8]) -> Cut
     requires { RecordsRoom table.now text.now records.old masks.old }
     ensures cuts { (rs : List Rule) → Holds table.now rs → Cuts rs text.now result.tokens result.rest }
@@ -23,11 +24,10 @@ pub fn fill(table: &[u64], text: &[u8], records: &mut [u8], masks: &mut [u8]) ->
             break;
         };
         let tag = automaton::tag_of(table, c.rule);
-        let len = c.len;
-        record::put_record(records, tokens, tag, place, len);
+        record::put_record(records, tokens, tag, place, c.len);
         record::put_mask(masks, tokens, c.mask);
         tokens += 1;
-        place += len;
+        place += c.len;
     }
     Cut {
         tokens,

@@ -1,23 +1,20 @@
 -- Rules whose states are below a bound: what a look at the words of a rule tells, and what holds of every rule. Assumes nothing.
-use mathlib.Core.Path.{◌≡◌, refl}
-use mathlib.Core.Bool.{Bool, true, false}
-use mathlib.Core.List.{List}
-use Prim.Native.Nat.{ℕ, ◌+◌, ◌-◌, ◌≤◌, ◌<◌}
+use mathlib.Core.Path.{◌≡◌}
+use mathlib.Core.List.{List, [], ◌∷◌}
+use Prim.Native.Nat.{ℕ, ◌+◌, ◌-◌, ◌*◌, ◌≤◌, ◌<◌}
 use native.Mathlib.Omega.{arith}
-use lib.Dec.{eqb}
-use lib.ListN.{length}
-use borrow.Author.Tests.{eqb-true, eqb-false}
+use prog.Memory.{up}
+use lib.ListN.{length, take, drop}
+use Rattle.std.specs.List.{AllWithin}
+use Rattle.std.proofs.lemmas.List.{get_or-take, get_or-drop}
+use Rattle.std.proofs.Common.{length-take, length-drop}
 use Rattle.automaton.specs.Choice.{All}
 use Rattle.automaton.specs.Rule.{Transition, Rule, Ranged, state_count}
-use Rattle.automaton.specs.Layers.{edge_room, to_of, count_at, edge_at, body_at, first_of, end_of, Listed, Table, rule_at, Holds, Held}
-use Rattle.automaton.proofs.Listed.{listed_length}
-use Rattle.automaton.proofs.Tests.{clash, all_map}
-use Rattle.byte_set.specs.Layers.{lowest_of}
-use Rattle.byte_set.specs.declared.Lowest.{Lowest}
-use Rattle.used_bytes.specs.Layers.{Fits}
-use Rattle.shared_bytes.specs.Bytes.{shared_byte}
-use Rattle.shared_bytes.specs.Layers.{Fitting, Looks, narrow_states, narrow_edges}
-use Rattle.shared_bytes.proofs.Gathering.{Left, left_next}
+use Rattle.automaton.specs.Layers.{edge_room, to_of, edge_at, body_at, first_of, end_of, Listed, Table, rule_at, Held, Tabled}
+use Rattle.automaton.proofs.Listed.{listed_length, listed_order}
+use Rattle.automaton.proofs.Tests.{all_map}
+use Rattle.used_bytes.specs.Layers.{Fitted}
+use Rattle.shared_bytes.specs.Layers.{Fitting, FirstFit}
 
 -- every rule
 pub fitting_wide : {tb : List ℕ} → Held tb → Fitting state_count edge_room tb
@@ -35,49 +32,67 @@ fitting_wide h =
           };
     }
 
--- ---- the loop of `is_narrow`
+-- ---- a look at the words of a rule
 
--- where those left lead to states below `bound`, all do
-abbrev pub Looking : ℕ → List ℕ → ℕ → List Transition → ℕ → Type 0
-Looking bound tb first ts at =
-    Left tb first at (λ left. All (λ (t : Transition). t.to < bound) left → All (λ (t : Transition). t.to < bound) ts)
+listed_tos : (tb : List ℕ) (first end : ℕ) (ts : List Transition) (bound : ℕ) → Listed tb first end ts
+    → ((i : ℕ) → first ≤ i → i < end → to_of (edge_at tb i) < bound) → All (λ (u : Transition). u.to < bound) ts
+listed_tos tb first end [] bound c h = tt
+listed_tos tb first end (u ∷ us) bound (p, e, c) h =
+    (rw e.to at (h (end - 1) (omega arith) (omega arith)), listed_tos tb first (end - 1) us bound c (λ i f l. h i f (omega arith)))
 
-module _ {tb : List ℕ} {k first at : ℕ} {r : Rule} (t : Table tb k r) (f : first ≡ first_of (body_at tb k)) (e : at ≡ end_of (body_at tb k))
+module _ {tb : List ℕ} {k first end : ℕ} {r : Rule} (t : Table tb k r) (f : first ≡ first_of (body_at tb k)) (e : end ≡ end_of (body_at tb k))
   where
-    listed : Listed tb first at r.transitions
+    listed : Listed tb first end r.transitions
     listed = rw (f, e) t.body.listed
 
-    pub looking_start : (bound : ℕ) → Looking bound tb first r.transitions at
-    looking_start bound = record { left = r.transitions; listed = listed; holds = λ a. a }
+    pub looking_order : first ≤ end
+    looking_order = listed_order tb first end r.transitions listed
 
-    pub looking_few : (edges : ℕ) → at ≤ first + edges → length r.transitions ≤ edges
-    looking_few edges l = omega (arith, listed_length tb first at r.transitions listed)
+    pub looking_room : end ≤ length tb
+    looking_room = rw e t.body.room
 
-pub looking_next : (bound : ℕ) {tb : List ℕ} {first : ℕ} (ts : List Transition) {at : ℕ} → Looking bound tb first ts at → {to : ℕ}
-    → first < at → to ≡ to_of (edge_at tb (at - 1)) → to < bound → Looking bound tb first ts (at - 1)
-looking_next bound ts w l p q =
-    left_next w (λ left. All (λ (t : Transition). t.to < bound) left → All (λ (t : Transition). t.to < bound) ts) l
-    (λ u us e h a. h (rw (← e.to, ← p) q, a))
+    pub looking_few : (edges : ℕ) → end ≤ first + edges → length r.transitions ≤ edges
+    looking_few edges l = omega (arith, listed_length tb first end r.transitions listed)
 
--- ---- the rules that `look` has looked at
+    -- the words of the slice are those of the transitions
+    pub looking_all : (bound : ℕ) → AllWithin (λ (x : ℕ). to_of x < bound) (take (end - first) (drop first tb)) 0
+        (length (take (end - first) (drop first tb))) → All (λ (u : Transition). u.to < bound) r.transitions
+    looking_all bound h = listed_tos tb first end r.transitions bound listed
+        (λ i f l.
+        let p : i - first < length (take (end - first) (drop first tb)) =
+        simp (length-take, length-drop) (omega (arith, looking_room)) in
+        let q : i - first < end - first = omega arith in
+        let z : first + (i - first) ≡ i = omega arith in
+        rw z at (rw (get_or-take, get_or-drop) at (h (i - first) 0 (omega arith) p)))
 
-pub looks_none : {rules : List Rule} {n : ℕ} {lowest : Lowest} → n ≡ 0 → Looks rules n true lowest
-looks_none e = record { all = λ z k l. absurd (omega arith); found = λ z. clash refl z }
+-- ---- the rules of a table that holds some
 
-pub looks_wide : {rules : List Rule} {n : ℕ} {lowest : Lowest} → lowest ≡ lowest_of (shared_byte rules) → Looks rules n false lowest
-looks_wide e = record { all = λ z. clash z refl; found = λ z. e }
+pub tabled_at : {tb : List ℕ} {k : ℕ} (a : Held tb) → k < length a.rules → Tabled tb k
+tabled_at {k = k} a l = record { rule = rule_at a.rules k; table = a.holds.each k l }
 
-module _ {rules : List Rule} {n : ℕ} {narrow : Bool} {lowest : Lowest} (w : Looks rules (n - 1) narrow lowest) where
-  pub looks_more : 0 < n → narrow ≡ true → Fits narrow_states narrow_edges (rule_at rules (n - 1)) → Looks rules n narrow lowest
-  looks_more l e f = record { all = λ z k m. go k m (eqb k (n - 1)) refl; found = w.found }
-    where
-      go : (k : ℕ) → k < n → (c : Bool) → eqb k (n - 1) ≡ c → Fits narrow_states narrow_edges (rule_at rules k)
-      go k m true z = let y : k ≡ n - 1 = eqb-true k (n - 1) z in rw y f
-      go k m false z = let y = eqb-false k (n - 1) z in w.all e k (omega arith)
+-- all have been looked at
+pub fitting_first : {bound edges n : ℕ} {tb : List ℕ} (a : Held tb) → FirstFit bound edges a.rules n → length a.rules ≤ n → Fitting bound edges tb
+fitting_first a f l = record { rules = a.rules; holds = a.holds; each = λ k m. f k (omega arith) }
 
-  pub looks_kept : narrow ≡ false → Looks rules n narrow lowest
-  looks_kept e = record { all = λ z. clash z e; found = w.found }
+pub fitted_at : {bound edges k : ℕ} {tb : List ℕ} (f : Fitting bound edges tb) → k < length f.rules → Fitted bound edges tb k
+fitted_at {k = k} f l = record { rule = rule_at f.rules k; table = f.holds.each k l; fits = f.each k l }
 
-pub rule-last : {tb : List ℕ} {rules : List Rule} {n : ℕ} → Holds tb rules → n ≤ count_at tb → (n ≡ 0 → ⊥)
-    → Table tb (n - 1) (rule_at rules (n - 1))
-rule-last {n = n} h l e = h.each (n - 1) (omega (arith, h.count))
+-- ---- a workspace is small
+
+next : (a n k m j : ℕ) → 0 < a → n ≤ k → m ≤ j → up a (n + m) ≤ k + j + a
+next a n k m j p l q = omega arith
+
+within : (x k : ℕ) → x ≤ k → k < 9223372036854775808 → x < 9223372036854775808
+within x k l m = omega arith
+
+-- its bytes, field by field
+pub workspace_small : (s w : ℕ) → s ≤ 4096 → w < 65536
+    → up 8 (up 4 (up 8 (up 8 (up 1 (up 8 (0 + s * 1) + s * 8) + s * 1) + s * 8) + w * 8) + s * 4) < 9223372036854775808
+workspace_small s w l m =
+    let a = next 8 0 0 (s * 1) 4096 (omega arith) (omega arith) (omega arith) in
+    let b = next 1 _ _ (s * 8) 32768 (omega arith) a (omega arith) in
+    let c = next 8 _ _ (s * 1) 4096 (omega arith) b (omega arith) in
+    let d = next 8 _ _ (s * 8) 32768 (omega arith) c (omega arith) in
+    let e = next 4 _ _ (w * 8) 524288 (omega arith) d (omega arith) in
+    let f = next 8 _ _ (s * 4) 16384 (omega arith) e (omega arith) in
+    within _ _ f (omega arith)

@@ -2,10 +2,7 @@
 use Rattle.std.specs.Prelude.{◌≡◌, Bool, true, false, List, ℕ, ◌<◌, length, get_or}
 use Rattle.automaton.specs.Rule.{Rule, used}
 use Rattle.automaton.specs.Layers.{Holds, rule_at}
-use Rattle.byte_set.specs.Layers.{lowest_of}
-use Rattle.byte_set.specs.declared.Lowest.{Lowest}
 use Rattle.used_bytes.specs.Layers.{Fits}
-use Rattle.shared_bytes.specs.Bytes.{shared_byte}
 
 -- ---- rules that working storage has room for
 
@@ -25,11 +22,6 @@ narrow_states = 256
 
 abbrev pub narrow_edges : ℕ
 narrow_edges = 512
-
--- the first n rules are narrow, or else the lowest shared byte is found
-pub record Looks (rules : List Rule) (n : ℕ) (narrow : Bool) (lowest : Lowest) : Type 0 where
-  pub all : narrow ≡ true → FirstFit narrow_states narrow_edges rules n
-  pub found : narrow ≡ false → lowest ≡ lowest_of (shared_byte rules)
 
 -- ---- covered bytes
 

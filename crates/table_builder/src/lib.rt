@@ -2,13 +2,14 @@
 // state that they leave, and get the spots to which they lead at its end. While a rule is open, `rows` has the cells of its states.
 #![tactic(auto)]
 
-ghost use Rattle.std.specs.Prelude.{◌≡◌, List, ℕ, ◌+◌, ◌*◌, ◌/◌, ◌%◌, ◌≤◌, ◌<◌, min, max, length, set};
+ghost use Rattle.std.specs.Prelude.{◌≡◌, List, ℕ, ◌+◌, ◌*◌, ◌/◌, ◌%◌, ◌≤◌, ◌<◌, length, set};
 ghost use Rattle.automaton.specs.Choice.{any};
 ghost use Rattle.automaton.specs.Rule.{Transition, state_count};
 ghost use Rattle.automaton.specs.Layers.{rule_room, edge_start, name_place, body_place, edge_word, bare_spot, name_word, body_word};
 ghost use Rattle.automaton.specs.Layers.{edge_at, to_of, Chain, Chained, Within};
 ghost use Rattle.table_builder.specs.Layers.{shares, row_word, cell_at, head_in, final_in, spot_at, settled, Settles};
 
+use automaton::chain::Words;
 use automaton::words;
 
 // The cell of state `s` in the rule with this stamp: twice the head of its chain, plus 1 where it is final. A state that has no cell is not
@@ -16,14 +17,9 @@ use automaton::words;
 fn cell(rows: &[u32], stamp: u32, s: usize) -> u32
     ensures { result ≡ cell_at rows.now stamp s }
 {
-    if rows.len() <= s {
-        return 0;
-    }
-    let row = rows[s];
-    if row / 131072 == stamp {
-        row % 131072
-    } else {
-        0
+    match rows.get(s) {
+        Some(row) if *row / 131072 == stamp => *row % 131072,
+        _ => 0,
     }
 }
 
@@ -48,15 +44,10 @@ pub fn shares_byte(table: &[u64], head: usize, low: u8, high: u8) -> bool
 {
     let first = low as u64;
     let last = high as u64;
-    let mut h = head;
-    while h != 0 {
-        let e = table[h];
-        if first <= words::high(e) {
-            if words::low(e) <= last {
-                return true;
-            }
+    for e in (Words { table, link: head }) {
+        if first <= words::high(e) && words::low(e) <= last {
+            return true;
         }
-        h = words::next(e);
     }
     false
 }
@@ -69,27 +60,11 @@ pub fn first_bytes(table: &[u64], head: usize) -> u64
 {
     let mut low: u64 = 255;
     let mut high: u64 = 0;
-    let mut h = head;
-    while h != 0 {
-        let e = table[h];
-        low = lower(low, words::low(e));
-        high = higher(high, words::high(e));
-        h = words::next(e);
+    for e in (Words { table, link: head }) {
+        low = low.min(words::low(e));
+        high = high.max(words::high(e));
     }
     high * 256 + low
-}
-
-// The lower and the higher of two numbers.
-pub fn lower(a: u64, b: u64) -> u64
-    ensures { result ≡ min a b }
-{
-    if a <= b { a } else { b }
-}
-
-pub fn higher(a: u64, b: u64) -> u64
-    ensures { result ≡ max a b }
-{
-    if a <= b { b } else { a }
 }
 
 // Stores the word of a transition to state `to`, with the next link of its chain.
@@ -133,10 +108,8 @@ pub fn settle(table: &mut [u64], rows: &[u32], stamp: u32, first: usize, end: us
     requires by_index { (i : ℕ) → first ≤ i → i < end → to_of (edge_at table.old i) < state_count }
     ensures { Settles rows.now stamp first end table.old table.new }
 {
-    let mut i = first;
-    while i < end {
+    for i in first..end {
         settle_one(table, rows, stamp, i);
-        i += 1;
     }
 }
 

@@ -3,7 +3,7 @@ use Rattle.answer.specs.declared.Turn.{Turn}
 use Rattle.std.specs.Prelude.{Result, Ok, Err}
 use Rattle.answer.specs.declared.Reason.TheVariants.{BookTooLong, PastTheText, TextTooLong, TooFewRecords}
 use Rattle.answer.specs.Answers.{turned}
-use mathlib.Core.Path.{◌≡◌, refl, ◌∙◌, subst}
+use mathlib.Core.Path.{◌≡◌, refl}
 use mathlib.Core.Bool.{Bool, true, false}
 use mathlib.Core.List.{List}
 use Prim.Native.Nat.{ℕ, ◌<◌, ◌≤◌}
@@ -17,8 +17,8 @@ use Rattle.book.specs.Limits.{max_bytes, max_text}
 use Rattle.reader.specs.Layers.{Loaded}
 use Rattle.reader.proofs.Loading.{read_too_long}
 use Rattle.reader.proofs.Loaded.{loaded_rules, loaded_refusal}
-use Rattle.turns.specs.Outcome.{TurnOutcome, room_in, turn_rules, turn_outcome}
-use Rattle.turns.specs.Layers.{turn_at, Room, Turned, Stores, Lacks, TurnAnswered}
+use Rattle.turns.specs.Outcome.{room_in, turn_rules, turn_outcome}
+use Rattle.turns.specs.Layers.{turn_at, Room, Turned, Stores, Enough, Lacks, TurnAnswered}
 
 -- ---- by the rules of an accepted book
 
@@ -36,11 +36,11 @@ module _ (rules : List Rule) (text : List ℕ) (place budget : ℕ) (records mas
     answered_past p = rw (le-ltb _ _ l, lt-ltb _ _ p) (record { answer = refl; records = refl; masks = refl })
 
     module _ (p : place ≤ length text) where
-      pub answered_few : {n : ℕ} → Lacks rules text place budget (room_in records masks) n → 0 < n
+      pub answered_few : {n : ℕ} → Lacks rules text place budget (room_in records masks) n
           → outcome (Err (record { reason = TooFewRecords; place = n })) records masks
       unfolding turn_rules
-      answered_few {n} few some =
-          rw (le-ltb _ _ l, le-ltb _ _ p, ← (few.number some), lt-ltb _ _ (few.fewer some))
+      answered_few {n} few =
+          rw (le-ltb _ _ l, le-ltb _ _ p, ← few.number, lt-ltb _ _ few.fewer)
           (record { answer = refl; records = refl; masks = refl })
 
       pub answered_turned : {tokens next examined : ℕ} {finished : Bool} {records-exit masks-exit : List ℕ}
@@ -57,23 +57,11 @@ module _ (rules : List Rule) (text : List ℕ) (place budget : ℕ) (records mas
             masks = s.agreed refl;
           })
 
--- ---- counted: there is room enough, or there is not, and nothing is written
+-- ---- there is room
 
-module _ {rules : List Rule} {text : List ℕ} {place budget tokens next examined : ℕ} {finished : Bool}
-    (t : Turned rules text place budget tokens next examined finished) {room : ℕ} where
-  pub lacks_none : tokens ≤ room → Lacks rules text place budget room 0
-  lacks_none l = record {
-    enough = λ e. omega (arith, t.tokens_are);
-    fewer = λ p. absurd (omega arith);
-    number = λ p. absurd (omega arith);
-  }
-
-  pub lacks_some : room < tokens → Lacks rules text place budget room tokens
-  lacks_some l = record { enough = λ e. absurd (omega arith); fewer = λ p. l; number = λ p. t.tokens_are }
-
-pub stores_nothing : {rules : List Rule} {text : List ℕ} {place budget : ℕ} {entry exit masks-entry masks-exit : List ℕ}
-    → Stores false rules text place budget entry exit masks-entry masks-exit → (exit ≡ entry) × (masks-exit ≡ masks-entry)
-stores_nothing s = (s.left refl, s.masks_left refl)
+pub room_for : (rules : List Rule) (text : List ℕ) (place budget : ℕ) (records masks : List ℕ)
+    → Enough rules text place budget (room_in records masks) → Room rules text place budget records masks
+room_for rules text place budget records masks l = record { in_records = omega arith; in_masks = omega arith }
 
 -- ---- by the bytes of a book
 
@@ -99,20 +87,3 @@ pub answered_too_long : (bytes text : List ℕ) (place budget : ℕ) (records ma
 unfolding turn_outcome
 answered_too_long bytes text place budget records masks l =
     rw (read_too_long false bytes l) (record { answer = refl; records = refl; masks = refl })
-
--- ---- what is lent stands as it did
-
-module _ {records masks records-now masks-now : List ℕ} (e : records-now ≡ records) (f : masks-now ≡ masks) where
-  pub answered_same : {o : TurnOutcome} {r : Result Turn Refusal} → TurnAnswered o r records masks → TurnAnswered o r records-now masks-now
-  answered_same a = record { answer = a.answer; records = e ∙ a.records; masks = f ∙ a.masks }
-
-  pub room_same : (rules : List Rule) (text : List ℕ) (place budget : ℕ)
-      → length (turn_at rules text place budget).tokens ≤ room_in records masks → Room rules text place budget records-now masks-now
-  room_same rules text place budget l = record { in_records = rw e (omega arith); in_masks = rw f (omega arith) }
-
-  pub stores_same : {rules : List Rule} {text : List ℕ} {place budget : ℕ} {records-exit masks-exit : List ℕ}
-      → Stores true rules text place budget records-now records-exit masks-now masks-exit
-      → Stores true rules text place budget records records-exit masks masks-exit
-  stores_same {rules} {text} {place} {budget} {records-exit} {masks-exit} s =
-      subst (λ (x : List ℕ). Stores true rules text place budget x records-exit masks masks-exit) e
-      (subst (λ (y : List ℕ). Stores true rules text place budget records-now records-exit y masks-exit) f s)

@@ -1,6 +1,7 @@
 -- The loop of `run`: what is next, what holds at its head, and how a token keeps it. Assumes nothing.
 use mathlib.Core.Path.{◌≡◌, refl, sym, ◌∙◌, ap, subst}
 use mathlib.Core.Bool.{Bool, true, false}
+use Rattle.std.specs.Prelude.{Option as Maybe, None, Some, IfSome}
 use mathlib.Core.Option.{Option, none, some}
 use mathlib.Core.List.{List, [], ◌∷◌, ◌++◌}
 use Prim.Native.Nat.{ℕ, ◌+◌, ◌-◌, ◌*◌, ◌<◌, ◌≤◌, min}
@@ -13,11 +14,11 @@ use Rattle.big_endian.specs.Numbers.{four}
 use Rattle.automaton.specs.Choice.{All}
 use Rattle.automaton.specs.Rule.{Rule, Sound}
 use Rattle.automaton.specs.Layers.{rule_at}
-use Rattle.automaton.proofs.Tests.{clash}
 use Rattle.longest_match.specs.Lexer.{Token, Found, choose}
 use Rattle.longest_match.specs.Steps.{prefixes}
 use Rattle.longest_match.specs.Masks.{masks_of}
-use Rattle.longest_match.specs.Layers.{Picks, Walks}
+use Rattle.longest_match.specs.Layers.{chosen_rule, chosen_len, chosen_mask, Chooses, Agrees, Picks, Walks}
+use Rattle.longest_match.specs.declared.Choice.{Choice}
 use Rattle.longest_match.proofs.Choosing.{choose_some}
 use Rattle.longest_match.proofs.Far.{prefixes_window}
 use Rattle.longest_match.proofs.Agreeing.{steps_chosen, steps-agreed}
@@ -27,6 +28,7 @@ use Rattle.record.proofs.Records.{length_records}
 use Rattle.record.proofs.Masks.{length_mask_bytes}
 use Rattle.turns.specs.Reach.{all_fail, reach}
 use Rattle.turns.specs.Turn.{Turn, turn}
+use Rattle.turns.specs.declared.running.NextToken.{NextToken}
 use Rattle.turns.specs.Layers.{Next, KeepRoom, Keeps, turn_at, Room, Turned, Stores}
 use Rattle.turns.proofs.Reaching.{reach-idle, reach-covers, reach_some, reach-past, reach-all, reach-fits}
 use Rattle.turns.proofs.Turning.{turn-done, turn_more, turn_end}
@@ -34,35 +36,29 @@ use Rattle.output.proofs.Filling as output
 
 -- ---- what is next
 
-module _ {rules : List Rule} {text : List ℕ} {left rule len mask paid : ℕ} {fits : Bool} (no : fits ≡ false) where
-  next_larger : left < reach rules text → Next rules text left rule len mask paid fits
-  next_larger l = record {
-    larger = λ e. l;
-    paid_is = λ e. clash e no;
-    within = λ e. clash e no;
-    chooses = λ e. clash e no;
-    agrees = λ e. clash e no;
-  }
+-- nothing is left
+pub next_none : (rules : List Rule) → all_fail rules [] ≡ false → (text : List ℕ) (left : ℕ) → 0 < length text → left ≡ 0
+    → left < reach rules text
+next_none rules stirs text left l z = rw z (reach_some rules stirs text l)
 
-  -- nothing is left
-  pub next_none : all_fail rules [] ≡ false → 0 < length text → left ≡ 0 → Next rules text left rule len mask paid fits
-  next_none stirs l z = next_larger (rw z (reach_some rules stirs text l))
-
-  -- the rules walk on behind what is left
-  pub next_past : all_fail rules [] ≡ false → {ns : List ℕ} {m far : ℕ} → m ≡ left → m < length text → Walks rules (take m text) ns far
-      → m < far → Next rules text left rule len mask paid fits
-  next_past stirs {ns} {m} {far} e l w f = next_larger (rw (← e) (reach-past rules stirs text m far (omega arith) w.far f l))
+-- the rules walk on behind what is left
+pub next_past : (rules : List Rule) → all_fail rules [] ≡ false → (text : List ℕ) (left : ℕ) {ns : List ℕ} {m far : ℕ} → m ≡ left
+    → m < length text → Walks rules (take m text) ns far → m < far → left < reach rules text
+next_past rules stirs text left {ns} {m} {far} e l w f = rw (← e) (reach-past rules stirs text m far (omega arith) w.far f l)
 
 -- they have come to their error states within the first m bytes, or these are all
 pub next_fits : (n : ℕ) {rules : List Rule} → All (Sound n) rules → all_fail rules [] ≡ false → {text : List ℕ} {left m far : ℕ}
     → m ≤ length text → m ≤ left → {ns : List ℕ} → Walks rules (take m text) ns far → (m < far → m ≡ length text)
-    → {rule len mask : ℕ} → Picks (take (length rules) ns) rule len mask → Next rules text left rule len mask (min far m) true
-next_fits n {rules} sound stirs {text} {left} {m} {far} inside l {ns} w all p = record {
-  larger = λ e. clash refl e;
-  paid_is = λ e. settled.0;
-  within = λ e. omega arith;
-  chooses = λ e. steps_chosen (w.front_is ∙ settled.1) p;
-  agrees = λ e. steps-agreed (w.front_is ∙ settled.1) p;
+    → {chosen : Maybe Choice} → Picks (take (length rules) ns) (chosen_rule chosen) (chosen_len chosen) (chosen_mask chosen)
+    → IfSome chosen (λ c. 0 < c.len)
+    → {paid : ℕ} → paid ≡ min far m
+    → Next rules text left (record { chosen = chosen; paid = paid })
+next_fits n {rules} sound stirs {text} {left} {m} {far} inside l {ns} w all {chosen} p byte {paid} e = record {
+  paid_is = e ∙ settled.0;
+  within = omega arith;
+  chooses = steps_chosen (w.front_is ∙ settled.1) p;
+  agrees = steps-agreed (w.front_is ∙ settled.1) p;
+  some_byte = byte;
 }
   where
     settled : (min far m ≡ reach rules text) × (prefixes rules (take m text) ≡ prefixes rules text)
@@ -77,23 +73,45 @@ next_fits n {rules} sound stirs {text} {left} {m} {far} inside l {ns} w all p = 
             let f : far ≤ m = ltb-false m far e in
             (omega (arith, reach-fits rules stirs text m far inside w.far f), prefixes_window n rules sound text m far inside w.far f)
 
-pub next_true : {rules : List Rule} {text : List ℕ} {left rule len mask paid : ℕ} {fits : Bool} → fits ≡ true
-    → Next rules text left rule len mask paid fits → Next rules text left rule len mask paid true
-next_true {rules} {text} {left} {rule} {len} {mask} {paid} e x = subst (Next rules text left rule len mask paid) e x
+-- the same by its parts, with 0 for what is not chosen
+pub record Takes (rules : List Rule) (text : List ℕ) (left rule len mask paid : ℕ) : Type 0 where
+  pub paid_is : paid ≡ reach rules text
+  pub within : paid ≤ left
+  pub chooses : Chooses rules text rule len
+  pub agrees : Agrees rules text len mask
+
+module _ {rules : List Rule} {text : List ℕ} {left : ℕ} {n : NextToken} (x : Next rules text left n) where
+  next_parts : (chosen : Maybe Choice) → n.chosen ≡ chosen
+      → Takes rules text left (chosen_rule chosen) (chosen_len chosen) (chosen_mask chosen) n.paid
+  next_parts chosen e = record {
+    paid_is = x.paid_is;
+    within = x.within;
+    chooses = rw e at x.chooses;
+    agrees = rw e at x.agrees;
+  }
+
+  pub next_nothing : n.chosen ≡ None → Takes rules text left 0 0 0 n.paid
+  next_nothing e = next_parts None e
+
+  pub next_taken : {c : Choice} → n.chosen ≡ Some c → Takes rules text left c.rule c.len c.mask n.paid
+  next_taken {c} e = next_parts (Some c) e
+
+  pub next_byte : {c : Choice} → n.chosen ≡ Some c → 0 < c.len
+  next_byte {c} e = rw e at x.some_byte
 
 -- ---- one token more, or none
 
 module _ {rules : List Rule} (text : List ℕ) (at : ℕ) {left rule len mask paid : ℕ}
-    (x : Next rules (drop at text) left rule len mask paid true) where
+    (x : Takes rules (drop at text) left rule len mask paid) where
   next_paid : paid ≡ reach rules (drop at text)
-  next_paid = x.paid_is refl
+  next_paid = x.paid_is
 
   fits : reach rules (drop at text) ≤ left
-  fits = omega (arith, next_paid, x.within refl)
+  fits = omega (arith, next_paid, x.within)
 
   -- no token begins here
   pub turn_stops : len ≡ 0 → turn_at rules text at left ≡ record { tokens = []; rest = drop at text; examined = paid; finished = true }
-  turn_stops z = turn-done rules (drop at text) left fits ((x.chooses refl).nothing z) ∙ rw next_paid
+  turn_stops z = turn-done rules (drop at text) left fits (x.chooses.nothing z) ∙ rw next_paid
 
   module _ (p : 0 < len) where
     -- the token that is chosen at `at`, and the turn behind it
@@ -109,7 +127,7 @@ module _ {rules : List Rule} (text : List ℕ) (at : ℕ) {left rule len mask pa
       examined = paid + behind.examined;
       finished = behind.finished;
     }
-    turn_next = turn_more rules (drop at text) left fits _ ((x.chooses refl).chosen p) ∙ rw (drop-drop, ← next_paid)
+    turn_next = turn_more rules (drop at text) left fits _ (x.chooses.chosen p) ∙ rw (drop-drop, ← next_paid)
 
 -- all rules start in their error states
 pub turn-idle : (n : ℕ) (rules : List Rule) → All (Sound n) rules → all_fail rules [] ≡ true → (text : List ℕ) (left : ℕ)
@@ -196,19 +214,19 @@ module _ {writing : Bool} {rules : List Rule} {text : List ℕ} {place budget : 
       go true e = (w.masked e).same
       go false e = ap length (w.masks_kept e)
 
-  module _ {rule len mask paid : ℕ} (x : Next rules (drop at text) left rule len mask paid true) (p : 0 < len) where
+  module _ {rule len mask paid : ℕ} (x : Takes rules (drop at text) left rule len mask paid) (p : 0 < len) where
     pub running_within : at + len ≤ length text
-    running_within = omega (arith, w.pays.within, simp length-drop at (x.chooses refl).within)
+    running_within = omega (arith, w.pays.within, simp length-drop at x.chooses.within)
 
     -- the bytes of one token, and those of the tokens behind it
     recorded : (tag : ℕ) → tag ≡ (rule_at rules rule).tag
         → records_from rules text at left ≡ record_of tag at len ++ records_from rules text (at + len) (left - paid)
     unfolding records_at
-    recorded tag tagged = rw (turn_next text at x p, length-take-le len (drop at text) (x.chooses refl).within, tagged)
+    recorded tag tagged = rw (turn_next text at x p, length-take-le len (drop at text) x.chooses.within, tagged)
 
     agreed : masks_from rules text at left ≡ four mask ++ masks_from rules text (at + len) (left - paid)
     unfolding mask_bytes
-    agreed = rw (turn_next text at x p, (x.agrees refl).agreed p)
+    agreed = rw (turn_next text at x p, x.agrees.agreed p)
 
     -- there is room for one more, if it is written
     pub running_room : KeepRoom writing n records masks
@@ -234,7 +252,7 @@ module _ {writing : Bool} {rules : List Rule} {text : List ℕ} {place budget : 
             affords = omega (arith, pays.affords);
             count = omega arith;
             rest = rw e at pays.rest;
-            examined = omega (arith, x.within refl, pays.affords);
+            examined = omega (arith, x.within, pays.affords);
             finished = rw e at pays.finished;
           };
           stored = λ b. subst

@@ -1,29 +1,29 @@
 -- What the layers of the code ask and answer between themselves. Nobody needs to believe it: the operations' contracts do not rest on it.
 use Rattle.answer.specs.declared.Refusal.{Refusal}
-use Rattle.answer.specs.declared.Turn.{Turn}
-use Rattle.std.specs.Prelude.{Result}
+use Rattle.answer.specs.declared.Turn.{Turn as TurnTaken}
+use Rattle.std.specs.Prelude.{Result, IfSome}
 use Rattle.std.specs.Prelude.{◌≡◌, Bool, true, false, List, [], ◌++◌, ℕ, ◌+◌, ◌-◌, ◌*◌, ◌<◌, ◌≤◌, length, take, drop}
 use Rattle.big_endian.specs.Numbers.{four}
 use Rattle.automaton.specs.Rule.{Rule}
 use Rattle.automaton.specs.Layers.{Holds, Held}
-use Rattle.longest_match.specs.Layers.{Chooses, Agrees}
+use Rattle.longest_match.specs.Layers.{chosen_rule, chosen_len, chosen_mask, Chooses, Agrees}
 use Rattle.longest_match.specs.Masks.{masks_of}
 use Rattle.record.specs.Records.{record_of, records_at}
 use Rattle.record.specs.Masks.{mask_bytes}
 use Rattle.turns.specs.Reach.{all_fail, reach}
 use Rattle.turns.specs.Turn.{Turn, turn}
 use Rattle.turns.specs.Outcome.{TurnOutcome}
+use Rattle.turns.specs.declared.running.NextToken.{NextToken}
 
 -- ---- Module running, said of the rules that the table holds.
 
--- What is next at the start of a text with so much left of the budget. Either the reach is larger than that, or it is paid, and this is
--- chosen.
-pub record Next (rules : List Rule) (text : List ℕ) (left rule len mask paid : ℕ) (fits : Bool) : Type 0 where
-  pub larger : fits ≡ false → left < reach rules text
-  pub paid_is : fits ≡ true → paid ≡ reach rules text
-  pub within : fits ≡ true → paid ≤ left
-  pub chooses : fits ≡ true → Chooses rules text rule len
-  pub agrees : fits ≡ true → Agrees rules text len mask
+-- What is next at the start of a text: the reach there, which so much left of the budget pays, and what is chosen.
+pub record Next (rules : List Rule) (text : List ℕ) (left : ℕ) (n : NextToken) : Type 0 where
+  pub paid_is : n.paid ≡ reach rules text
+  pub within : n.paid ≤ left
+  pub chooses : Chooses rules text (chosen_rule n.chosen) (chosen_len n.chosen)
+  pub agrees : Agrees rules text (chosen_len n.chosen) (chosen_mask n.chosen)
+  pub some_byte : IfSome n.chosen (λ c. 0 < c.len)
 
 -- not all of the rules start in their error states
 abbrev pub Stirs : List ℕ → Type 0
@@ -76,14 +76,17 @@ pub record Stores (writing : Bool) (rules : List Rule) (text : List ℕ) (place 
 
 -- ---- Module by_rules, and the operation.
 
--- the number of the turn's tokens, where there is room for fewer; else 0
+-- there is room for all of the turn's tokens
+abbrev pub Enough : List Rule → List ℕ → ℕ → ℕ → ℕ → Type 0
+Enough rules text place budget room = length (turn_at rules text place budget).tokens ≤ room
+
+-- the turn has n tokens, and there is room for fewer
 pub record Lacks (rules : List Rule) (text : List ℕ) (place budget room n : ℕ) : Type 0 where
-  pub enough : n ≡ 0 → length (turn_at rules text place budget).tokens ≤ room
-  pub fewer : 0 < n → room < n
-  pub number : 0 < n → n ≡ length (turn_at rules text place budget).tokens
+  pub fewer : room < n
+  pub number : n ≡ length (turn_at rules text place budget).tokens
 
 -- an answer, and what the records and the masks hold afterwards, are those of the outcome
-pub record TurnAnswered (o : TurnOutcome) (r : Result Turn Refusal) (records-exit masks-exit : List ℕ) : Type 0 where
+pub record TurnAnswered (o : TurnOutcome) (r : Result TurnTaken Refusal) (records-exit masks-exit : List ℕ) : Type 0 where
   pub answer : r ≡ o.answer
   pub records : records-exit ≡ o.records
   pub masks : masks-exit ≡ o.masks

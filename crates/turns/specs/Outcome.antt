@@ -1,7 +1,7 @@
 -- Cutting in turns, as a function from what a call is lent to what it answers and leaves behind (document 02, wish 1).
 use Rattle.answer.specs.declared.Reason.{Reason}
 use Rattle.answer.specs.declared.Refusal.{Refusal}
-use Rattle.answer.specs.declared.Turn.{Turn}
+use Rattle.answer.specs.declared.Turn.{Turn as TurnTaken}
 use Rattle.std.specs.Prelude.{Result, Err}
 use Rattle.answer.specs.declared.Reason.TheVariants.{PastTheText, TextTooLong, TooFewRecords}
 use Rattle.answer.specs.Answers.{turned}
@@ -17,7 +17,7 @@ use Rattle.turns.specs.Turn.{Turn, turn}
 
 -- the answer, and what the lent records and masks hold afterwards
 pub record TurnOutcome : Type 0 where
-  pub answer : Result Turn Refusal
+  pub answer : Result TurnTaken Refusal
   pub records : List ℕ
   pub masks : List ℕ
 

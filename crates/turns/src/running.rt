@@ -1,9 +1,9 @@
 // A turn, token by token. The rules walk over no more bytes than the budget still allows; where not all of them have come to their error
 // states there, and the text goes on, the turn is spent.
-ghost use Rattle.std.specs.Prelude.{◌≡◌, false, List, [], ◌<◌, length, drop};
+ghost use Rattle.std.specs.Prelude.{◌≡◌, List, [], ◌<◌, MatchOption, length, drop};
 ghost use Rattle.automaton.specs.Rule.{Rule};
 ghost use Rattle.automaton.specs.Layers.{Holds, Held};
-ghost use Rattle.turns.specs.Reach.{all_fail};
+ghost use Rattle.turns.specs.Reach.{all_fail, reach};
 ghost use Rattle.turns.specs.Layers.{Stirs, Next, Keeps, KeepRoom, RunRoom, Turned, Stores};
 
 use answer::Turn;
@@ -77,13 +77,14 @@ fn is_idle(table: &[u64]) -> bool
     true
 }
 
-// What is next at a place where its reach fits what is left: the reach, which is paid, and what is chosen.
+// What is next at a place: what is chosen, and the reach, which is paid.
 #[derive(Clone, Copy)]
 struct NextToken {
     chosen: Option<Choice>,
     paid: usize,
 }
 
+// What is next at `at`, where its reach fits what is left.
 fn next_token(
     table: &[u64],
     text: &[u8],
@@ -95,7 +96,7 @@ fn next_token(
     requires stirs { Stirs table.now }
     requires at_in_bounds { at < length text.now }
     ensures { (rs : List Rule) → Holds table.now rs
-        → Next rs (drop at text.now) left result.rule result.len result.mask result.paid result.fits }
+        → MatchOption result (left < reach rs (drop at text.now)) (λ n. Next rs (drop at text.now) left n) }
 {
     let ahead = text.len() - at;
     let window = ahead.min(left);
@@ -106,8 +107,9 @@ fn next_token(
     if window < went && window < ahead {
         return None;
     }
+    let chosen = longest_match::choose_walked(table, lengths);
     Some(NextToken {
-        chosen: longest_match::choose_walked(table, lengths),
+        chosen,
         paid: went.min(window),
     })
 }

@@ -17,10 +17,10 @@ use Rattle.automaton.proofs.Ways.{leads_here, leads_on, leads_each, leads_back}
 use Rattle.table_builder.proofs.Built.{built_blank}
 use Rattle.used_bytes.specs.Layers.{queued, Worklist, Unmarked, Passing, Led, CanGain, Reaches, Storage, Room}
 use Rattle.used_bytes.specs.Layers.{noted, turned, Marked, Free, Releases, waits, Passes, Has, Sweep, Sweeping, Settled, Gone}
-use Rattle.used_bytes.specs.Layers.{Later, Gains, Goes}
+use Rattle.used_bytes.specs.Layers.{Later, Gains, Goes, Ready, Sweepable}
 use Rattle.used_bytes.proofs.States.{Passed, either_way, leaving-all, leaving_each, leaving-from, leaving_of, noted-all, noted_here}
 use Rattle.used_bytes.proofs.States.{noted_kept, passed_each, queued-all, queued_at, queued-last}
-use Rattle.used_bytes.proofs.Queues.{outgoing, outgoing_most}
+use Rattle.used_bytes.proofs.Queues.{outgoing, outgoing_most, worklist_most}
 use Rattle.used_bytes.proofs.Reached.{unmarked_worklist}
 use Rattle.used_bytes.proofs.Swept.{waiting_waits}
 
@@ -289,9 +289,6 @@ module _ {r : Rule} {gs : List ℕ} {us : List Transition} {set : List Bool} (w 
 
 module _ {bound : ℕ} {r : Rule} {stamp : ℕ} {good queue words rows : List ℕ} {end : ℕ} {set : List Bool} {gs : List ℕ}
     {us : List Transition} (w : Sweeping bound r stamp good queue words rows end set gs us) (s : ℕ) where
-  pub gains_not : {said : Bool} → said ≡ false → Gains bound r s said stamp words rows end gs us set good queue set
-  gains_not q = record { states = gs; sweeping = w; later = later_none gs us set; here = λ z. clash z q }
-
   pub gains_said : {said : Bool} {good₁ queue₁ : List ℕ} {set₁ : List Bool} → ends r s ≡ true
       → Releases bound us s stamp (noted gs s) set good₁ queue₁ set₁ → Gains bound r s said stamp words rows end gs us set good₁ queue₁ set₁
   gains_said e k =
@@ -522,6 +519,52 @@ module _ {bound : ℕ} {tb : List ℕ} {number : ℕ} {r : Rule} (table : Table 
           room = omega (arith, o.room);
           short = omega (arith, o.short);
         }
+
+-- whatever rule it is that the spots were reached for
+abbrev pub Overs : (tb : List ℕ) (stamp : ℕ) (spots : List ℕ) (n : ℕ) (good₀ queue₀ words₀ rows₀ good queue words rows : List ℕ)
+    (end : ℕ) (set : List Bool) (k : ℕ) → Type 0
+Overs tb stamp spots n good₀ queue₀ words₀ rows₀ good queue words rows end set k =
+    (bound edges : ℕ) → Storage bound edges stamp good₀ queue₀ words₀ rows₀
+    → (number : ℕ) (r : Rule) → Table tb number r → (seen : List ℕ) → Reaches bound tb number r stamp seen spots n
+    → Over bound tb number r stamp spots n good queue words rows end set k
+
+pub over_ready : {tb : List ℕ} {stamp : ℕ} {spots : List ℕ} {n : ℕ} {good₀ queue₀ words₀ rows₀ : List ℕ} {set₀ : List Bool}
+    (a : Ready tb stamp spots n good₀ queue₀ words₀ rows₀ set₀)
+    {good queue words rows : List ℕ} {end : ℕ} {set : List Bool} {k : ℕ}
+    → Overs tb stamp spots n good₀ queue₀ words₀ rows₀ good queue words rows end set k
+    → Over a.bound tb a.number a.fitted.rule stamp spots n good queue words rows end set k
+over_ready a w = w a.bound a.edges a.storage a.number a.fitted.rule a.fitted.table a.seen a.reaches
+
+-- so there is a spot at k - 1
+pub over_spot : {tb : List ℕ} {stamp : ℕ} {spots : List ℕ} {n : ℕ} {good₀ queue₀ words₀ rows₀ : List ℕ} {set₀ : List Bool}
+    (a : Ready tb stamp spots n good₀ queue₀ words₀ rows₀ set₀)
+    {good queue words rows : List ℕ} {end : ℕ} {set : List Bool} {k : ℕ}
+    → Over a.bound tb a.number a.fitted.rule stamp spots n good queue words rows end set k → 0 < k
+    → (k - 1 < length spots) × (length spots ≤ state_count)
+over_spot a w l = let m = worklist_most a.reaches.worklist in (omega (arith, w.within, m.0), m.1)
+
+-- and its state can be gone through
+pub over_sweepable : {tb : List ℕ} {stamp : ℕ} {spots : List ℕ} {n : ℕ} {good₀ queue₀ words₀ rows₀ : List ℕ} {set₀ : List Bool}
+    (a : Ready tb stamp spots n good₀ queue₀ words₀ rows₀ set₀)
+    {good queue words rows : List ℕ} {end : ℕ} {set : List Bool} {k : ℕ}
+    → Over a.bound tb a.number a.fitted.rule stamp spots n good queue words rows end set k → 0 < k → length words ≡ length words₀
+    → Sweepable tb (get_or spots (k - 1) 0) stamp good queue words rows end set
+over_sweepable a w l e =
+    let led = over_led a.fitted.table a.reaches w l in
+    let r = over_room a.fitted.table a.reaches w l in
+    record {
+      bound = a.bound;
+      number = a.number;
+      rule = a.fitted.rule;
+      led = led;
+      tos = a.fitted.fits.tos;
+      states = w.states;
+      transitions = w.transitions;
+      sweeping = w.sweeping;
+      room = omega (arith, r, a.fitted.fits.few, a.storage.room);
+      short = omega (arith, a.storage.short);
+      stamp_below = a.stamp_below;
+    }
 
 -- ---- working storage for the next rule
 

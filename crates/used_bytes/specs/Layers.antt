@@ -5,6 +5,7 @@ use Rattle.automaton.specs.Rule.{Transition, Rule, state_count, covers, leads, e
 use Rattle.automaton.specs.Layers.{rule_room, edge_start, state_of, spot_of, edge_at, first_of, end_of, body_at, leaving}
 use Rattle.automaton.specs.Layers.{Chain, Spot, Table}
 use Rattle.table_builder.specs.Layers.{stamp_at, Built}
+use Rattle.used_bytes.specs.declared.Workspace.{Workspace}
 
 -- ---- rules that working storage has room for
 -- There are `bound` marks, places of a queue and cells of states, and room for `edges` transitions to wait.
@@ -304,3 +305,7 @@ pub record Room (bound edges stamp : ℕ) (seen spots good queue words rows : Li
   pub unseen : Unmarked bound seen stamp
   pub slots : length spots ≡ bound
   pub storage : Storage bound edges stamp good queue words rows
+
+-- a workspace has it
+abbrev pub RoomIn : {states words : ℕ} → ℕ → ℕ → ℕ → Workspace states words → Type 0
+RoomIn bound edges stamp w = Room bound edges stamp w.seen w.spots w.good w.queue w.waiting w.rows

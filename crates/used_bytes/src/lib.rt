@@ -11,42 +11,44 @@ ghost use Rattle.std.specs.Prelude.{◌≡◌, ℕ, ◌+◌, ◌<◌};
 ghost use Rattle.automaton.specs.Rule.{Rule, used};
 ghost use Rattle.automaton.specs.Layers.{Table};
 ghost use Rattle.byte_set.specs.Layers.{mark};
-ghost use Rattle.used_bytes.specs.Layers.{Room, Fitted};
+ghost use Rattle.used_bytes.specs.Layers.{RoomIn, Fitted};
 
 use byte_set::ByteSet;
 
+// What a rule is looked through in.
+#[derive(Drop)]
+pub struct Workspace<const STATES: usize, const WORDS: usize> {
+    pub seen: [u8; STATES],
+    pub spots: [u64; STATES],
+    pub good: [u8; STATES],
+    pub queue: [u64; STATES],
+    pub waiting: [u64; WORDS],
+    pub rows: [u32; STATES],
+}
+
 // The used bytes of rule number `rule`. The working storage may hold what earlier rules have left there.
-pub fn used_by(
+pub fn used_by<const STATES: usize, const WORDS: usize>(
     table: &[u64],
     rule: usize,
-    seen: &mut [u8],
-    spots: &mut [u64],
-    good: &mut [u8],
-    queue: &mut [u64],
-    waiting: &mut [u64],
-    rows: &mut [u32],
+    space: &mut Workspace<STATES, WORDS>,
 ) -> ByteSet
     requires { (bound : ℕ) × (edges : ℕ) × Fitted bound edges table.now rule
-        × Room bound edges (rule + 1) seen.old spots.old good.old queue.old waiting.old rows.old }
-    ensures by_index { (bound edges : ℕ)
-        → Room bound edges (rule + 1) seen.old spots.old good.old queue.old
-        waiting.old rows.old
-        → Room bound edges (rule + 2) seen.new spots.new good.new queue.new
-        waiting.new rows.new }
+        × RoomIn bound edges (rule + 1) space.old }
+    ensures by_index { (bound edges : ℕ) → RoomIn bound edges (rule + 1) space.old → RoomIn bound edges (rule + 2) space.new }
     ensures b_value { (m : Rule) → Table table.now rule m → (b : ℕ) → b < 256 → mark result b ≡ used m b }
 {
     let stamp = (rule + 1) as u8;
-    let states = crate::reaching::reach(table, rule, seen, stamp, spots);
+    let states = crate::reaching::reach(table, rule, &mut space.seen, stamp, &mut space.spots);
     let mut set = ByteSet::empty();
     crate::sweeping::sweep(
         table,
-        spots,
+        &space.spots,
         states,
-        good,
+        &mut space.good,
         stamp,
-        queue,
-        waiting,
-        rows,
+        &mut space.queue,
+        &mut space.waiting,
+        &mut space.rows,
         &mut set.marks,
     );
     set

@@ -40,6 +40,7 @@ pub fn note_chain(
 {
     let mut h = head;
     let mut n = count;
+    // A chain of links.
     while h != 0 {
         let e = table[h];
         h = words::next(e);
@@ -57,6 +58,7 @@ pub fn reach(table: &[u64], rule: usize, marks: &mut [u8], stamp: u8, queue: &mu
 {
     let mut n = note(marks, stamp, queue, 0, automaton::start_spot(table, rule));
     let mut next = 0;
+    // The queue grows while it is gone through.
     while next < n {
         let head = words::head(queue[next]);
         next += 1;

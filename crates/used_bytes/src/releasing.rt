@@ -16,6 +16,7 @@ pub fn mark_chain(words: &[u64], head: usize, set: &mut [bool; 256])
         → MarksAll ts set.old set.new }
 {
     let mut h = head;
+    // A chain of links.
     while h != 0 {
         let e = words[h];
         h = words::next(e);
@@ -65,6 +66,7 @@ pub fn release(
     let head = table_builder::head(rows, stamp as u32, s);
     let mut n = let_go(waiting, head, good, stamp, queue, 0, set);
     let mut next = 0;
+    // The queue grows while it is gone through.
     while next < n {
         let x = words::state(queue[next]) as usize;
         next += 1;

@@ -8,14 +8,15 @@ use native.Mathlib.Numerals.{add-one}
 use lib.ListN.{length, get_or, take}
 use lib.Dec.{ltb, eqb}
 use borrow.Author.Count.{below_more}
-use borrow.Author.Tests.{leb-true, le-leb, ltb-true, eqb-true, eqb-false}
+use borrow.Author.Tests.{leb-true, le-leb, ltb-true, ltb-false, eqb-true, eqb-false}
+use Rattle.std.specs.Prelude.{None, Some}
 use Rattle.automaton.specs.Choice.{if, any, among}
 use Rattle.automaton.specs.Rule.{Transition, Rule, covers, target, walk, longest_within, longest}
-use Rattle.automaton.specs.Layers.{state_of, head_of, is_final, low_of, high_of, covers_word, spot_of, to_of, edge_at, first_of, end_of}
+use Rattle.automaton.specs.Layers.{state_of, head_of, is_final, low_of, high_of, covers_word, to_of, edge_at, first_of, end_of}
 use Rattle.automaton.specs.Layers.{start_of, body_at, leaving, Within, Chain, Spot, Table}
 use Rattle.automaton.proofs.Tests.{clash, or_false, and_true}
 use Rattle.automaton.proofs.Walks.{walk_more, longest_zero, longest_yes, longest_no, longest-done}
-use Rattle.walker.specs.Layers.{pick, Finds, went_to, Goes, Further}
+use Rattle.walker.specs.Layers.{pick, Found, Finds, went_to, Goes, Further}
 
 -- the chain of a state leads where the rule does
 pub pick-leaving : (s b error : ℕ) (ts : List Transition) → pick (leaving s ts) b error ≡ target ts s b error
@@ -141,67 +142,64 @@ module _ {tb : List ℕ} {k : ℕ} {r : Rule} (table : Table tb k r) where
           w.most ∙ longest_no r t i (ap (λ (x : ℕ). among x r.finals) q ∙ table.sound.fails)
           ∙ longest-done r table.sound t (suc i) more q
 
-    module _ {link : ℕ} (more : i < length t)
-        (f : (first : ℕ) (ts : List Transition) → Chain tb first (head_of p) ts → Finds tb first (head_of p) ts (get_or t i 0) link) where
-      finds : Finds tb (first_of (body_at tb k)) (head_of p) (leaving (here more) r.transitions) (get_or t i 0) link
-      finds = f (first_of (body_at tb k)) (leaving (here more) r.transitions) w.chain
+    -- where the chain has no transition for the next byte
+    module _ {head : ℕ} (more : i < length t) (h : head ≡ head_of p)
+        (f : (first : ℕ) (ts : List Transition) → Chain tb first head ts → Finds tb first head ts (get_or t i 0) None) where
+      nowhere : walk r r.start (take (suc i) t) ≡ r.error
+      nowhere = leads more ∙ f (first_of (body_at tb k)) (leaving (here more) r.transitions) (rw h w.chain) r.error
 
-      pub walk_over : link ≡ 0 → walk r r.start (take (i + 1) t) ≡ r.error
-      walk_over z = rw add-one (leads more ∙ finds.nothing z r.error)
+      pub walk_over : walk r r.start (take (i + 1) t) ≡ r.error
+      walk_over = rw add-one nowhere
 
-      pub walk_nothing : link ≡ 0 → best ≡ longest r t
-      walk_nothing z = stop more (leads more ∙ finds.nothing z r.error)
+      pub walk_nothing : best ≡ longest r t
+      walk_nothing = stop more nowhere
 
-      module _ (some : link ≡ 0 → ⊥) where
-        pos : 0 < link
-        pos = omega arith
+    -- where it has
+    module _ {head q : ℕ} (more : i < length t) (h : head ≡ head_of p)
+        (f : (first : ℕ) (ts : List Transition) → Chain tb first head ts → Finds tb first head ts (get_or t i 0) (Some q)) where
+      found : Found tb (first_of (body_at tb k)) (head_of p) (leaving (here more) r.transitions) (get_or t i 0) q
+      found = rw (← h) (f (first_of (body_at tb k)) (leaving (here more) r.transitions) (rw h w.chain))
 
-        pub link_above : first_of (body_at tb k) ≤ link
-        link_above = finds.above pos
+      reached : walk r r.start (take (suc i) t) ≡ to_of (edge_at tb found.link)
+      reached = leads more ∙ found.to r.error
 
-        pub link_below : link < end_of (body_at tb k)
-        link_below = omega (arith, finds.below, w.below)
+      next : Spot tb (first_of (body_at tb k)) (end_of (body_at tb k)) r.finals r.transitions (walk r r.start (take (suc i) t)) q
+      next =
+          subst (λ (x : ℕ). Spot tb (first_of (body_at tb k)) (end_of (body_at tb k)) r.finals r.transitions (walk r r.start (take (suc i) t)) x)
+          (sym found.spot) (rw reached (table.body.spots found.link found.above (omega (arith, found.below, w.below))))
 
-        reached : walk r r.start (take (suc i) t) ≡ to_of (edge_at tb link)
-        reached = leads more ∙ finds.to pos r.error
+      onward : {best₁ : ℕ} → best₁ ≡ longest_within r t (suc i) → Walk tb k r t q best₁ (i + 1)
+      onward e = rw add-one (record {
+        within = more;
+        chain = next.chain;
+        below = next.below;
+        most = e;
+        state = λ l. next.state;
+        going = λ j l. below_more (λ n. walk r r.start (take n t) ≡ r.error → ⊥) i w.going (left (omega (arith, found.below, found.some))) j
+            (omega arith);
+      })
 
-        next : Spot tb (first_of (body_at tb k)) (end_of (body_at tb k)) r.finals r.transitions
-            (walk r r.start (take (suc i) t)) (spot_of (edge_at tb link))
-        next = rw reached (table.body.spots link link_above link_below)
+      pub walk-final : is_final q ≡ true → Walk tb k r t q (i + 1) (i + 1)
+      walk-final e = onward (add-one i ∙ longest_yes r t i (sym next.final ∙ e))
 
-        onward : {best₁ : ℕ} → best₁ ≡ longest_within r t (suc i) → Walk tb k r t (spot_of (edge_at tb link)) best₁ (i + 1)
-        onward e = rw add-one (record {
-          within = more;
-          chain = next.chain;
-          below = next.below;
-          most = e;
-          state = λ l. next.state;
-          going = λ j l. below_more (λ n. walk r r.start (take n t) ≡ r.error → ⊥) i w.going (left (omega (arith, finds.below, pos))) j
-              (omega arith);
-        })
+      pub walk_other : is_final q ≡ false → Walk tb k r t q best (i + 1)
+      walk_other e = onward (w.most ∙ longest_no r t i (sym next.final ∙ e))
 
-        pub walk-final : is_final (spot_of (edge_at tb link)) ≡ true → Walk tb k r t (spot_of (edge_at tb link)) (i + 1) (i + 1)
-        walk-final e = onward (add-one i ∙ longest_yes r t i (sym next.final ∙ e))
+  -- a text with no first byte, or with one that lies not between those of the start
+  module _ (t : List ℕ) {p : ℕ} (e : p ≡ start_of (body_at tb k)) (h : 0 < length t → covers_word p (get_or t 0 0) ≡ false) where
+    outside : 0 < length t → walk r r.start (take 1 t) ≡ r.error
+    unfolding walk
+    outside more =
+        let q : Within p (leaving r.start r.transitions) = rw e table.start.reach in
+        leads (walk_start t e) more ∙ pick_outside p (get_or t 0 0) r.error (leaving r.start r.transitions) q (h more)
 
-        pub walk_other : is_final (spot_of (edge_at tb link)) ≡ false → Walk tb k r t (spot_of (edge_at tb link)) best (i + 1)
-        walk_other e = onward (w.most ∙ longest_no r t i (sym next.final ∙ e))
+    pub walk_dismissed : 0 ≡ longest r t
+    walk_dismissed = go (ltb 0 (length t)) refl
+      where
+        go : (c : Bool) → ltb 0 (length t) ≡ c → 0 ≡ longest r t
+        go true l = let more = ltb-true 0 (length t) l in stop (walk_start t e) more (outside more)
+        go false l = walk_end (walk_start t e) (ltb-false 0 (length t) l)
 
-  -- a text whose first byte lies not between those of the start
-  pub walk_dismissed : (t : List ℕ) {p : ℕ} → p ≡ start_of (body_at tb k) → 0 < length t → covers_word p (get_or t 0 0) ≡ false → 0 ≡ longest r t
-  unfolding walk
-  walk_dismissed t {p} e more h =
-      let w = walk_start t e in
-      let q : Within p (leaving r.start r.transitions) = rw e table.start.reach in
-      stop w more (leads w more ∙ pick_outside p (get_or t 0 0) r.error (leaving r.start r.transitions) q h)
-
-  -- it stands in its error state behind the first byte
-  pub goes_dismissed : (t : List ℕ) {p : ℕ} → p ≡ start_of (body_at tb k) → covers_word p (get_or t 0 0) ≡ false → Goes r t 1
-  unfolding walk
-  goes_dismissed t {p} e h =
-      let w = walk_start t e in
-      let q : Within p (leaving r.start r.transitions) = rw e table.start.reach in
-      goes_one r t (λ more. leads w more ∙ pick_outside p (get_or t 0 0) r.error (leaving r.start r.transitions) q h)
-
-  -- an empty text
-  pub walk_empty : (t : List ℕ) → length t ≡ 0 → 0 ≡ longest r t
-  walk_empty t e = walk_end (walk_start t refl) (omega arith)
+    -- it stands in its error state behind the first byte
+    pub goes_dismissed : Goes r t 1
+    goes_dismissed = goes_one r t outside

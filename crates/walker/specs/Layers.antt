@@ -1,20 +1,27 @@
 -- Where a step of a walk leads, and how far a rule goes. Nobody needs to believe it: the operations' contracts do not rest on it.
-use Rattle.std.specs.Prelude.{◌≡◌, List, [], ◌∷◌, ℕ, ◌+◌, ◌<◌, ◌≤◌, max, ltb, eqb, length, take}
+use Rattle.std.specs.Prelude.{◌≡◌, List, [], ◌∷◌, Option, None, Some, ℕ, ◌+◌, ◌<◌, ◌≤◌, max, ltb, eqb, length, take}
 use Rattle.automaton.specs.Choice.{if}
 use Rattle.automaton.specs.Rule.{Transition, Rule, covers, walk}
-use Rattle.automaton.specs.Layers.{state_of, head_of, to_of, edge_at}
+use Rattle.automaton.specs.Layers.{state_of, head_of, spot_of, to_of, edge_at}
 
 -- where a chain's transitions lead at b: by the first that covers b, else to the error state
 unfoldable pub pick : List Transition → ℕ → ℕ → ℕ
 pick [] b error = error
 pick (t ∷ ts) b error = if (covers t b) t.to (pick ts b error)
 
--- the link of the first transition that covers b, 0 for none
-pub record Finds (tb : List ℕ) (first head : ℕ) (ts : List Transition) (b link : ℕ) : Type 0 where
-  pub nothing : link ≡ 0 → (error : ℕ) → pick ts b error ≡ error
-  pub above : 0 < link → first ≤ link
+-- p is the spot to which the first transition that covers b leads
+pub record Found (tb : List ℕ) (first head : ℕ) (ts : List Transition) (b p : ℕ) : Type 0 where
+  pub link : ℕ
+  pub some : 0 < link
+  pub above : first ≤ link
   pub below : link ≤ head
-  pub to : 0 < link → (error : ℕ) → pick ts b error ≡ to_of (edge_at tb link)
+  pub spot : p ≡ spot_of (edge_at tb link)
+  pub to : (error : ℕ) → pick ts b error ≡ to_of (edge_at tb link)
+
+-- the spot to which the first transition that covers b leads
+abbrev pub Finds : List ℕ → ℕ → ℕ → List Transition → ℕ → Option ℕ → Type 0
+Finds tb first head ts b None = (error : ℕ) → pick ts b error ≡ error
+Finds tb first head ts b (Some p) = Found tb first head ts b p
 
 -- how far a walk went that stands at the spot or start p after i bytes, where no byte more leads elsewhere than into the error state: to
 -- where it stood there first, behind its first byte at least; a state that something leaves is not the error state

@@ -7,23 +7,21 @@ ghost use Rattle.automaton.specs.Rule.{Transition, Rule, longest};
 ghost use Rattle.automaton.specs.Layers.{Chain, Chained, Table, Tabled};
 ghost use Rattle.walker.specs.Layers.{Finds, went_to, Further};
 
+use automaton::chain::Words;
 use automaton::words;
 
-// The link of the transition that covers `byte` in the chain that starts at `head`; 0 for none.
-fn find(table: &[u64], head: usize, byte: u64) -> usize
+// The spot to which the transition that covers `byte` leads, in the chain that starts at `head`.
+fn find(table: &[u64], head: usize, byte: u64) -> Option<u64>
     requires { Chained table.now head }
     ensures { (first : ℕ) (ts : List Transition) → Chain table.now first head ts
         → Finds table.now first head ts byte result }
 {
-    let mut h = head;
-    while h != 0 {
-        let e = table[h];
+    for e in (Words { table, link: head }) {
         if words::covers(e, byte) {
-            return h;
+            return Some(words::spot(e));
         }
-        h = words::next(e);
     }
-    h
+    None
 }
 
 // How a rule walks over a text.
@@ -46,34 +44,25 @@ pub fn walk(table: &[u64], rule: usize, text: &[u8], known: usize) -> Walked
     ensures further { (m : Rule) → Table table.now rule m → Further m text.now known result.went }
 {
     let mut spot = automaton::start_of(table, rule);
-    if text.len() == 0 {
+    if text.is_empty() || !words::covers(spot, text[0] as u64) {
         return Walked {
             len: 0,
             went: known,
         };
     }
-    if !words::covers(spot, text[0] as u64) {
-        return Walked {
-            len: 0,
-            went: known,
-        };
-    }
-    let mut best = 0;
-    let mut i = 0;
-    while i < text.len() {
-        let link = find(table, words::head(spot), text[i] as u64);
-        if link == 0 {
+    let mut len = 0;
+    for (i, byte) in text.iter().enumerate() {
+        let Some(to) = find(table, words::head(spot), *byte as u64) else {
             let went = went_to(table, rule, spot, i, known);
-            return Walked { len: best, went };
-        }
-        spot = words::spot(table[link]);
-        i += 1;
+            return Walked { len, went };
+        };
+        spot = to;
         if words::is_final(spot) {
-            best = i;
+            len = i + 1;
         }
     }
-    let went = went_to(table, rule, spot, i, known);
-    Walked { len: best, went }
+    let went = went_to(table, rule, spot, text.len(), known);
+    Walked { len, went }
 }
 
 // How far a walk went that stands at `spot` after `i` bytes and goes no further, or what was known, where that is more.
@@ -82,22 +71,11 @@ fn went_to(table: &[u64], rule: usize, spot: u64, i: usize, known: usize) -> usi
     requires i_bound { i < 9223372036854775808 }
     ensures { (m : Rule) → Table table.now rule m → result ≡ max known (went_to m.error spot i) }
 {
-    if words::head(spot) != 0 {
-        return further(known, i + 1);
-    }
-    if i == 0 {
-        return further(known, 1);
-    }
-    if words::state(spot) == automaton::error_of(table, rule) {
-        return further(known, i);
-    }
-    further(known, i + 1)
-}
-
-fn further(known: usize, went: usize) -> usize
-    ensures { result ≡ max known went }
-{
-    if known < went { went } else { known }
+    let in_error = words::head(spot) == 0
+        && 0 < i
+        && words::state(spot) == automaton::error_of(table, rule);
+    let went = if in_error { i } else { i + 1 };
+    known.max(went)
 }
 
 // The number of bytes of the longest prefix of `text` that rule number `rule` matches, 0 for none.
@@ -105,6 +83,5 @@ pub fn longest_prefix(table: &[u64], rule: usize, text: &[u8]) -> usize
     requires { Tabled table.now rule }
     ensures { (m : Rule) → Table table.now rule m → result ≡ longest m text.now }
 {
-    let w = walk(table, rule, text, 1);
-    w.len
+    walk(table, rule, text, 1).len
 }
