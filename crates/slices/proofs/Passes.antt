@@ -1,5 +1,5 @@
--- The first and the third pass of `print_tokens` over the records that the tokens say: faults found and bytes counted; what reads on.
--- The second is token_list's `Joining`. Assumes nothing.
+-- The first and the third pass of printing over the records that the tokens say: faults found and bytes counted; what reads on. The second
+-- is token_list's `Joining`.
 use Rattle.answer.specs.declared.Reason.{Reason}
 use Rattle.answer.specs.declared.Reason.TheVariants.{ReadOn}
 use Rattle.answer.specs.declared.Refusal.{Refusal}
@@ -17,24 +17,24 @@ use Rattle.book.specs.Limits.{max_tokens}
 use Rattle.longest_match.specs.Lexer.{first_match, join}
 use Rattle.longest_match.specs.Layers.{Chooses}
 use Rattle.longest_match.proofs.First.{nothing}
-use Rattle.record.specs.Encoding.{encoded, Fits}
-use Rattle.record.specs.Layers.{no_record}
-use Rattle.record.proofs.Encoding.{count_encoded, record_encoded}
-use Rattle.printer.specs.Outcome.{print_rules}
-use Rattle.printer.specs.Layers.{Clean}
-use Rattle.printer.proofs.ByRules.{answered_extended, answered_checked}
-use Rattle.slices.specs.Layers.{Counted}
 use Rattle.record.specs.Records.{record_count}
 use Rattle.record.specs.declared.TokenRecord.{TokenRecord}
 use Rattle.record.specs.Tokens.{record_at, records_of, bytes_in, tokens_in, tokens_of}
+use Rattle.record.specs.Encoding.{encoded, Fits}
+use Rattle.record.specs.Layers.{no_record}
+use Rattle.record.proofs.Encoding.{count_encoded, record_encoded}
+use Rattle.output.specs.Layers.{PrintAnswered}
 use Rattle.token_list.specs.Faults.{fault_of}
 use Rattle.token_list.specs.Checks.{refuse, refuse_by, first_fault, first_extended}
-use Rattle.output.specs.Layers.{PrintAnswered}
 use Rattle.token_list.specs.Layers.{Faultless, checked_of, fault_for}
 use Rattle.token_list.proofs.Alone.{alone_first}
 use Rattle.token_list.proofs.Faulting.{Fine, fine, bytes_length}
 use Rattle.token_list.proofs.Extended.{read_no_more, read_on}
 use Rattle.token_list.proofs.Passes.{left, left-start, left_next, left_end, faultless_front, Passing, passing_start, passing_next}
+use Rattle.printer.specs.Outcome.{print_rules}
+use Rattle.printer.specs.Layers.{Clean}
+use Rattle.printer.proofs.ByRules.{answered_extended, answered_checked}
+use Rattle.slices.specs.Layers.{Counted}
 
 -- ---- a token and its record
 
@@ -155,7 +155,7 @@ module _ {rules : List Rule} {records pool text : List ℕ} {at k : ℕ} (w : Ex
 -- ---- what the passes come to
 
 by_refusal : {f : Refusal} (o : Option Refusal) → Err f ≡ checked_of o → o ≡ some f
-by_refusal {f} none e = let z : ◌≡◌ {A = ℕ} 0 1 = cc in absurd (omega arith)
+by_refusal none e = let z : ◌≡◌ {A = ℕ} 0 1 = cc in absurd (omega arith)
 by_refusal {f} (some g) e = let y : f ≡ g = cc in ap some (sym y)
 
 by_pass : (o : Option Refusal) → Ok tt ≡ checked_of o → o ≡ none

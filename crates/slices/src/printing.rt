@@ -19,6 +19,7 @@ use answer::{Reason, Refusal};
 use book::Book;
 use record::TokenRecord;
 
+// The bytes are joined in a scratch, so that `out` stands as it was where the list is refused.
 pub fn print_rules(
     table: &[u64],
     tokens: &[TokenRecord],
@@ -90,7 +91,8 @@ fn join_tokens(tokens: &[TokenRecord], pool: &[u8], out: &mut [u8])
     }
 }
 
-// The first token at whose place of the tokens' bytes joined, the first `total` bytes of `text`, another length than its own is chosen.
+// Refuses the first token at whose place of the tokens' bytes joined, the first `total` bytes of `text`, another length than its own is
+// chosen.
 fn read_back(
     table: &[u64],
     tokens: &[TokenRecord],

@@ -1,11 +1,10 @@
 -- `print_rules`: 16, what the first pass or the third finds, or what `write` answers.
-use Rattle.std.proofs.Common.{ℕ, ap, arith}
+use Rattle.std.proofs.Common.{ap, arith}
 use Rattle.std.specs.Prelude.{Err}
 use Rattle.std.proofs.lemmas.Result.{err_from_is_err_and}
-use Rattle.std.proofs.Math.ListN.{length-replicate}
 use Rattle.record.proofs.Encoding.{count_encoded}
 use Rattle.printer.proofs.ByRules.{answered_many, clean_written}
-use Rattle.printer.proofs.Rehearsing.{spanned_fitting, spanned_laid}
+use Rattle.printer.proofs.Rehearsing.{spanned_laid}
 use Rattle.slices.proofs.Passes.{counted_extended, counted_clean}
 use Rattle.slices.proofs.printing.print_rules.Goals as goal
 
@@ -24,14 +23,6 @@ returns-in_err-read_back c = λ rs h.
     rw (p.1, p.2)
     (counted_extended w _ (omega (arith, count_encoded c.args.tokens.now))
     (c.in_err-read_back.ensures rs _ h w.faultless (spanned_laid w.spanned c.join_tokens.ensures)))
-
-pub join_tokens-requires : goal.join_tokens-requires
-join_tokens-requires c = record {
-  fits = c.in_ok-total.ensures.fits;
-  fitting =
-      let s = (c.in_ok-total.ensures.counts c.requires.rules c.requires.holds).spanned in
-      spanned_fitting s (omega (arith, s.short, length-replicate {A = ℕ} 65536 0));
-}
 
 pub returns : goal.returns
 returns c = λ rs h.
