@@ -84,8 +84,9 @@ rest-agrees book text records tokens rest e = by (read_book book) e
     rules_agree rules true u q = refused_not q
     rules_agree rules false true q = refused_not q
     rules_agree rules false false q =
-        let z : length text - length (lex rules text).rest ≡ rest = cc in
-        rest-drop rules text ∙ ap (λ (n : ℕ). drop n text) z
+        let k : record { tokens = length (lex rules text).tokens; rest = length text - length (lex rules text).rest }
+        ≡ record { tokens = tokens; rest = rest } = cc in
+        rest-drop rules text ∙ ap (λ (cut : Cut). drop cut.rest text) k
 
     by : (o : Reading) → (lex_reading o text records).answer ≡ lexed tokens rest → rest_reading o text ≡ drop rest text
     by (refused reason place) q = refused_not q
