@@ -9,9 +9,7 @@ use mathlib.Core.List.{List, []}
 use Prim.Native.Nat.{ℕ, zero, suc, ◌+◌, ◌<◌, ◌≤◌}
 use native.Mathlib.Omega.{arith}
 use lib.Dec.{leb}
-use lib.ListN.{replicate, length-replicate, get_or-replicate, length, get_or, set, length-set, get_or-eq_default}
-use lib.Seq.{get_or-set_same, get_or-set_other}
-use borrow.Author.Count.{below_more}
+use lib.ListN.{replicate, length-replicate, get_or-replicate, length, get_or, get_or-eq_default}
 use borrow.Author.Tests.{lt-ltb, le-ltb, leb-true, leb-false}
 use Rattle.automaton.specs.Rule.{Rule, overlaps, state_count}
 use Rattle.automaton.specs.Layers.{edge_start, Holds}
@@ -185,20 +183,6 @@ pub rows_fresh : (m : ℕ) {n : ℕ} {tb : List ℕ} → Lent n tb → Fresh tb 
 rows_fresh m h = record { head = h.head; empty = h.empty; zeros = λ s l. zeros_zero m s }
 
 -- ---- more cells
-
-pub copied_start : (from to : List ℕ) → Copied from to to 0
-copied_start from to = record { size = refl; copied = λ i l. absurd (omega arith); kept = λ i l. refl }
-
-pub copied_next : {from to to₁ : List ℕ} {n : ℕ} → Copied from to to₁ n → n < length to
-    → Copied from to (set to₁ n (get_or from n 0)) (n + 1)
-copied_next {from} {to} {to₁} {n} c l =
-    record {
-      size = simp length-set c.size;
-      copied = below_more (λ i. get_or (set to₁ n (get_or from n 0)) i 0 ≡ get_or from i 0) n
-          (λ i b. get_or-set_other to₁ n i (get_or from n 0) 0 (λ z. omega arith) ∙ c.copied i b)
-          (get_or-set_same to₁ n (get_or from n 0) 0 (omega (arith, c.size)));
-      kept = λ i b. get_or-set_other to₁ n i (get_or from n 0) 0 (λ z. omega arith) ∙ c.kept i (omega arith);
-    }
 
 -- the cells that were there are copied into a row of more, all zero before: all states have the cells that they had
 pub going_wide : (m : ℕ) {strict : Bool} {bytes tb rows rows₁ : List ℕ} {at : ℕ} {b : Book} → Going strict bytes tb rows at b
