@@ -8,11 +8,13 @@ ghost use Rattle.answer_word.specs.Words.{turn_word, next_after, examined_after}
 
 use answer::{Cut, Refusal, RuleName, Turn};
 
-pub fn read(answer: Result<usize, Refusal>) -> u64
-    ensures { result ≡ book_word answer }
+// An answer that is a number of rules or of bytes.
+pub fn counted(answer: Result<usize, Refusal>) -> u64
+    ensures of_book { result ≡ book_word answer }
+    ensures of_print { result ≡ print_word answer }
 {
     match answer {
-        Ok(rules) => accepted(rules, 0),
+        Ok(count) => accepted(count, 0),
         Err(refusal) => refused(refusal),
     }
 }
@@ -22,15 +24,6 @@ pub fn ruled(answer: Result<RuleName, Refusal>) -> u64
 {
     match answer {
         Ok(rule) => accepted(rule.tag, rule.kind),
-        Err(refusal) => refused(refusal),
-    }
-}
-
-pub fn printed(answer: Result<usize, Refusal>) -> u64
-    ensures { result ≡ print_word answer }
-{
-    match answer {
-        Ok(bytes) => accepted(bytes, 0),
         Err(refusal) => refused(refusal),
     }
 }

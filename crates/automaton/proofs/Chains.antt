@@ -1,8 +1,9 @@
 -- A walk along a chain: what is left of it, and what the walk asks of the whole. Assumes nothing.
-use mathlib.Core.Path.{◌≡◌, refl, sym, ◌∙◌}
+use mathlib.Core.Path.{◌≡◌, sym, ◌∙◌}
 use mathlib.Core.List.{List, [], ◌∷◌}
 use Prim.Native.Nat.{ℕ, ◌<◌}
 use native.Mathlib.Omega.{arith}
+use lib.ListN.{length}
 use Rattle.automaton.specs.Rule.{Transition}
 use Rattle.automaton.specs.Layers.{next_of, edge_at, Edge, Link, Chain, Chained}
 
@@ -16,9 +17,6 @@ pub record Left {A : Type 0} (tb : List ℕ) (first h : ℕ) (f : List Transitio
 pub record Along {A : Type 0} (tb : List ℕ) (head h : ℕ) (f : List Transition → A) : Type 0 where
   pub left : (first : ℕ) (ts : List Transition) → Chain tb first head ts → Left tb first h f (f ts)
 
-pub along_start : {A : Type 0} (tb : List ℕ) (h : ℕ) (f : List Transition → A) → Along tb h h f
-along_start tb h f = record { left = λ first ts c. record { transitions = ts; chain = c; same = refl } }
-
 -- the link at which the walk stands
 pub record At (tb : List ℕ) (first h : ℕ) : Type 0 where
   pub transition : Transition
@@ -31,9 +29,6 @@ at_left tb first h (t ∷ ts) (l, c) pos = record { transition = t; link = l }
 module _ {A : Type 0} {tb : List ℕ} {head h : ℕ} {f : List Transition → A} (w : Along tb head h f) where
   pub along_in : (first : ℕ) (ts : List Transition) → Chain tb first head ts → 0 < h → At tb first h
   along_in first ts c pos = let m = w.left first ts c in at_left tb first h m.transitions m.chain pos
-
-  pub along_at : (k : Chained tb head) → 0 < h → At tb k.first h
-  along_at k pos = along_in k.first k.transitions k.chain pos
 
   -- past a link that f passes over
   pub along_next : {n : ℕ} → 0 < h → ((t : Transition) (us : List Transition) → Edge tb h t → f (t ∷ us) ≡ f us)
@@ -61,3 +56,17 @@ module _ {A : Type 0} {tb : List ℕ} {head h : ℕ} {f : List Transition → A}
       go : {y : A} (us : List Transition) → Chain tb first h us → y ≡ f us → x ≡ y
       go [] k s = e ∙ sym s
       go (t ∷ us) (l, k) s = let p = l.some in absurd (omega arith)
+
+-- a chain that goes on has a word at its link, and goes on from the next
+pub record Step (tb : List ℕ) (h : ℕ) : Type 0 where
+  pub room : h < length tb
+  pub back : next_of (edge_at tb h) < h
+  pub rest : Chained tb (next_of (edge_at tb h))
+
+pub chained_step : {tb : List ℕ} {h : ℕ} → Chained tb h → 0 < h → Step tb h
+chained_step {tb} {h} k pos = go k.transitions k.chain
+  where
+    go : (ts : List Transition) → Chain tb k.first h ts → Step tb h
+    go [] c = absurd (omega arith)
+    go (t ∷ ts) (l, c) =
+        record { room = l.edge.room; back = l.back; rest = record { first = k.first; transitions = ts; chain = c } }

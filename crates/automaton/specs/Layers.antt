@@ -1,5 +1,5 @@
 -- What the layers of the code ask and answer between themselves. Nobody needs to believe it: the operations' contracts do not rest on it.
-use Rattle.std.specs.Prelude.{◌≡◌, Bool, false, ◌&&◌, List, [], ◌∷◌, ℕ, ◌+◌, ◌-◌, ◌*◌, ◌/◌, ◌%◌, ◌<◌, ◌≤◌, leb, eqb, length, get_or}
+use Rattle.std.specs.Prelude.{◌≡◌, Bool, false, ◌&&◌, List, [], ◌∷◌, Option, None, Some, ℕ, ◌+◌, ◌-◌, ◌*◌, ◌/◌, ◌%◌, ◌<◌, ◌≤◌, leb, eqb, length, get_or}
 use Rattle.automaton.specs.Rule.{state_count, Transition, Rule, Sound}
 use Rattle.automaton.specs.Choice.{if, All, among}
 
@@ -142,6 +142,19 @@ pub record Chained (tb : List ℕ) (h : ℕ) : Type 0 where
   pub first : ℕ
   pub transitions : List Transition
   pub chain : Chain tb first h transitions
+
+-- a step from link h of a chain past its word e
+pub record Passes (tb : List ℕ) (h e : ℕ) (tb₁ : List ℕ) (h₁ : ℕ) : Type 0 where
+  pub some : 0 < h
+  pub word : e ≡ edge_at tb h
+  pub next : h₁ ≡ next_of (edge_at tb h)
+  pub lower : h₁ < h
+  pub same : tb₁ ≡ tb
+
+-- a step from link h, with no word at the chain's end
+abbrev pub Follows : List ℕ → ℕ → Option ℕ → List ℕ → ℕ → Type 0
+Follows tb h None tb₁ h₁ = (h ≡ 0) × (h₁ ≡ 0)
+Follows tb h (Some e) tb₁ h₁ = Passes tb h e tb₁ h₁
 
 -- what these transitions cover lies from low to high
 abbrev pub Between : ℕ → ℕ → List Transition → Type 0

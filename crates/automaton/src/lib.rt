@@ -2,6 +2,7 @@
 // known here, in `words` and in crate `table_builder` alone, which fills one. Crate `walker` goes along a rule's transitions over a text.
 #![tactic(auto)]
 
+pub mod chain;
 pub mod words;
 
 ghost use Rattle.std.specs.Prelude.{◌≡◌, ◌<◌, List, eqb, length, MatchOption};

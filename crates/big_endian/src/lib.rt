@@ -10,7 +10,7 @@ pub fn read_two(bytes: &[u8], at: usize) -> u16
     requires { at + 2 ≤ length bytes.now }
     ensures { result ≡ two_at bytes.now at }
 {
-    (bytes[at] as u16) * 256 + (bytes[at + 1] as u16)
+    u16::from_be_bytes([bytes[at], bytes[at + 1]])
 }
 
 // The four-byte number at `at`.
@@ -18,7 +18,7 @@ pub fn read_four(bytes: &[u8], at: usize) -> u32
     requires { at + 4 ≤ length bytes.now }
     ensures { result ≡ four_at bytes.now at }
 {
-    (read_two(bytes, at) as u32) * 65536 + (read_two(bytes, at + 2) as u32)
+    u32::from_be_bytes([bytes[at], bytes[at + 1], bytes[at + 2], bytes[at + 3]])
 }
 
 // Stores the low two bytes of a number from `at` on.
@@ -26,8 +26,7 @@ pub fn put_two(bytes: &mut [u8], at: usize, n: u64)
     requires { at + 2 ≤ length bytes.old }
     ensures { bytes.new ≡ sets bytes.old at (two n) }
 {
-    bytes[at] = (n / 256 % 256) as u8;
-    bytes[at + 1] = (n % 256) as u8;
+    bytes[at..at + 2].copy_from_slice(&((n % 65536) as u16).to_be_bytes());
 }
 
 // Stores the low four bytes of a number from `at` on.
@@ -35,6 +34,5 @@ pub fn put_four(bytes: &mut [u8], at: usize, n: u64)
     requires { at + 4 ≤ length bytes.old }
     ensures { bytes.new ≡ sets bytes.old at (four n) }
 {
-    put_two(bytes, at, n / 65536);
-    put_two(bytes, at + 2, n);
+    bytes[at..at + 4].copy_from_slice(&((n % 4294967296) as u32).to_be_bytes());
 }

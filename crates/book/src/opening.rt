@@ -24,20 +24,18 @@ pub fn open_rule(
     if Book::RULES <= rules {
         return Err(Reason::TooMany.at(at));
     }
-    if tag == 0 {
-        return Err(Reason::OutOfRange.at(at));
-    }
-    if 1 < kind {
+    if tag == 0 || 1 < kind {
         return Err(Reason::OutOfRange.at(at));
     }
     if is_taken(table, tag) {
         return Err(Reason::TagTaken.at(at));
     }
-    let mut next = Book::between(rules, book.edges);
-    next.inside = true;
-    next.tag = tag;
-    next.kind = kind;
-    Ok(Progress::On(next))
+    Ok(Progress::On(Book {
+        inside: true,
+        tag,
+        kind,
+        ..Book::between(rules, book.edges)
+    }))
 }
 
 // Whether a rule of the table has this tag.

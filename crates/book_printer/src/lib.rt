@@ -9,6 +9,7 @@ ghost use Rattle.std.specs.Prelude.{◌≡◌};
 ghost use Rattle.printer.specs.Outcome.{print_outcome};
 
 use answer::Refusal;
+use book::Book;
 
 // Prints the tokens that `records` say with `pool`, by the rules of a book: the number of bytes, which stand at the start of `out`,
 // or the refusal of document 01. Every other byte of `out` stays as it was.
@@ -17,8 +18,8 @@ pub fn print(book: &[u8], records: &[u8], pool: &[u8], out: &mut [u8]) -> Result
     ensures out_after { out.new
         ≡ (print_outcome book.now records.now pool.now out.old).out }
 {
-    if crate::sizes::is_short(records, pool) {
-        return crate::sizes::print_short(book, records, pool, out);
+    if sizes::is_short(records, pool) {
+        return sizes::print_through::<{ Book::SMALL }>(book, records, pool, out);
     }
-    crate::sizes::print_long(book, records, pool, out)
+    sizes::print_through::<{ Book::TEXT }>(book, records, pool, out)
 }

@@ -1,6 +1,7 @@
 // Printing a list with a scratch for its bytes, small where the list is short, and with a table of the size that the book needs, as
 // `book_lexer` has them for cutting (docs/DECISIONS.md, "Sizes by need").
-ghost use Rattle.std.specs.Prelude.{◌≡◌, true, length};
+ghost use Rattle.std.specs.Prelude.{◌≡◌, true, ◌≤◌, length, replicate};
+ghost use Rattle.book.specs.Limits.{max_text};
 ghost use Rattle.reader.specs.Layers.{Lent, Suits};
 ghost use Rattle.output.specs.Layers.{PrintAnswered};
 ghost use Rattle.printer.specs.Outcome.{print_outcome};
@@ -22,34 +23,25 @@ pub fn is_short(records: &[u8], pool: &[u8]) -> bool
     }
 }
 
-pub fn print_short(
+// With a scratch of so many bytes.
+#[inline(never)]
+pub fn print_through<const BYTES: usize>(
     book: &[u8],
     records: &[u8],
     pool: &[u8],
     out: &mut [u8],
 ) -> Result<usize, Refusal>
-    requires { Short records.now pool.now }
-    ensures { PrintAnswered (print_outcome book.now records.now pool.now out.old)
+    requires few { BYTES ≤ max_text }
+    requires room { Roomy records.now pool.now (replicate BYTES 0) }
+    ensures { PrintAnswered
+        (print_outcome book.now records.now pool.now out.old)
         result out.new }
 {
-    let mut scratch = [0u8; Book::SMALL];
+    let mut scratch = [0u8; BYTES];
     print_sized(book, records, pool, &mut scratch, out)
 }
 
-pub fn print_long(
-    book: &[u8],
-    records: &[u8],
-    pool: &[u8],
-    out: &mut [u8],
-) -> Result<usize, Refusal>
-    ensures { PrintAnswered (print_outcome book.now records.now pool.now out.old)
-        result out.new }
-{
-    let mut scratch = [0u8; Book::TEXT];
-    print_sized(book, records, pool, &mut scratch, out)
-}
-
-fn print_sized(
+pub fn print_sized(
     book: &[u8],
     records: &[u8],
     pool: &[u8],

@@ -9,6 +9,7 @@ ghost use Rattle.std.specs.Prelude.{◌≡◌};
 ghost use Rattle.separated.specs.Outcome.{separated_outcome};
 
 use answer::Refusal;
+use book::Book;
 use record::TokenRecord;
 
 // Prints the tokens that `records` say with `pool`, by the rules of a book, with the separator token between neighbours: in mode 1
@@ -27,8 +28,8 @@ pub fn print_separated(
     ensures out_after { out.new
         ≡ (separated_outcome book.now separator mode records.now pool.now out.old).out }
 {
-    if crate::sizes::is_short(separator, records, pool) {
-        return crate::sizes::print_short(book, separator, mode, records, pool, out);
+    if sizes::is_short(separator, records, pool) {
+        return sizes::print_through::<{ Book::SMALL }>(book, separator, mode, records, pool, out);
     }
-    crate::sizes::print_long(book, separator, mode, records, pool, out)
+    sizes::print_through::<{ Book::TEXT }>(book, separator, mode, records, pool, out)
 }

@@ -1,6 +1,7 @@
 // Printing a list with separators: the scratch is small where the list is short, and the table has the size that the book needs, as
 // `book_lexer` has them for cutting (docs/DECISIONS.md, "Sizes by need").
-ghost use Rattle.std.specs.Prelude.{◌≡◌, true, length};
+ghost use Rattle.std.specs.Prelude.{◌≡◌, true, ◌≤◌, length, replicate};
+ghost use Rattle.book.specs.Limits.{max_text};
 ghost use Rattle.reader.specs.Layers.{Lent, Suits};
 ghost use Rattle.output.specs.Layers.{PrintAnswered};
 ghost use Rattle.separated.specs.Outcome.{separated_outcome};
@@ -24,7 +25,9 @@ pub fn is_short(separator: TokenRecord, records: &[u8], pool: &[u8]) -> bool
     }
 }
 
-pub fn print_short(
+// With a scratch of so many bytes.
+#[inline(never)]
+pub fn print_through<const BYTES: usize>(
     book: &[u8],
     separator: TokenRecord,
     mode: u32,
@@ -32,32 +35,17 @@ pub fn print_short(
     pool: &[u8],
     out: &mut [u8],
 ) -> Result<usize, Refusal>
-    requires { Short separator records.now pool.now }
+    requires few { BYTES ≤ max_text }
+    requires room { Roomy separator mode records.now pool.now (replicate BYTES 0) }
     ensures { PrintAnswered
         (separated_outcome book.now separator mode records.now pool.now out.old)
         result out.new }
 {
-    let mut scratch = [0u8; Book::SMALL];
+    let mut scratch = [0u8; BYTES];
     print_sized(book, separator, mode, records, pool, &mut scratch, out)
 }
 
-pub fn print_long(
-    book: &[u8],
-    separator: TokenRecord,
-    mode: u32,
-    records: &[u8],
-    pool: &[u8],
-    out: &mut [u8],
-) -> Result<usize, Refusal>
-    ensures { PrintAnswered
-        (separated_outcome book.now separator mode records.now pool.now out.old)
-        result out.new }
-{
-    let mut scratch = [0u8; Book::TEXT];
-    print_sized(book, separator, mode, records, pool, &mut scratch, out)
-}
-
-fn print_sized(
+pub fn print_sized(
     book: &[u8],
     separator: TokenRecord,
     mode: u32,

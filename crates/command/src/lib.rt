@@ -125,7 +125,7 @@ fn state(book: &[u8], at: usize) -> u16
     requires { at < length book.now }
     ensures { result ≡ byte_at book.now at }
 {
-    book[at] as u16
+    u16::from(book[at])
 }
 
 // The command `code` whose operands begin after `at`.

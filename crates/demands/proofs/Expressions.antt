@@ -1,7 +1,8 @@
 -- The rules of expressions keep what is asked of them. Assumes nothing.
+use Rattle.answer.specs.declared.Reason.TheVariants.{LargeExpression, NoExpression, OutOfRange, OutputTooShort, TooManySets}
+use Rattle.answer.specs.Refusals.{number_of}
 use Rattle.answer.specs.declared.Reason.{Reason}
 use Rattle.std.specs.Prelude.{Result, Ok, Err}
-use Rattle.answer.specs.declared.Reason.TheVariants.{NoExpression, OutputTooShort}
 use mathlib.Core.Path.{◌≡◌, refl, sym, ap, subst, ◌∙◌}
 use mathlib.Core.Logic.{◌⊎◌, inl, inr}
 use mathlib.Core.Bool.{Bool, true, false, ◌||◌}
@@ -196,25 +197,25 @@ compile_leaves tag kind text out = keeps_if out _ _ _ _ (keeps_if out _ _ _ _ (k
 -- a refusal by one of these numbers
 abbrev Numbered : List ℕ → Result ℕ Refusal → Type 0
 Numbered numbers (Ok n) = Unit {0}
-Numbered numbers (Err f) = among f.number numbers ≡ true
+Numbered numbers (Err f) = among (number_of f.reason) numbers ≡ true
 
-numbered-if : (numbers : List ℕ) (t : Bool) (reason : Reason) (place : ℕ) (out : List ℕ) (next : PrintOutcome) → among number numbers ≡ true
+numbered-if : (numbers : List ℕ) (t : Bool) (reason : Reason) (place : ℕ) (out : List ℕ) (next : PrintOutcome) → among (number_of reason) numbers ≡ true
     → Numbered numbers next.answer → Numbered numbers (refused_if t reason place out next).answer
 unfolding refused_if
-numbered-if numbers true number place out next e n = e
-numbered-if numbers false number place out next e n = n
+numbered-if numbers true reason place out next e n = e
+numbered-if numbers false reason place out next e n = n
 
 -- of a text that spells an expression
 spelled-numbered : (numbers : List ℕ) → among 31 numbers ≡ true → among 32 numbers ≡ true → among 22 numbers ≡ true
     → (tag kind : ℕ) (e : Expression) (out : List ℕ) → Numbered numbers (compile_reading tag kind (right e) out).answer
 spelled-numbered numbers a b c tag kind e out =
-    numbered-if numbers _ 31 0 out _ a (numbered-if numbers _ 32 0 out _ b
-    (numbered-if numbers _ 22 (length (compiled tag kind e)) out (print_accepted (compiled tag kind e) out) c tt))
+    numbered-if numbers _ LargeExpression 0 out _ a (numbered-if numbers _ TooManySets 0 out _ b
+    (numbered-if numbers _ OutputTooShort (length (compiled tag kind e)) out (print_accepted (compiled tag kind e) out) c tt))
 
 compile_numbered : (tag kind : ℕ) (text out : List ℕ) → Numbered compile_numbers (compile_outcome tag kind text out).answer
 unfolding compile_outcome
 compile_numbered tag kind text out =
-    numbered-if compile_numbers _ 6 0 out _ refl (numbered-if compile_numbers _ 31 0 out _ refl (go (read_expression text)))
+    numbered-if compile_numbers _ OutOfRange 0 out _ refl (numbered-if compile_numbers _ LargeExpression 0 out _ refl (go (read_expression text)))
   where
     go : (r : reading.Reading) → Numbered compile_numbers (compile_reading tag kind r out).answer
     go (wrong place) = refl

@@ -62,7 +62,7 @@ strict_refuses_step book place e = go (stricter book)
         rw y (l, b)
 
 pub strict_refuses_alike : StrictRefusesAlike
-strict_refuses_alike book number place e n = go (stricter book)
+strict_refuses_alike book reason place e n = go (stricter book)
   where
     go : Stricter book (read_strict book) (read_book book) → read_book book ≡ refused reason place
     go (alike s) = sym s ∙ e

@@ -71,8 +71,8 @@ Keeps out o = (r : Refusal) → o.answer ≡ Err r → o.out ≡ out
 module _ (out : List ℕ) where
   pub keeps_if : (t : Bool) (reason : Reason) (place : ℕ) (next : PrintOutcome) → Keeps out next → Keeps out (refused_if t reason place out next)
   unfolding refused_if
-  keeps_if true number place next h r e = refl
-  keeps_if false number place next h r e = h r e
+  keeps_if true reason place next h r e = refl
+  keeps_if false reason place next h r e = h r e
 
   keeps_unless : (o : Option Refusal) (next : PrintOutcome) → Keeps out next → Keeps out (unless o out next)
   unfolding unless
@@ -85,9 +85,9 @@ module _ (out : List ℕ) where
   pub keeps_written : (w : List ℕ) → Keeps out (written w out)
   keeps_written w = keeps_if _ _ _ _ (keeps_accepted w)
 
-  keeps_up_to : (most number : ℕ) (w : List ℕ) → Keeps out (written_up_to most number w out)
+  keeps_up_to : (most : ℕ) (reason : Reason) (w : List ℕ) → Keeps out (written_up_to most reason w out)
   unfolding written_up_to
-  keeps_up_to most number w = keeps_if _ _ _ _ (keeps_written w)
+  keeps_up_to most reason w = keeps_if _ _ _ _ (keeps_written w)
 
   pub past_accepted : (o : PrintOutcome) (w : List ℕ) (n : ℕ) → n ≡ length w → o ≡ print_accepted w out → drop n o.out ≡ drop n out
   past_accepted o w n l e = rw (e, l) (drop_at w (drop (length w) out) (length w) refl)

@@ -28,17 +28,17 @@ module _ (t : List ℕ) (at : ℕ) (h : at < length t) where
   loops_there = rw (drop-cons t at 0 h)
 
 module _ (t : List ℕ) (at : ℕ) (h : length t ≤ at) where
-  pub loops-end : loops (drop at t) ≡ false
+  pub loops_end : loops (drop at t) ≡ false
   unfolding loops
-  loops-end = rw (drop-end t at h)
+  loops_end = rw (drop-end t at h)
 
   pub starts_end : (c : ℕ) → starts_with c (drop at t) ≡ false
   unfolding starts_with
   starts_end c = rw (drop-end t at h)
 
-  pub ends-end : ends_sequence (drop at t) ≡ true
+  pub ends_end : ends_sequence (drop at t) ≡ true
   unfolding ends_sequence
-  ends-end = rw (drop-end t at h)
+  ends_end = rw (drop-end t at h)
 
 -- a byte that stands there is in the text
 pub starts_inside : (t : List ℕ) (at c : ℕ) → starts_with c (drop at t) ≡ true → at < length t

@@ -1,5 +1,6 @@
 -- What reading a text answers, and what it notes of the positions of the expression.
 use Rattle.std.specs.Prelude.{◌≡◌, Bool, true, false, ◌&&◌, ◌||◌, List, [], ◌∷◌, ℕ, ◌+◌, ◌<◌, ◌≤◌, eqb, leb, ltb, length, get_or, drop}
+use Rattle.std.specs.Prelude.{Result, Ok, Err}
 use Rattle.std.specs.Int.Bits.{bit_or}
 use Rattle.automaton.specs.Choice.{if}
 use Rattle.expression.specs.Expression.{Expression}
@@ -8,8 +9,6 @@ use Rattle.expression.specs.Reading.{read_as, Reading, right, wrong, read_expres
 use Rattle.positions.specs.Positions.{larger}
 use Rattle.positions.specs.Numbers.{member}
 use Rattle.position_reader.specs.declared.Part.{Part}
-use Rattle.position_reader.specs.declared.Read.{Read}
-use Rattle.position_reader.specs.declared.Read.TheVariants as read
 use Rattle.position_reader.specs.Layers.{place_of, part_of, Noted, Reads}
 
 -- ---- what stands behind what has been read
@@ -33,18 +32,15 @@ pub record Linked (from to last first : ℕ) (follow follow' : List ℕ) : Type 
 -- ---- what is read
 
 -- of what stands at a place
-pub record ReadsAt (level : Level) (text : List ℕ) (at base : ℕ) (r : Read) (takers takers' follow follow' : List ℕ) : Type 0 where
+pub record ReadsAt (level : Level) (text : List ℕ) (at base : ℕ) (r : Result Part ℕ) (takers takers' follow follow' : List ℕ) : Type 0 where
   pub reads : Reads text base (read_as level (drop at text)) r takers takers' follow follow'
 
 -- a whole text
-abbrev pub finished : List ℕ → Part → Read
-finished text part = if (ltb part.at (length text)) (read.Wrong part.at) (read.Right part)
+unfoldable pub whole_read : List ℕ → Reading → Result Part ℕ
+whole_read text (right e) = Ok (part_of text 0 e [])
+whole_read text (wrong place) = Err place
 
-unfoldable pub whole_read : List ℕ → Reading → Read
-whole_read text (right e) = read.Right (part_of text 0 e [])
-whole_read text (wrong place) = read.Wrong place
-
-pub record ReadsWhole (text : List ℕ) (r : Read) (takers takers' follow follow' : List ℕ) : Type 0 where
+pub record ReadsWhole (text : List ℕ) (r : Result Part ℕ) (takers takers' follow follow' : List ℕ) : Type 0 where
   pub answer : r ≡ whole_read text (read_expression text)
   pub noted : (e : Expression) → read_expression text ≡ right e → Noted 0 e takers takers' follow follow'
 
@@ -82,50 +78,31 @@ abbrev pub made_part : Part → ℕ → Bool → Part
 made_part p deep empty =
     record { at = p.at + 1; end = p.end; depth = deep; empty = empty; first = p.first; last = p.last }
 
-unfoldable pub joined_read : Part → Read → Read
-joined_read l (read.Right r) = read.Right (joined_part l r)
-joined_read l (read.Wrong p) = read.Wrong p
-
-unfoldable pub united_read : Part → Read → Read
-united_read l (read.Right r) = read.Right (united_part l r)
-united_read l (read.Wrong p) = read.Wrong p
-
 -- in parentheses, where this is left of the text
-unfoldable pub closed_part : Part → List ℕ → Read
-closed_part p [] = read.Wrong p.at
-closed_part p (b ∷ t) = if (eqb b 41) (read.Right (made_part p (p.depth + 1) p.empty)) (read.Wrong p.at)
-
-unfoldable pub closed_read : List ℕ → Read → Read
-closed_read text (read.Right p) = closed_part p (drop p.at text)
-closed_read text (read.Wrong p) = read.Wrong p
+unfoldable pub closed_part : Part → List ℕ → Result Part ℕ
+closed_part p [] = Err p.at
+closed_part p (b ∷ t) = if (eqb b 41) (Ok (made_part p (p.depth + 1) p.empty)) (Err p.at)
 
 -- with what it carries, where this is left of the text
-unfoldable pub carried_part : Part → List ℕ → Read
-carried_part p [] = read.Right p
+unfoldable pub carried_part : Part → List ℕ → Part
+carried_part p [] = p
 carried_part p (b ∷ t) =
-    if (eqb b 42) (read.Right (made_part p p.depth true))
-    (if (eqb b 43) (read.Right (made_part p p.depth p.empty))
-    (if (eqb b 63) (read.Right (made_part p p.depth true)) (read.Right p)))
-
-unfoldable pub carried_read : List ℕ → Read → Read
-carried_read text (read.Right p) = carried_part p (drop p.at text)
-carried_read text (read.Wrong p) = read.Wrong p
+    if (eqb b 42) (made_part p p.depth true)
+    (if (eqb b 43) (made_part p p.depth p.empty)
+    (if (eqb b 63) (made_part p p.depth true) p))
 
 -- a * or a + stands there
 unfoldable pub loops : List ℕ → Bool
 loops [] = false
 loops (b ∷ t) = eqb b 42 || eqb b 43
 
--- of a part that was read: its place is in the text, and it is no deeper than that
-pub record Placed (text : List ℕ) (r : Read) : Type 0 where
-  pub inside : (p : Part) → r ≡ read.Right p → (p.at ≤ length text) × (p.depth ≤ p.at)
+-- of an atom p that was read: what it carries, and the links of that
+pub record Carries (text : List ℕ) (base : ℕ) (p r : Part) (follow follow' : List ℕ) : Type 0 where
+  pub answer : r ≡ carried_part p (drop p.at text)
+  pub looped : loops (drop p.at text) ≡ true → Linked base p.end p.last p.first follow follow'
+  pub kept : loops (drop p.at text) ≡ false → follow' ≡ follow
 
-pub record Carries (text : List ℕ) (base : ℕ) (atom r : Read) (follow follow' : List ℕ) : Type 0 where
-  pub answer : r ≡ carried_read text atom
-  pub looped : (p : Part) → atom ≡ read.Right p → loops (drop p.at text) ≡ true
-      → Linked base p.end p.last p.first follow follow'
-  pub kept : (p : Part) → atom ≡ read.Right p → loops (drop p.at text) ≡ false → follow' ≡ follow
-
-pub record Joins (base : ℕ) (l : Part) (right r : Read) (follow follow' : List ℕ) : Type 0 where
-  pub answer : r ≡ joined_read l right
-  pub linked : (p : Part) → right ≡ read.Right p → Linked base l.end l.last p.first follow follow'
+-- of the part p that was read behind l
+pub record Joins (base : ℕ) (l p r : Part) (follow follow' : List ℕ) : Type 0 where
+  pub answer : r ≡ joined_part l p
+  pub linked : Linked base l.end l.last p.first follow follow'

@@ -4,32 +4,27 @@
 ghost use Rattle.std.specs.Prelude.{◌≡◌};
 ghost use Rattle.expression.specs.Spelling.{alternatives, sequence, piece};
 ghost use Rattle.position_reader.specs.Layers.{Ready};
-ghost use Rattle.expression_reader.specs.Layers.{ReadsAt, ReadsWhole, finished};
+ghost use Rattle.expression_reader.specs.Layers.{ReadsAt, ReadsWhole};
 
-use position_reader::{Part, Read};
+use position_reader::Part;
 
 mod joining;
 
-// Reads a whole text. The tables get what its positions take and which of them follow each other; `takers` is empty before.
-pub fn read_expression(text: &[u8], takers: &mut [u64; 256], follow: &mut [u64; 64]) -> Read
+// Reads a whole text; the Err is the place of its first fault. The tables get what its positions take and which of them follow each
+// other; `takers` is empty before.
+pub fn read_expression(
+    text: &[u8],
+    takers: &mut [u64; 256],
+    follow: &mut [u64; 64],
+) -> Result<Part, usize>
     ensures { ReadsWhole text.now result
         takers.old takers.new follow.old follow.new }
 {
-    match read_alternatives(text, 0, 0, takers, follow) {
-        Read::Right(part) => finish(text, part),
-        Read::Wrong(place) => Read::Wrong(place),
-    }
-}
-
-// What is read has to be all of the text.
-fn finish(text: &[u8], part: Part) -> Read
-    ensures { result ≡ finished text.now part }
-{
-    let at = part.at;
-    if at < text.len() {
-        Read::Wrong(at)
+    let part = read_alternatives(text, 0, 0, takers, follow)?;
+    if part.at < text.len() {
+        Err(part.at)
     } else {
-        Read::Right(part)
+        Ok(part)
     }
 }
 
@@ -41,24 +36,17 @@ fn read_alternatives(
     base: usize,
     takers: &mut [u64; 256],
     follow: &mut [u64; 64],
-) -> Read
+) -> Result<Part, usize>
     requires { Ready text.now at base }
     ensures { ReadsAt alternatives text.now at base result
         takers.old takers.new follow.old follow.new }
 {
-    match read_sequence(text, at, base, takers, follow) {
-        Read::Wrong(place) => Read::Wrong(place),
-        Read::Right(left) => {
-            let behind = left.at;
-            let end = left.end;
-            if joining::stands(text, behind, b'|') {
-                let right = read_alternatives(text, behind + 1, end, takers, follow);
-                joining::unite(left, right)
-            } else {
-                Read::Right(left)
-            }
-        }
+    let left = read_sequence(text, at, base, takers, follow)?;
+    if !joining::stands(text, left.at, b'|') {
+        return Ok(left);
     }
+    let right = read_alternatives(text, left.at + 1, left.end, takers, follow)?;
+    Ok(joining::unite(left, right))
 }
 
 // A sequence: a piece, and where it does not end behind it, a sequence again.
@@ -69,24 +57,17 @@ fn read_sequence(
     base: usize,
     takers: &mut [u64; 256],
     follow: &mut [u64; 64],
-) -> Read
+) -> Result<Part, usize>
     requires { Ready text.now at base }
     ensures { ReadsAt sequence text.now at base result
         takers.old takers.new follow.old follow.new }
 {
-    match read_piece(text, at, base, takers, follow) {
-        Read::Wrong(place) => Read::Wrong(place),
-        Read::Right(left) => {
-            let behind = left.at;
-            let end = left.end;
-            if joining::ends_sequence(text, behind) {
-                Read::Right(left)
-            } else {
-                let right = read_sequence(text, behind, end, takers, follow);
-                joining::join(left, right, base, follow)
-            }
-        }
+    let left = read_piece(text, at, base, takers, follow)?;
+    if joining::ends_sequence(text, left.at) {
+        return Ok(left);
     }
+    let right = read_sequence(text, left.at, left.end, takers, follow)?;
+    Ok(joining::join(left, right, base, follow))
 }
 
 // A piece: an atom, which may be alternatives in parentheses, and what it carries.
@@ -97,17 +78,16 @@ fn read_piece(
     base: usize,
     takers: &mut [u64; 256],
     follow: &mut [u64; 64],
-) -> Read
+) -> Result<Part, usize>
     requires { Ready text.now at base }
     ensures { ReadsAt piece text.now at base result
         takers.old takers.new follow.old follow.new }
 {
-    if joining::stands(text, at, b'(') {
-        let inner = read_alternatives(text, at + 1, base, takers, follow);
-        let group = joining::close(text, inner);
-        joining::carry(text, group, base, follow)
+    let atom = if joining::stands(text, at, b'(') {
+        let inner = read_alternatives(text, at + 1, base, takers, follow)?;
+        joining::close(text, inner)?
     } else {
-        let atom = position_reader::read_position(text, at, base, takers, follow);
-        joining::carry(text, atom, base, follow)
-    }
+        position_reader::read_position(text, at, base, takers, follow)?
+    };
+    Ok(joining::carry(text, atom, base, follow))
 }

@@ -1,4 +1,5 @@
 -- The lines of records, one behind the other. Assumes nothing.
+use Rattle.answer.specs.Refusals.{number_of}
 use Rattle.answer.specs.declared.Cut.{Cut}
 use Rattle.std.specs.Prelude.{Result, Err}
 use Rattle.answer.specs.Answers.{lexed}
@@ -81,8 +82,8 @@ module _ {a : Result Cut Refusal} {tokens rest : ℕ} (e : a ≡ lexed tokens re
   puts_lexed {out} {after} {end} p = subst (λ (x : Result Cut Refusal). Puts out 0 (lines_of x records len) end after) (sym e) p
 
 module _ {a : Result Cut Refusal} {f : Refusal} (e : a ≡ Err f) (records : List ℕ) (len : ℕ) where
-  pub room_refused : {out : List ℕ} → LinesFit a records len out → f.number < 256 → f.place < 18446744073709551616
-      → Room 0 (refused_line f.number f.place) out
+  pub room_refused : {out : List ℕ} → LinesFit a records len out → (number_of f.reason) < 256 → f.place < 18446744073709551616
+      → Room 0 (refused_line (number_of f.reason) f.place) out
   unfolding refused_line last_two
   room_refused {out} t l m =
       let room : refused_bytes ≤ length out = subst (λ (x : Result Cut Refusal). LinesFit x records len out) e t in
@@ -90,15 +91,15 @@ module _ {a : Result Cut Refusal} {f : Refusal} (e : a ≡ Err f) (records : Lis
         room = omega (
           arith,
           room,
-          digits 2 f.number (omega arith),
+          digits 2 (number_of f.reason) (omega arith),
           digits 19 f.place (omega arith),
-          length-append refused_word (field f.number blank ++ field f.place line_end),
-          length-append (field f.number blank) (field f.place line_end),
-          length-append (decimal f.number) (blank ∷ []),
+          length-append refused_word (field (number_of f.reason) blank ++ field f.place line_end),
+          length-append (field (number_of f.reason) blank) (field f.place line_end),
+          length-append (decimal (number_of f.reason)) (blank ∷ []),
           length-append (decimal f.place) (line_end ∷ []),
         );
       }
 
-  pub puts_refused : {out after : List ℕ} {end : ℕ} → Puts out 0 (refused_line f.number f.place) end after
+  pub puts_refused : {out after : List ℕ} {end : ℕ} → Puts out 0 (refused_line (number_of f.reason) f.place) end after
       → Puts out 0 (lines_of a records len) end after
   puts_refused {out} {after} {end} p = subst (λ (x : Result Cut Refusal). Puts out 0 (lines_of x records len) end after) (sym e) p

@@ -9,6 +9,7 @@ use lib.Dec.{eqb, leb, ltb}
 use lib.ListN.{length, get_or, drop, set, length-drop}
 use lib.Seq.{get_or-set_same, get_or-set_other}
 use borrow.Author.Tests.{eqb-true, eqb-false, leb-true, leb-false, ltb-true, eq-eqb, ne_eqb, le-leb, lt-ltb}
+use Rattle.std.specs.Prelude.{Result, Ok, Err}
 use Rattle.automaton.specs.Choice.{if}
 use Rattle.automaton.proofs.Tests.{and_true, and_false_right, or_true}
 use Rattle.expression.specs.Expression.{Position, byte, period, Expression, position, takes}
@@ -18,8 +19,6 @@ use Rattle.positions.proofs.Numbers.{set_none}
 use Rattle.position_reader.specs.Layers.{from, within, place_of, part_of, read_of, Taken, Followed, Noted, Reads}
 use Rattle.position_reader.specs.Steps.{only, Marked, Positioned, ReadPosition}
 use Rattle.position_reader.specs.declared.Part.{Part}
-use Rattle.position_reader.specs.declared.Read.{Read}
-use Rattle.position_reader.specs.declared.Read.TheVariants as read
 use Rattle.position_reader.proofs.Marks.{same_test, marked_same}
 use Rattle.position_reader.proofs.Sets.{first_one, last_one, takers_one}
 
@@ -51,7 +50,7 @@ followed_one base c f f' h =
           ∙ rw (within-one base p, set_none 64 (from base (follows (position c) (p - base))) (λ q k. and_false_right (leb base q)));
     }
 
-pub positioned : (at base : ℕ) (f f' : List ℕ) (s : ℕ) → s ≡ only base
+positioned : (at base : ℕ) (f f' : List ℕ) (s : ℕ) → s ≡ only base
     → ((p : ℕ) → p < 64 → get_or f' p 0 ≡ if (eqb p base) 0 (get_or f p 0))
     → Positioned at base (record { at = at; end = base + 1; depth = 0; empty = false; first = s; last = s }) f f'
 positioned at base f f' s e h =
@@ -60,7 +59,7 @@ positioned at base f f' s e h =
       followed = λ c. followed_one base c f f' h;
     }
 
-pub stored : (base : ℕ) (f : List ℕ) → length f ≡ 64 → base < 64 → (p : ℕ) → p < 64
+stored : (base : ℕ) (f : List ℕ) → length f ≡ 64 → base < 64 → (p : ℕ) → p < 64
     → get_or (set f base 0) p 0 ≡ if (eqb p base) 0 (get_or f p 0)
 stored base f full l p h = go (eqb p base) refl
   where
@@ -68,8 +67,16 @@ stored base f full l p h = go (eqb p base) refl
     go true e = rw (eqb-true p base e) (get_or-set_same f base 0 0 (omega arith))
     go false e = get_or-set_other f base p 0 0 (eqb-false p base e)
 
-pub not_stored : (base : ℕ) (f : List ℕ) → 64 ≤ base → (p : ℕ) → p < 64 → get_or f p 0 ≡ if (eqb p base) 0 (get_or f p 0)
+not_stored : (base : ℕ) (f : List ℕ) → 64 ≤ base → (p : ℕ) → p < 64 → get_or f p 0 ≡ if (eqb p base) 0 (get_or f p 0)
 not_stored base f l p h = rw (ne_eqb p base (omega arith))
+
+pub positioned_below : (at base : ℕ) (f f' : List ℕ) (s : ℕ) → s ≡ only base → base < 64 → length f ≡ 64 → f' ≡ set f base 0
+    → Positioned at base (record { at = at; end = base + 1; depth = 0; empty = false; first = s; last = s }) f f'
+positioned_below at base f f' s e l full q = rw q (positioned at base f (set f base 0) s e (stored base f full l))
+
+pub positioned_above : (at base : ℕ) (f f' : List ℕ) (s : ℕ) → s ≡ only base → 64 ≤ base → f' ≡ f
+    → Positioned at base (record { at = at; end = base + 1; depth = 0; empty = false; first = s; last = s }) f f'
+positioned_above at base f f' s e l q = rw q (positioned at base f f s e (not_stored base f l))
 
 -- the bytes that it takes get its set
 pub taken_one : (base : ℕ) (c : Position) (t t' : List ℕ) → Marked (takes c) (only base) t t' → Taken base (position c) t t'
@@ -84,11 +91,11 @@ taken_one base c t t' m = record { taken = λ b l. m.marked b l ∙ rw (takers_o
 -- a position, from the part that is it, and from what its bytes got
 pub position_read : (c : Position) (at base : ℕ) (p : Part) (s : ℕ) (f f' t t' : List ℕ) (test : ℕ → Bool) → s ≡ only base
     → Positioned at base p f f' → Marked test s t t' → ((b : ℕ) → b < 256 → test b ≡ takes c b)
-    → ReadPosition c at base (read.Right p) t t' f f'
+    → ReadPosition c at base p t t' f f'
 unfolding read_of
 position_read c at base p s f f' t t' test e h m q text rest l =
     record {
-      answer = ap read.Right (h.part text rest c l);
+      answer = ap Ok (h.part text rest c l);
       noted = λ d x y. let z : position c ≡ d = cc in subst (λ (d : Expression). Noted base d t t' f f') z noted;
     }
   where
@@ -103,13 +110,13 @@ place_of_lem text at l = rw length-drop (omega arith)
 
 -- a fault
 pub fault_read : (text : List ℕ) (base place : ℕ) (out : Parsed) (t t' f f' : List ℕ) → out ≡ faulty (drop place text) → place ≤ length text
-    → Reads text base out (read.Wrong place) t t' f f'
+    → Reads text base out (Err place) t t' f f'
 unfolding read_of
 fault_read text base place out t t' f f' e l =
     record { answer = rw (e, place_of_lem text place l); noted = λ d x y. let z : ◌≡◌ {A = ℕ} 0 1 = cc in absurd (omega arith) }
 
 -- from the same outcome
-pub reads_of : {text : List ℕ} {base : ℕ} {out out' : Parsed} {r : Read} {t t' f f' : List ℕ} → out ≡ out'
+pub reads_of : {text : List ℕ} {base : ℕ} {out out' : Parsed} {r : Result Part ℕ} {t t' f f' : List ℕ} → out ≡ out'
     → Reads text base out' r t t' f f' → Reads text base out r t t' f f'
 reads_of {text} {base} {out} {out'} {r} {t} {t'} {f} {f'} e h = subst (λ (o : Parsed). Reads text base o r t t' f f') (sym e) h
 

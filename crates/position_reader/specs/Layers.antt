@@ -1,6 +1,7 @@
 -- What reading answers, and what it notes of the positions that it reads. Positions are numbered from `base` on; those from 64 on are
 -- counted and not noted.
 use Rattle.std.specs.Prelude.{◌≡◌, Bool, false, ◌&&◌, List, [], ◌∷◌, ℕ, ◌+◌, ◌-◌, ◌<◌, ◌≤◌, eqb, leb, ltb, length, get_or}
+use Rattle.std.specs.Prelude.{Result, Ok, Err}
 use Rattle.std.specs.Int.Bits.{bit_or}
 use Rattle.automaton.specs.Choice.{if}
 use Rattle.expression.specs.Expression.{Expression}
@@ -8,8 +9,6 @@ use Rattle.expression.specs.Reading.{Parsed, parsed, faulty}
 use Rattle.positions.specs.Positions.{size, depth, nullable, takes_at, first, last, follows}
 use Rattle.positions.specs.Numbers.{set_of}
 use Rattle.position_reader.specs.declared.Part.{Part}
-use Rattle.position_reader.specs.declared.Read.{Read}
-use Rattle.position_reader.specs.declared.Read.TheVariants as read
 
 -- ---- positions from base on
 
@@ -31,7 +30,7 @@ unfoldable pub starts_with : ℕ → List ℕ → Bool
 starts_with c [] = false
 starts_with c (b ∷ t) = eqb b c
 
--- ---- the answer
+-- ---- the answer: a part, or the place of the fault
 
 abbrev pub part_of : List ℕ → ℕ → Expression → List ℕ → Part
 part_of text base e rest =
@@ -44,9 +43,9 @@ part_of text base e rest =
       last = set_of (from base (last e));
     }
 
-unfoldable pub read_of : List ℕ → ℕ → Parsed → Read
-read_of text base (parsed e rest) = read.Right (part_of text base e rest)
-read_of text base (faulty rest) = read.Wrong (place_of text rest)
+unfoldable pub read_of : List ℕ → ℕ → Parsed → Result Part ℕ
+read_of text base (parsed e rest) = Ok (part_of text base e rest)
+read_of text base (faulty rest) = Err (place_of text rest)
 
 -- ---- what is noted
 
@@ -64,7 +63,7 @@ pub record Noted (base : ℕ) (e : Expression) (takers takers' follow follow' : 
   pub followed : Followed base e follow follow'
 
 -- what reading comes to, and notes where there is no fault
-pub record Reads (text : List ℕ) (base : ℕ) (out : Parsed) (r : Read) (takers takers' follow follow' : List ℕ) : Type 0 where
+pub record Reads (text : List ℕ) (base : ℕ) (out : Parsed) (r : Result Part ℕ) (takers takers' follow follow' : List ℕ) : Type 0 where
   pub answer : r ≡ read_of text base out
   pub noted : (e : Expression) (rest : List ℕ) → out ≡ parsed e rest → Noted base e takers takers' follow follow'
 

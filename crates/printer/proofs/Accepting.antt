@@ -82,7 +82,7 @@ unfolding print_outcome
 printed_accepts book records pool out n e = go (read_book book) refl e
   where
     go : (o : Reading) → read_book book ≡ o → (print_reading o records pool out).answer ≡ Ok n → Accepts book records pool out n
-    go (refused reason place) q z = let y : ◌≡◌ {A = ℕ} 0 1 = cc in absurd (omega arith)
+    go (refused _ place) q z = cc
     go (accepted rules) q z =
         let p = printed_passes rules records pool out z in
         let o = book_written book records pool out rules q p.0 ∙ written-fits (join (tokens_of records pool)) out refl p.1 in

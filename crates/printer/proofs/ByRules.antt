@@ -79,7 +79,7 @@ module _ (rules : List Rule) (records pool out : List ℕ) where
         go (some g) b d z = let y : f ≡ g = cc in record { answer = ap Err y; out = refl }
         go none true d z = let y : f ≡ record { reason = OutputTooLong; place = 0 } = cc in record { answer = ap Err y; out = refl }
         go none false (some g) z = let y : f ≡ g = cc in record { answer = ap Err y; out = refl }
-        go none false none z = let y : ◌≡◌ {A = ℕ} 0 1 = cc in absurd (omega arith)
+        go none false none z = cc
 
     -- a list with which nothing is wrong
     pub clean_written : {scratch : List ℕ} {total : ℕ} → Clean rules records pool scratch total → {r : Result ℕ Refusal} {exit : List ℕ}

@@ -1,6 +1,7 @@
 -- The rehearsal: from the extent, the joined bytes and the first token that is not read back; and what is wrong with a list.
 -- Assumes nothing.
 use Rattle.answer.specs.declared.Reason.TheVariants.{OutputTooLong, ReadOn}
+use Rattle.std.specs.Prelude.{Result, Ok, Err}
 use mathlib.Core.Path.{◌≡◌, refl, sym, ap, ◌∙◌, subst}
 use mathlib.Core.Option.{Option, none, some}
 use mathlib.Core.List.{List}
@@ -22,35 +23,29 @@ use Rattle.token_list.specs.Checks.{refuse, first_fault, first_extended}
 use Rattle.token_list.specs.Layers.{checked_of, Fitting, Joined, Spanned, Spread, Faultless, ReadsBack}
 use Rattle.token_list.proofs.Passes.{faultless_pool}
 use Rattle.printer.specs.Layers.{trouble, Clean, Rehearses, Roomy}
-use Rattle.token_list.specs.declared.Checked.TheVariants as checked
-use Rattle.printer.specs.declared.rehearsal.Rehearsed.{Rehearsed}
-use Rattle.printer.specs.declared.rehearsal.Rehearsed.TheVariants as rehearsed
-
-clean_wrong : {n : ℕ} {f : Refusal} → rehearsed.Clean n ≡ rehearsed.Wrong f → ⊥
-clean_wrong e = let z : ◌≡◌ {A = ℕ} 0 1 = cc in omega arith
 
 -- ---- what is wrong
 
 module _ (rules : List Rule) (records pool : List ℕ) where
   -- the first token at fault comes before all else
-  pub trouble_fault : {f : Refusal} → checked.Refused f ≡ checked_of (first_fault (fault_of rules pool) (records_of records) 0)
+  pub trouble_fault : {f : Refusal} → Err f ≡ checked_of (first_fault (fault_of rules pool) (records_of records) 0)
       → trouble rules records pool ≡ some f
   unfolding trouble
   trouble_fault {f} e = go (first_fault (fault_of rules pool) (records_of records) 0) e
     where
-      go : (o : Option Refusal) → checked.Refused f ≡ checked_of o
+      go : (o : Option Refusal) → Err f ≡ checked_of o
           → or o (refuse (ltb max_text (length (join (tokens_of records pool)))) OutputTooLong 0 (first_extended rules (tokens_of records pool) 0))
           ≡ some f
-      go none z = let y : ◌≡◌ {A = ℕ} 0 1 = cc in absurd (omega arith)
-      go (some g) z = let y : g ≡ f = cc in ap some y
+      go none z = cc
+      go (some g) z = cc
 
-  pub passed_faultless : checked.Passed ≡ checked_of (first_fault (fault_of rules pool) (records_of records) 0) → Faultless rules records pool
+  pub passed_faultless : Ok tt ≡ checked_of (first_fault (fault_of rules pool) (records_of records) 0) → Faultless rules records pool
   passed_faultless e = go (first_fault (fault_of rules pool) (records_of records) 0) refl e
     where
-      go : (o : Option Refusal) → first_fault (fault_of rules pool) (records_of records) 0 ≡ o → checked.Passed ≡ checked_of o
+      go : (o : Option Refusal) → first_fault (fault_of rules pool) (records_of records) 0 ≡ o → Ok tt ≡ checked_of o
           → Faultless rules records pool
       go none q z = q
-      go (some g) q z = let y : ◌≡◌ {A = ℕ} 0 1 = cc in absurd (omega arith)
+      go (some g) q z = cc
 
   module _ (f : Faultless rules records pool) where
     trouble_long : max_text < length (join (tokens_of records pool)) → trouble rules records pool ≡ some (record { reason = OutputTooLong; place = 0 })
@@ -66,32 +61,26 @@ module _ (rules : List Rule) (records pool : List ℕ) where
 
 module _ (rules : List Rule) (records pool scratch : List ℕ) where
   rehearses_wrong : (f : Refusal) → (Faultless rules records pool → trouble rules records pool ≡ some f)
-      → {r : Rehearsed} → r ≡ rehearsed.Wrong f → Rehearses rules records pool scratch r
-  rehearses_wrong f t a =
-      record {
-        clean = λ n e. absurd (clean_wrong (sym e ∙ a));
-        wrong = λ g e n. let y : f ≡ g = cc in t n ∙ ap some y;
-      }
+      → Rehearses rules records pool scratch (Err f)
+  rehearses_wrong f t = record { clean = λ n e. cc; wrong = λ g e n. let y : f ≡ g = cc in t n ∙ ap some y }
 
-  pub rehearses_beyond : (All (InPool pool) (records_of records) → max_text < length (join (tokens_of records pool))) → {r : Rehearsed} → r
-      ≡ rehearsed.Wrong (record { reason = OutputTooLong; place = 0 })
-      → Rehearses rules records pool scratch r
-  rehearses_beyond s = rehearses_wrong (record { reason = OutputTooLong; place = 0 })
+  pub rehearses_beyond : (All (InPool pool) (records_of records) → max_text < length (join (tokens_of records pool)))
+      → Rehearses rules records pool scratch (Err (record { reason = OutputTooLong; place = 0 }))
+  rehearses_beyond s = rehearses_wrong _
       (λ f. trouble_long rules records pool f (s (faultless_pool rules pool (records_of records) 0 f)))
 
   module _ {n k : ℕ} (s : Spanned records pool n) (b : ReadsBack rules records pool k) where
-    pub rehearses_on : k < record_count records → {r : Rehearsed} → r ≡ rehearsed.Wrong (record { reason = ReadOn; place = k })
-        → Rehearses rules records pool scratch r
-    rehearses_on l = rehearses_wrong (record { reason = ReadOn; place = k })
-        (λ f. trouble_on rules records pool f (omega (arith, s.bytes, s.short)) (b.first l f))
+    pub rehearses_on : k < record_count records
+        → Rehearses rules records pool scratch (Err (record { reason = ReadOn; place = k }))
+    rehearses_on l = rehearses_wrong _ (λ f. trouble_on rules records pool f (omega (arith, s.bytes, s.short)) (b.first l f))
 
     pub rehearses_clean : record_count records ≤ k → take n scratch ≡ join (tokens_of records pool)
-        → Rehearses rules records pool scratch (rehearsed.Clean n)
+        → Rehearses rules records pool scratch (Ok n)
     rehearses_clean l t =
         record {
           clean = λ m e. let y : n ≡ m = cc in
               subst (Clean rules records pool scratch) y (record { settled = b.settled l; spanned = s; laid = t });
-          wrong = λ f e. absurd (clean_wrong e);
+          wrong = λ f e. cc;
         }
 
 -- ---- the scratch

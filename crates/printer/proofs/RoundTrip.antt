@@ -2,6 +2,7 @@
 use Rattle.std.specs.Prelude.{Ok, Err}
 use Rattle.answer.specs.declared.Reason.TheVariants.{TextTooLong, TooFewRecords}
 use Rattle.answer.specs.Answers.{lexed}
+use Rattle.answer.specs.declared.Cut.{Cut as Parts}
 use mathlib.Core.Path.{◌≡◌, refl, sym, ap, ◌∙◌}
 use mathlib.Core.Logic.{◌↔◌}
 use mathlib.Core.Bool.{Bool, true, false}
@@ -69,6 +70,12 @@ pub cut_accepts : (book text room : List ℕ) (rules : List Rule) → read_book 
 unfolding lex_outcome lex_rules
 cut_accepts book text room rules e s r = rw (e, le-ltb _ _ s, le-ltb _ _ r)
 
+-- equal answers have equal parts
+same_cut : {n place tokens rest : ℕ} → lexed n place ≡ lexed tokens rest → (n ≡ tokens) × (place ≡ rest)
+same_cut {n} {place} {tokens} {rest} e =
+    let q : ◌≡◌ {A = Parts} (record { tokens = n; rest = place }) (record { tokens = tokens; rest = rest }) = cc in
+    (ap (λ (c : Parts). c.tokens) q, ap (λ (c : Parts). c.rest) q)
+
 pub lexed_cut : (book text room : List ℕ) (n place : ℕ) → (lex_outcome book text room).answer ≡ lexed n place
     → Cut book text room n place
 unfolding lex_outcome lex_rules
@@ -80,12 +87,12 @@ lexed_cut book text room n place e = go (read_book book) refl e
         (if c (record { answer = Err (record { reason = TooFewRecords; place = length (lex rules text).tokens }); records = room })
         (lex_accepted (lex rules text) text room))).answer ≡ lexed n place
         → (b ≡ false) × (c ≡ false)
-    long rules true p c q z = let y : ◌≡◌ {A = ℕ} 0 1 = cc in absurd (omega arith)
-    long rules false p true q z = let y : ◌≡◌ {A = ℕ} 0 1 = cc in absurd (omega arith)
+    long rules true p c q z = cc
+    long rules false p true q z = cc
     long rules false p false q z = (refl, refl)
 
     go : (o : Reading) → read_book book ≡ o → (lex_reading o text room).answer ≡ lexed n place → Cut book text room n place
-    go (refused number at) q z = let y : ◌≡◌ {A = ℕ} 0 1 = cc in absurd (omega arith)
+    go (refused number at) q z = cc
     go (accepted rules) q z =
         let t = long rules (ltb max_text (length text)) refl (ltb (record_count room) (length (lex rules text).tokens)) refl z in
         let s : length text ≤ max_text = ltb-false _ _ t.0 in
@@ -93,7 +100,7 @@ lexed_cut book text room n place e = go (read_book book) refl e
         let o = cut_accepts book text room rules q s r in
         let a : lexed n place ≡ lexed (length (lex rules text).tokens) (length text - length (lex rules text).rest) =
         sym e ∙ ap (λ (x : LexOutcome). x.answer) o in
-        record { rules = rules; reads = q; short = s; enough = r; count = cc; place_is = cc; outcome = o }
+        record { rules = rules; reads = q; short = s; enough = r; count = (same_cut a).0; place_is = (same_cut a).1; outcome = o }
 
 -- the records that an accepted cut stores
 pub stored_records : {book text room : List ℕ} {n place : ℕ} (c : Cut book text room n place)

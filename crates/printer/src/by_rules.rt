@@ -27,6 +27,6 @@ pub fn print_rules(
     }
     match crate::rehearsal::rehearse(table, records, pool, scratch) {
         Ok(total) => output::write(scratch, 0, total, out),
-        Err(found) => { Err(crate::rehearsal::find_refusal(table, records, pool, found)) }
+        Err(found) => Err(crate::rehearsal::find_refusal(table, records, pool, found)),
     }
 }

@@ -1,7 +1,7 @@
 -- The loop of `load`: the rest of the book decides as the whole does. Assumes nothing.
 use Rattle.answer.specs.declared.Reason.{Reason}
 use Rattle.answer.specs.declared.Refusal.{Refusal}
-use Rattle.std.specs.Prelude.{Result, Ok, Err}
+use Rattle.std.specs.Prelude.{Result, Ok, Err, MatchResult, IsErrAnd}
 use Rattle.answer.specs.declared.Reason.TheVariants.{BookTooLong, CutOff}
 use mathlib.Core.Path.{◌≡◌, refl, sym, ◌∙◌, ap, subst}
 use mathlib.Core.Bool.{Bool, true, false}
@@ -9,9 +9,7 @@ use mathlib.Core.List.{List, []}
 use Prim.Native.Nat.{ℕ, zero, suc, ◌+◌, ◌<◌, ◌≤◌}
 use native.Mathlib.Omega.{arith}
 use lib.Dec.{leb}
-use lib.ListN.{replicate, length-replicate, get_or-replicate, length, get_or, set, length-set, get_or-eq_default}
-use lib.Seq.{get_or-set_same, get_or-set_other}
-use borrow.Author.Count.{below_more}
+use lib.ListN.{replicate, length-replicate, get_or-replicate, length, get_or, get_or-eq_default}
 use borrow.Author.Tests.{lt-ltb, le-ltb, leb-true, leb-false}
 use Rattle.automaton.specs.Rule.{Rule, overlaps, state_count}
 use Rattle.automaton.specs.Layers.{edge_start, Holds}
@@ -186,20 +184,6 @@ rows_fresh m h = record { head = h.head; empty = h.empty; zeros = λ s l. zeros_
 
 -- ---- more cells
 
-pub copied_start : (from to : List ℕ) → Copied from to to 0
-copied_start from to = record { size = refl; copied = λ i l. absurd (omega arith); kept = λ i l. refl }
-
-pub copied_next : {from to to₁ : List ℕ} {n : ℕ} → Copied from to to₁ n → n < length to
-    → Copied from to (set to₁ n (get_or from n 0)) (n + 1)
-copied_next {from} {to} {to₁} {n} c l =
-    record {
-      size = simp length-set c.size;
-      copied = below_more (λ i. get_or (set to₁ n (get_or from n 0)) i 0 ≡ get_or from i 0) n
-          (λ i b. get_or-set_other to₁ n i (get_or from n 0) 0 (λ z. omega arith) ∙ c.copied i b)
-          (get_or-set_same to₁ n (get_or from n 0) 0 (omega (arith, c.size)));
-      kept = λ i b. get_or-set_other to₁ n i (get_or from n 0) 0 (λ z. omega arith) ∙ c.kept i (omega arith);
-    }
-
 -- the cells that were there are copied into a row of more, all zero before: all states have the cells that they had
 pub going_wide : (m : ℕ) {strict : Bool} {bytes tb rows rows₁ : List ℕ} {at : ℕ} {b : Book} → Going strict bytes tb rows at b
     → Copied rows (replicate m 0) rows₁ (length rows) → Going strict bytes tb rows₁ at b
@@ -224,3 +208,18 @@ going_wide m {rows = rows} {rows₁ = rows₁} g c =
     same s false e =
         let l : length rows ≤ s = omega (arith, leb-false (suc s) (length rows) e) in
         c.kept s l ∙ zeros_zero m s ∙ sym (get_or-eq_default rows 0 l)
+
+-- ---- why no command stands there, made a refusal at a place
+
+module _ (P : Reason → Refusal → Type 0) where
+  pub mapped_ok : (r : Result Decoded Reason) {s : Result Decoded Refusal} {read : Decoded}
+      → MatchResult r (λ x. s ≡ Ok x) (λ e. IsErrAnd s (P e)) → s ≡ Ok read → Ok read ≡ r
+  mapped_ok (Ok x) h e = cc
+  mapped_ok (Err why) h e = absurd (rw e at h)
+
+  pub no_command : (r : Result Decoded Reason) {s : Result Decoded Refusal} {f : Refusal} {strict : Bool} {bytes tb rows : List ℕ} {at : ℕ} {b : Book}
+      → Going strict bytes tb rows at b → at < length bytes → r ≡ command_at strict bytes at b.inside
+      → ((why : Reason) (f : Refusal) → P why f → f ≡ record { reason = why; place = at })
+      → MatchResult r (λ x. s ≡ Ok x) (λ e. IsErrAnd s (P e)) → s ≡ Err f → LoadedBy strict bytes (Err f) tb
+  no_command (Ok x) g l found same h e = cc
+  no_command (Err why) {f = f} g l found same h e = loaded_refused (going-takes g l (Err why) found).same (same why f (rw e at h))

@@ -7,14 +7,10 @@ use Rattle.automaton.specs.Layers.{edge_start, count_at, Holds}
 use Rattle.book.specs.declared.Book.{Book}
 use Rattle.book.specs.Limits.{max_bytes}
 use Rattle.book.specs.Draft.{Draft}
-use Rattle.book.specs.Layers.{Represents}
+use Rattle.book.specs.Layers.{Represents, edge_limit}
 use Rattle.reader.specs.declared.Stop.{Stop}
 use Rattle.reader.specs.declared.Stop.TheVariants.{Accepted, Narrow}
 use Rattle.reader.specs.Reading.{accepted, read_from, read_by, answer}
-
--- words of a table for any book
-abbrev pub large_table : ℕ
-large_table = 16450
 
 -- a table as it is lent for a book of so many bytes: with room for what an accepted book needs, and no rule in it
 pub record Lent (n : ℕ) (tb : List ℕ) : Type 0 where
@@ -22,10 +18,12 @@ pub record Lent (n : ℕ) (tb : List ℕ) : Type 0 where
   pub room : n ≤ max_bytes → edge_start + n / 4 < length tb
   pub empty : count_at tb ≡ 0
 
--- a table of so many words has room for the rules of a book of n bytes: a word for four of its bytes, and those in front of them
+-- a table of so many words has room for the rules of a book of n bytes: a word for four of its bytes, and those in front of them; and is no
+-- larger than one for any book
 pub record Suits (n words : ℕ) : Type 0 where
   pub head : edge_start ≤ words
   pub room : n ≤ max_bytes → edge_start + n / 4 < words
+  pub most : words ≤ edge_limit
 
 -- What reading a book leaves: the answer that is defined, and a table that holds the rules of an accepted book. Of the table of a
 -- refused book nothing is said.

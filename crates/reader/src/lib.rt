@@ -79,18 +79,16 @@ fn read_on(
     let mut state = begun;
     while cursor.at < len {
         let at = cursor.at;
-        match cursor.command(strict, book, state.inside) {
-            Err(reason) => return Err(reason.at(at)),
-            Ok(read) => {
-                match crate::applying::apply(state, read.command, at, len, table, rows)? {
-                    Progress::On(on) => {
-                        state = on;
-                        cursor = read.next;
-                    }
-                    Progress::Done(rules) => return Ok(Stop::Accepted(rules)),
-                    Progress::Narrow => return Ok(Stop::Narrow(cursor, state)),
-                }
+        let read = cursor
+            .command(strict, book, state.inside)
+            .map_err(|reason| reason.at(at))?;
+        match crate::applying::apply(state, read.command, at, len, table, rows)? {
+            Progress::On(on) => {
+                state = on;
+                cursor = read.next;
             }
+            Progress::Done(rules) => return Ok(Stop::Accepted(rules)),
+            Progress::Narrow => return Ok(Stop::Narrow(cursor, state)),
         }
     }
     Err(Reason::CutOff.at(len))

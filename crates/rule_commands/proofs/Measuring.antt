@@ -1,44 +1,35 @@
 -- A table's rows, where the SPANs of a row end, and the loops that count them. Assumes nothing.
 use mathlib.Core.Path.{◌≡◌, refl, sym, ap, ◌∙◌}
-use mathlib.Core.Bool.{Bool, true, false, not, ◌&&◌, and-false}
+use mathlib.Core.Bool.{Bool, true, false, not, ◌&&◌}
 use mathlib.Core.List.{List, [], ◌∷◌, ◌++◌, append-nil}
 use Prim.Native.Nat.{ℕ, suc, ◌+◌, ◌*◌, ◌-◌, ◌<◌, ◌≤◌}
 use native.Mathlib.Numerals.{add-one}
 use native.Mathlib.Omega.{arith}
 use lib.Dec.{eqb}
-use lib.ListN.{length, get_or, drop, length-append, length-drop, drop_of_length-le}
-use lib.Seq.{drop-cons, get_or-take, get_or-drop, length-take-le}
-use borrow.Author.Tests.{eq-eqb, ne_eqb}
+use lib.ListN.{length, get_or, take, drop, length-append, drop_of_length-le}
+use lib.Seq.{drop-cons}
 use Rattle.automaton.specs.Choice.{if}
 use Rattle.automaton.specs.Rule.{Transition}
-use Rattle.command.proofs.Commands.{if-le}
 use Rattle.rule_commands.specs.Spans.{span, spans_from, row_spans, spans_of}
 use Rattle.rule_commands.specs.Layers.{row_at, rows_from, rows_of, apart, apart_at, closes_at, ended_at, next_low}
 
 -- ---- the rows of a table
 
-module _ (targets : List ℕ) (from : ℕ) where
-  pub row-length : 256 * from + 256 ≤ length targets → length (row_at targets from) ≡ 256
-  unfolding row_at
-  row-length l = length-take-le 256 (drop (256 * from) targets) (simp length-drop (omega arith))
+-- a row where it is lent
+pub row_lent : (targets : List ℕ) (k : ℕ) → take (256 * k + 256 - 256 * k) (drop (256 * k) targets) ≡ row_at targets k
+unfolding row_at
+row_lent targets k = let e : 256 * k + 256 - 256 * k ≡ 256 = omega arith in ap (λ (n : ℕ). take n (drop (256 * k) targets)) e
 
-  pub row_at_lem : (b : ℕ) → b < 256 → get_or (row_at targets from) b 0 ≡ get_or targets (256 * from + b) 0
-  unfolding row_at
-  row_at_lem b l = rw (get_or-take 256 (drop (256 * from) targets) b 0 l, get_or-drop)
-
+module _ (row : List ℕ) (b : ℕ) where
   -- behind the last byte a run ends
-  pub apart-last : 256 * from + 256 ≤ length targets → {b : ℕ} → b ≡ 255 → apart_at (row_at targets from) b ≡ true
+  pub apart_last : b + 1 ≡ length row → apart_at row b ≡ true
   unfolding apart
-  apart-last l {b} e = let len = row-length l in rw (drop_of_length-le (row_at targets from) {i = suc b} (omega arith))
+  apart_last e = rw (drop_of_length-le row {i = suc b} (omega arith))
 
   -- behind any other byte it ends where the next one leads elsewhere
-  pub apart_inside : 256 * from + 256 ≤ length targets → {b : ℕ} → b < 255
-      → apart_at (row_at targets from) b ≡ not (eqb (get_or targets (256 * from + b) 0) (get_or targets (256 * from + b + 1) 0))
+  pub apart_inside : b + 1 < length row → apart_at row b ≡ not (eqb (get_or row b 0) (get_or row (b + 1) 0))
   unfolding apart
-  apart_inside l {b} m =
-      let len = row-length l in
-      let e : 256 * from + suc b ≡ 256 * from + b + 1 = omega arith in
-      rw (drop-cons (row_at targets from) (suc b) 0 (omega arith), row_at_lem b (omega arith), row_at_lem (suc b) (omega arith), e)
+  apart_inside l = rw (drop-cons row (suc b) 0 (omega arith), add-one)
 
 -- those of the states from number k on, where there are n in all
 abbrev pub rows_left : List ℕ → ℕ → ℕ → List (List ℕ)
@@ -108,50 +99,25 @@ ended_length from low b row = go (closes_at row b)
     go true = refl
     go false = refl
 
--- whether one ends
-module _ (row : List ℕ) (b : ℕ) where
-  pub closes_run : apart_at row b ≡ false → closes_at row b ≡ false
-  unfolding closes_at
-  closes_run e = rw e
-
-  pub closes_error : get_or row b 0 ≡ 0 → closes_at row b ≡ false
-  unfolding closes_at
-  closes_error e = rw (eq-eqb (get_or row b 0) 0 e) (and-false (apart_at row b))
-
-  pub closes_span : apart_at row b ≡ true → (get_or row b 0 ≡ 0 → ⊥) → closes_at row b ≡ true
-  unfolding closes_at
-  closes_span e n = rw (e, ne_eqb (get_or row b 0) 0 n)
-
 -- ---- the loop over a row
 
 pub record CountingRow (from : ℕ) (row : List ℕ) (count b : ℕ) : Type 0 where
   pub low : ℕ
-  pub within : b ≤ 256
-  pub few : count ≤ b
   pub same : length (row_spans from row) ≡ count + length (spans_in from low b (drop b row))
 
 pub counting_row-start : (from : ℕ) (row : List ℕ) → CountingRow from row 0 0
-counting_row-start from row =
-    record { low = 0; within = omega arith; few = omega arith; same = ap length (spans_start from row) ∙ omega arith }
+counting_row-start from row = record { low = 0; same = ap length (spans_start from row) ∙ omega arith }
 
-module _ {from : ℕ} {row : List ℕ} {count b : ℕ} (w : CountingRow from row count b) (e : length row ≡ 256) where
-  pub counting_row_next : b < 256 → {n : ℕ} → n ≡ if (closes_at row b) 1 0 → CountingRow from row (count + n) (b + 1)
+module _ {from : ℕ} {row : List ℕ} {count b : ℕ} (w : CountingRow from row count b) where
+  pub counting_row_next : b < length row → {n : ℕ} → n ≡ count + if (closes_at row b) 1 0 → CountingRow from row n (b + 1)
   counting_row_next l {n} q =
-      let p : n ≡ length (ended_at from w.low b row) = q ∙ sym (ended_length from w.low b row) in
+      let p : if (closes_at row b) 1 0 ≡ length (ended_at from w.low b row) = sym (ended_length from w.low b row) in
       let more = spans_in from (next_low row w.low b) (suc b) (drop (suc b) row) in
-      let one = if-le (closes_at row b) {a = 1} {b = 0} {m = 1} (omega arith) (omega arith) in
-      let parts = ap length (spans_next from w.low b row (omega arith)) ∙ length-append (ended_at from w.low b row) more in
-      record {
-        low = next_low row w.low b;
-        within = omega arith;
-        few = omega (arith, w.few);
-        same = rw add-one (omega (arith, w.same));
-      }
+      let parts = ap length (spans_next from w.low b row l) ∙ length-append (ended_at from w.low b row) more in
+      record { low = next_low row w.low b; same = rw add-one (omega (arith, w.same)) }
 
-  pub counting_row-end : 256 ≤ b → (count ≡ length (row_spans from row)) × (count ≤ 256)
-  counting_row-end l =
-      let none = ap length (spans_end from w.low b row (omega arith)) in
-      (omega (arith, w.same), omega (arith, w.few, w.within))
+  pub counting_row-end : length row ≤ b → count ≡ length (row_spans from row)
+  counting_row-end l = let none = ap length (spans_end from w.low b row l) in omega (arith, w.same)
 
 -- ---- the loop over the rows
 
@@ -168,14 +134,6 @@ spans_rows targets n k l = rw (rows_next targets n k l) (rw add-one)
 pub spans_rows_end : (targets : List ℕ) (n k : ℕ) → n ≤ k → spans_of k (rows_left targets n k) ≡ []
 unfolding spans_of
 spans_rows_end targets n k l = rw (rows_end targets n k l)
-
-pub counting_start : (targets : List ℕ) (n : ℕ) → Counting targets n 0 0
-counting_start targets n =
-    record {
-      within = omega arith;
-      few = omega arith;
-      same = ap (λ (rows : List (List ℕ)). length (spans_of 0 rows)) (rows_start targets n) ∙ omega arith;
-    }
 
 module _ {targets : List ℕ} {n count k : ℕ} (w : Counting targets n count k) where
   pub counting_next : k < n → {m : ℕ} → (m ≡ length (row_spans k (row_at targets k))) × (m ≤ 256) → Counting targets n (count + m) (k + 1)

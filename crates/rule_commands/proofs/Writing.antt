@@ -1,15 +1,14 @@
 -- What the loops and stores of writing leave. Assumes nothing.
 use Rattle.std.specs.Prelude.{Ok}
 use mathlib.Core.Path.{◌≡◌, refl, ap, ◌∙◌}
-use mathlib.Core.Bool.{Bool, true, false}
+use mathlib.Core.Bool.{true, false}
 use mathlib.Core.List.{List, [], ◌∷◌, ◌++◌, append-nil, flatten}
-use Prim.Native.Nat.{ℕ, suc, ◌+◌, ◌*◌, ◌/◌, ◌%◌, ◌<◌, ◌≤◌}
+use Prim.Native.Nat.{ℕ, suc, ◌+◌, ◌*◌, ◌<◌, ◌≤◌}
 use native.Mathlib.Nat.{zero-add}
-use native.Mathlib.Numerals.{add-one, add-two, add-three, add-four}
+use native.Mathlib.Numerals.{add-one}
 use native.Mathlib.Omega.{arith}
-use lib.ListN.{length, get_or, take, drop, set, length-append, drop_of_length-le}
-use lib.Seq.{paste-zero, sets-eq, drop-cons, take-length, length-take-le}
-use Rattle.automaton.specs.Choice.{if}
+use lib.ListN.{length, get_or, take, drop, length-append, drop_of_length-le}
+use lib.Seq.{paste-zero, drop-cons, take-length, length-take-le}
 use Rattle.automaton.specs.Rule.{Transition}
 use Rattle.command.proofs.Commands.{if-le}
 use Rattle.output.specs.Outcome.{written}
@@ -17,20 +16,10 @@ use Rattle.output.specs.Layers.{PrintAnswered}
 use Rattle.output.proofs.Filling.{Filling, filling_start, filling_room, filling_next, filling_end}
 use Rattle.output.proofs.Written.{written-whole}
 use Rattle.rule_commands.specs.Spans.{row_spans, spans_of}
-use Rattle.rule_commands.specs.Bytes.{final_bytes, span_bytes, head_bytes, rule_bytes, table_bytes}
+use Rattle.rule_commands.specs.Bytes.{final_bytes, head_bytes, rule_bytes, table_bytes}
 use Rattle.rule_commands.specs.Layers.{row_at, rows_of, apart_at, closes_at, ended_at, next_low, bytes_of, Put}
 use Rattle.rule_commands.proofs.Read.{finals_bytes, rule-length}
-use Rattle.rule_commands.proofs.Measuring.{
-  row_at_lem,
-  rows_left,
-  rows_start,
-  spans_in,
-  spans_start,
-  spans_end,
-  spans_next,
-  spans_rows,
-  spans_rows_end,
-}
+use Rattle.rule_commands.proofs.Measuring.{rows_left, spans_in, spans_start, spans_end, spans_next, spans_rows, spans_rows_end}
 
 -- ---- bytes from a place on
 
@@ -60,23 +49,6 @@ put_written bytes out l {next} p =
     let e : next ≡ length bytes = omega (arith, p.past) in
     written-whole bytes out e (omega arith) (p.laid ∙ rw (e, take-length, zero-add))
 
--- ---- a command
-
-module _ (out : List ℕ) where
-  pub head_stored : (tag kind : ℕ) → 8 ≤ length out → Put (head_bytes tag kind) 0 out 8
-      (set (set (set (set (set (set (set (set out 0 1) 1 (tag / 256)) 2 (tag % 256)) 3 kind) 4 2) 5 0) 6 3) 7 255)
-  head_stored tag kind l = record { past = refl; laid = sets-eq (head_bytes tag kind) out 0 l }
-
-  pub final-stored : (s to : ℕ) → to + 2 ≤ length out → Put (final_bytes s) to out (to + 2) (set (set out to 4) (to + 1) s)
-  final-stored s to l = record { past = refl; laid = rw add-one (sets-eq (final_bytes s) out to l) }
-
-  pub span-stored : (t : Transition) (to : ℕ) → to + 5 ≤ length out → Put (span_bytes t) to out (to + 5)
-      (set (set (set (set (set out to 6) (to + 1) t.from) (to + 2) t.low) (to + 3) t.high) (to + 4) t.to)
-  span-stored t to l = record { past = refl; laid = rw (add-one, add-two, add-three, add-four) (sets-eq (span_bytes t) out to l) }
-
-  pub close_stored : (to : ℕ) → to + 1 ≤ length out → Put (7 ∷ []) to out (to + 1) (set out to 7)
-  close_stored to l = record { past = refl; laid = sets-eq (7 ∷ []) out to l }
-
 -- ---- FINALs
 
 -- the first i are written
@@ -97,10 +69,10 @@ module _ {states entry out : List ℕ} {to at i : ℕ} (w : WritingFinals states
     writing_finals_room =
         filling_room w.filling (final_bytes (get_or states i 0)) (finals_bytes (drop (i + 1) states)) finals_parts
 
-    pub writing_finals_next : {s : ℕ} → get_or states i 0 ≡ s → {next : ℕ} {exit : List ℕ} → Put (final_bytes s) at out next exit
+    pub writing_finals_next : {next : ℕ} {exit : List ℕ} → Put (final_bytes (get_or states i 0)) at out next exit
         → WritingFinals states entry exit to next (i + 1)
-    writing_finals_next {s} q p =
-        record { filling = put_next w.filling (final_bytes s) (finals_bytes (drop (i + 1) states)) (finals_parts ∙ rw q) p }
+    writing_finals_next p =
+        record { filling = put_next w.filling (final_bytes (get_or states i 0)) (finals_bytes (drop (i + 1) states)) finals_parts p }
 
   pub writing_finals_end : to + length (finals_bytes states) ≤ length entry → length states ≤ i → Put (finals_bytes states) to entry at out
   unfolding flatten
@@ -113,24 +85,15 @@ unfolding flatten
 bytes_append [] ys = refl
 bytes_append (x ∷ xs) ys = rw (bytes_append xs ys)
 
--- by how many end at a byte: none, or one
-module _ (targets : List ℕ) (from low b : ℕ) {n : ℕ} (e : n ≡ if (closes_at (row_at targets from) b) 1 0) where
-  pub ended_none : n ≡ 0 → bytes_of (ended_at from low b (row_at targets from)) ≡ []
+-- the bytes of the SPAN that ends at a byte, if one does
+module _ (from low b : ℕ) (row : List ℕ) where
+  pub ended_none : closes_at row b ≡ false → bytes_of (ended_at from low b row) ≡ []
   unfolding ended_at flatten
-  ended_none z = rw (go (closes_at (row_at targets from) b) e)
-    where
-      go : (t : Bool) → n ≡ if t 1 0 → t ≡ false
-      go true q = absurd (omega arith)
-      go false q = refl
+  ended_none e = rw e
 
-  pub ended_one : b < 256 → (n ≡ 0 → ⊥)
-      → bytes_of (ended_at from low b (row_at targets from)) ≡ 6 ∷ from ∷ low ∷ b ∷ get_or targets (256 * from + b) 0 ∷ []
+  pub ended_one : closes_at row b ≡ true → bytes_of (ended_at from low b row) ≡ 6 ∷ from ∷ low ∷ b ∷ get_or row b 0 ∷ []
   unfolding ended_at flatten
-  ended_one l z = rw (go (closes_at (row_at targets from) b) e, row_at_lem targets from b l)
-    where
-      go : (t : Bool) → n ≡ if t 1 0 → t ≡ true
-      go true q = refl
-      go false q = absurd (z q)
+  ended_one e = rw e
 
 pub record WritingRow (from : ℕ) (row entry out : List ℕ) (to at low b : ℕ) : Type 0 where
   pub within : b ≤ 256
@@ -176,11 +139,6 @@ module _ {from : ℕ} {row entry out : List ℕ} {to at low b : ℕ} (w : Writin
 
 pub record WritingRows (targets : List ℕ) (n : ℕ) (entry out : List ℕ) (to at k : ℕ) : Type 0 where
   pub filling : Filling (take to entry ++ bytes_of (spans_of 0 (rows_of targets n))) (bytes_of (spans_of k (rows_left targets n k))) entry out at
-
-pub writing_rows_start : (targets : List ℕ) (n : ℕ) (entry : List ℕ) (to : ℕ)
-    → to + length (bytes_of (spans_of 0 (rows_of targets n))) ≤ length entry → WritingRows targets n entry entry to to 0
-writing_rows_start targets n entry to l =
-    record { filling = rw (← (rows_start targets n)) (put-start (bytes_of (spans_of 0 (rows_of targets n))) entry to l) }
 
 module _ {targets : List ℕ} {n : ℕ} {entry out : List ℕ} {to at k : ℕ} (w : WritingRows targets n entry out to at k) where
   module _ (l : k < n) where

@@ -1,5 +1,5 @@
 -- A table's rows, which `write_rule` cites, and what the layers of the code ask and answer between themselves.
-use Rattle.std.specs.Prelude.{◌≡◌, Bool, true, not, ◌&&◌, ℕ, zero, suc, ◌+◌, ◌*◌, ◌≤◌, eqb, length, get_or, take, drop}
+use Rattle.std.specs.Prelude.{◌≡◌, Bool, true, not, ◌&&◌, ℕ, zero, suc, ◌+◌, ◌*◌, eqb, length, get_or, take, drop}
 use mathlib.Core.List.{List, [], ◌∷◌, map, flatten}
 use Rattle.std.proofs.Math.Seq.{paste}
 use Rattle.automaton.specs.Choice.{if, All}
@@ -24,13 +24,6 @@ pub record Tabled (rows : List (List ℕ)) (targets : List ℕ) (n : ℕ) : Type
   pub count : length rows ≡ n
   pub wide : All (λ (row : List ℕ). length row ≡ 256) rows
   pub laid : flatten rows ≡ take (256 * n) targets
-
--- there are this many final states and rows, and no more than a byte can number
-pub record Table (finals : List ℕ) (marked : ℕ) (targets : List ℕ) (rows : ℕ) : Type 0 where
-  pub marks : marked ≤ length finals
-  pub few_marks : marked ≤ 256
-  pub room : 256 * rows ≤ length targets
-  pub few_rows : rows ≤ 256
 
 -- ---- where a SPAN ends
 

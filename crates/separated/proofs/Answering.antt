@@ -1,5 +1,5 @@
 -- What the code answers is the outcome. Assumes nothing.
-use Rattle.std.specs.Prelude.{Result, Ok, Err}
+use Rattle.std.specs.Prelude.{Result, Ok, Err, Option as Maybe, Some, None}
 use Rattle.answer.specs.declared.Reason.TheVariants.{OutputTooLong}
 use mathlib.Core.Path.{◌≡◌, refl, ap, subst}
 use mathlib.Core.Bool.{Bool, true, false}
@@ -21,7 +21,6 @@ use Rattle.record.specs.declared.TokenRecord.{TokenRecord}
 use Rattle.record.specs.Tokens.{records_of}
 use Rattle.reader.proofs.Loaded.{loaded_rules, loaded_refusal}
 use Rattle.output.specs.Layers.{WritesOut, Stands}
-use Rattle.output.specs.declared.Placed.{Placed}
 use Rattle.token_list.proofs.Alone.{alone_first}
 use Rattle.output.specs.Outcome.{unless}
 use Rattle.output.proofs.Written.{written_out, up_to_long, up_to_fitting}
@@ -33,8 +32,6 @@ use Rattle.separated.specs.Refusals.{separated_refusal}
 use Rattle.separated.specs.Layers.{Passed, Roomy}
 use Rattle.separated.specs.Outcome.{writing, separated_rules, separated_outcome}
 use Rattle.separated.proofs.Unrefused.{CallPasses, passes}
-use Rattle.token_list.specs.declared.Checked.TheVariants as checked
-use Rattle.output.specs.declared.Placed.TheVariants as placed
 
 -- ---- what is written
 
@@ -43,22 +40,22 @@ pub answered_written : (scratch : List ℕ) (at : ℕ) (out : List ℕ) {total :
     → total ≡ length (drop at scratch) → total ≤ max_text
     → WritesOut scratch at total out r exit → PrintAnswered (writing (drop at scratch) out) r exit
 answered_written scratch at out e short h =
-    up_to_fitting max_text 20 (drop at scratch) out (omega arith)
+    up_to_fitting max_text OutputTooLong (drop at scratch) out (omega arith)
     (written_out (drop at scratch) out e scratch at (rw e (take-length (drop at scratch))) h)
 
 -- ---- what stands at the end of a scratch
 
-pub answered_at : {p : Placed} {start : ℕ} {scratch : List ℕ} (bytes out : List ℕ) {exit : List ℕ} → Stands p bytes scratch
-    → p ≡ placed.At start → {r : Result ℕ Refusal} → PrintAnswered (writing (drop start scratch) out) r exit
+pub answered_at : {p : Maybe ℕ} {start : ℕ} {scratch : List ℕ} (bytes out : List ℕ) {exit : List ℕ} → Stands p bytes scratch
+    → p ≡ Some start → {r : Result ℕ Refusal} → PrintAnswered (writing (drop start scratch) out) r exit
     → PrintAnswered (writing bytes out) r exit
 answered_at bytes out {exit} s e {r} a = subst (λ (x : List ℕ). PrintAnswered (writing x out) r exit) (s.at _ e).laid a
 
 module _ {sep : TokenRecord} {mode : ℕ} {records pool entry : List ℕ} (k : Roomy sep mode records pool entry) where
   -- a list that finds no room is too long
-  pub answered_full : (rules : List Rule) (out : List ℕ) {p : Placed} {scratch : List ℕ} → length scratch ≡ length entry
-      → Stands p (spelled rules sep mode records pool) scratch → p ≡ placed.Full → {r : Result ℕ Refusal}
+  pub answered_full : (rules : List Rule) (out : List ℕ) {p : Maybe ℕ} {scratch : List ℕ} → length scratch ≡ length entry
+      → Stands p (spelled rules sep mode records pool) scratch → p ≡ None → {r : Result ℕ Refusal}
       → r ≡ Err (record { reason = OutputTooLong; place = 0 }) → PrintAnswered (writing (spelled rules sep mode records pool) out) r out
-  answered_full rules out q s e a = up_to_long max_text 20 (spelled rules sep mode records pool) out (go _ refl) a
+  answered_full rules out q s e a = up_to_long max_text OutputTooLong (spelled rules sep mode records pool) out (go _ refl) a
     where
       go : (t : Bool) → ltb max_text (length (spelled rules sep mode records pool)) ≡ t
           → max_text < length (spelled rules sep mode records pool)
@@ -69,27 +66,27 @@ module _ {sep : TokenRecord} {mode : ℕ} {records pool entry : List ℕ} (k : R
 
 module _ (rules : List Rule) (sep : TokenRecord) (mode : ℕ) (records pool : List ℕ) where
   -- no refusal, where the checks pass
-  pub unrefused : checked.Passed ≡ checked_of (separated_refusal rules sep mode records pool)
+  pub unrefused : Ok tt ≡ checked_of (separated_refusal rules sep mode records pool)
       → separated_refusal rules sep mode records pool ≡ none
   unrefused e = go (separated_refusal rules sep mode records pool) refl e
     where
-      go : (o : Option Refusal) → separated_refusal rules sep mode records pool ≡ o → checked.Passed ≡ checked_of o
+      go : (o : Option Refusal) → separated_refusal rules sep mode records pool ≡ o → Ok tt ≡ checked_of o
           → separated_refusal rules sep mode records pool ≡ none
       go none q z = q
       go (some f) q z = let y : ◌≡◌ {A = ℕ} 0 1 = cc in absurd (omega arith)
 
   module _ (out : List ℕ) where
-    pub answered_fault : {f : Refusal} → checked.Refused f ≡ checked_of (separated_refusal rules sep mode records pool)
+    pub answered_fault : {f : Refusal} → Err f ≡ checked_of (separated_refusal rules sep mode records pool)
         → PrintAnswered (separated_rules rules sep mode records pool out) (Err f) out
     unfolding separated_rules unless
     answered_fault {f} e = go (separated_refusal rules sep mode records pool) refl e
       where
-        go : (o : Option Refusal) → separated_refusal rules sep mode records pool ≡ o → checked.Refused f ≡ checked_of o
+        go : (o : Option Refusal) → separated_refusal rules sep mode records pool ≡ o → Err f ≡ checked_of o
             → PrintAnswered (separated_rules rules sep mode records pool out) (Err f) out
         go none q z = let y : ◌≡◌ {A = ℕ} 0 1 = cc in absurd (omega arith)
         go (some g) q z = let y : f ≡ g = cc in rw q (record { answer = ap Err y; out = refl })
 
-    pub answered_passed : {r : Result ℕ Refusal} {exit : List ℕ} → checked.Passed ≡ checked_of (separated_refusal rules sep mode records pool)
+    pub answered_passed : {r : Result ℕ Refusal} {exit : List ℕ} → Ok tt ≡ checked_of (separated_refusal rules sep mode records pool)
         → PrintAnswered (writing (spelled rules sep mode records pool) out) r exit
         → PrintAnswered (separated_rules rules sep mode records pool out) r exit
     unfolding separated_rules unless

@@ -1,5 +1,8 @@
 -- The checks of the code: the search for a separator rule, the faults of tokens, the passes over a list. Assumes nothing.
 use Rattle.answer.specs.declared.Reason.TheVariants.{NoSeparator, SeparatorInList, SharedByte, TooManyTokens, UnknownMode}
+use Rattle.std.specs.Prelude.{Result, Ok, Err, Option as Maybe, Some, None}
+use Rattle.answer.specs.declared.Reason.{Reason}
+use Rattle.answer.specs.declared.Refusal.{Refusal}
 use mathlib.Core.Path.{◌≡◌, refl, sym, ◌∙◌}
 use mathlib.Core.Bool.{Bool, true, false, ◌&&◌, beq}
 use mathlib.Core.Option.{Option, none, some}
@@ -24,15 +27,10 @@ use Rattle.token_list.specs.Checks.{refuse, refuse_by, first_fault}
 use Rattle.byte_set.specs.Layers.{lowest_of}
 use Rattle.shared_bytes.specs.Kinds.{separator_kind, separates}
 use Rattle.shared_bytes.specs.Bytes.{shared_byte}
-use Rattle.token_list.specs.declared.Checked.{Checked}
 use Rattle.separated.specs.Refusals.{or_else, separator_fault, plain_fault, sharing, list_refusal, separated_refusal}
 use Rattle.separated.specs.Layers.{differs}
 use Rattle.token_list.specs.Layers.{checked_of, fault_for}
-use Rattle.token_list.proofs.Passes.{by_number, by_none}
-use Rattle.token_list.specs.declared.faults.Fault.{Fault}
-use Rattle.token_list.specs.declared.faults.Fault.TheVariants as fault
-use Rattle.token_list.specs.declared.Checked.TheVariants as checked
-use Rattle.byte_set.specs.declared.Lowest.TheVariants as lowest
+use Rattle.token_list.proofs.Passes.{by_reason, by_none}
 
 -- ---- the search for a separator rule
 
@@ -78,12 +76,12 @@ separator-found rules tag k l e f =
 
 -- ---- the fault of a token, or its kind
 
-pub or_fault : {number : ℕ} (first : Option ℕ) (test : Bool) (other : ℕ) → fault.By number ≡ fault_for first
-    → fault.By number ≡ fault_for (or_else first test other)
+pub or_fault : {reason : Reason} (first : Option Reason) (test : Bool) (other : Reason) → Some reason ≡ fault_for first
+    → Some reason ≡ fault_for (or_else first test other)
 unfolding or_else
-or_fault first test other e = rw (by_number first e)
+or_fault first test other e = rw (by_reason first e)
 
-pub or_kind : {same : Bool} (first : Option ℕ) (kind wanted : Bool) (other : ℕ) → fault.Nothing ≡ fault_for first
+pub or_kind : {same : Bool} (first : Option Reason) (kind wanted : Bool) (other : Reason) → None ≡ fault_for first
     → beq kind wanted ≡ same → fault_for (if same none (some other)) ≡ fault_for (or_else first (differs wanted kind) other)
 unfolding or_else differs
 or_kind {same} first kind wanted other e q = rw (by_none first e) (go kind wanted q)
@@ -94,7 +92,7 @@ or_kind {same} first kind wanted other e q = rw (by_none first e) (go kind wante
     go false true z = rw (← z)
     go false false z = rw (← z)
 
-module _ (rules : List Rule) (pool : List ℕ) (r : TokenRecord) {f : Fault} where
+module _ (rules : List Rule) (pool : List ℕ) (r : TokenRecord) {f : Maybe Reason} where
   pub separator_fault_lem : f ≡ fault_for (or_else (fault_of rules pool r) (differs true (separates rules r.tag)) NoSeparator)
       → f ≡ fault_for (separator_fault rules pool r)
   unfolding separator_fault differs
@@ -108,47 +106,47 @@ module _ (rules : List Rule) (pool : List ℕ) (r : TokenRecord) {f : Fault} whe
 -- ---- the checks of a call
 
 module _ (rules : List Rule) (sep : TokenRecord) (mode : ℕ) (records pool : List ℕ) where
-  pub list_mode : 2 < mode → {c : Checked} → c ≡ checked.Refused (record { reason = UnknownMode; place = 0 }) → c
+  pub list_mode : 2 < mode → {c : Result Unit Refusal} → c ≡ Err (record { reason = UnknownMode; place = 0 }) → c
       ≡ checked_of (list_refusal rules sep mode records pool)
   unfolding list_refusal refuse
   list_mode l a = a ∙ rw (lt-ltb 2 mode l)
 
   module _ (known : mode ≤ 2) where
-    pub list_separator : {number : ℕ} → fault.By number ≡ fault_for (separator_fault rules pool sep) → {c : Checked} → c
-        ≡ checked.Refused (record { number = number; place = record_count records })
+    pub list_separator : {reason : Reason} → Some reason ≡ fault_for (separator_fault rules pool sep) → {c : Result Unit Refusal} → c
+        ≡ Err (record { reason = reason; place = record_count records })
         → c ≡ checked_of (list_refusal rules sep mode records pool)
     unfolding list_refusal refuse refuse_by
-    list_separator e a = a ∙ rw (le-ltb 2 mode known, by_number (separator_fault rules pool sep) e)
+    list_separator e a = a ∙ rw (le-ltb 2 mode known, by_reason (separator_fault rules pool sep) e)
 
-    module _ (e : fault.Nothing ≡ fault_for (separator_fault rules pool sep)) where
-      pub list_many : max_tokens < record_count records → {c : Checked} → c ≡ checked.Refused (record { reason = TooManyTokens; place = 0 })
+    module _ (e : None ≡ fault_for (separator_fault rules pool sep)) where
+      pub list_many : max_tokens < record_count records → {c : Result Unit Refusal} → c ≡ Err (record { reason = TooManyTokens; place = 0 })
           → c ≡ checked_of (list_refusal rules sep mode records pool)
       unfolding list_refusal refuse refuse_by
       list_many l a = a ∙ rw (le-ltb 2 mode known, by_none (separator_fault rules pool sep) e, lt-ltb max_tokens (record_count records) l)
 
-      pub list_tokens : record_count records ≤ max_tokens → {c : Checked} → c
+      pub list_tokens : record_count records ≤ max_tokens → {c : Result Unit Refusal} → c
           ≡ checked_of (first_fault (plain_fault rules pool) (records_of records) 0)
           → c ≡ checked_of (list_refusal rules sep mode records pool)
       unfolding list_refusal refuse refuse_by
       list_tokens l a = a ∙ rw (le-ltb 2 mode known, by_none (separator_fault rules pool sep) e, le-ltb max_tokens (record_count records) l)
 
-  pub call_shared : {b : ℕ} → lowest.Byte b ≡ lowest_of (shared_byte rules) → {c : Checked} → c
-      ≡ checked.Refused (record { reason = SharedByte; place = b })
+  pub call_shared : {b : ℕ} → Some b ≡ lowest_of (shared_byte rules) → {c : Result Unit Refusal} → c
+      ≡ Err (record { reason = SharedByte; place = b })
       → c ≡ checked_of (separated_refusal rules sep mode records pool)
   unfolding separated_refusal sharing
   call_shared {b} e {c} a = go (shared_byte rules) refl e
     where
-      go : (o : Option ℕ) → shared_byte rules ≡ o → lowest.Byte b ≡ lowest_of o → c
+      go : (o : Option ℕ) → shared_byte rules ≡ o → Some b ≡ lowest_of o → c
           ≡ checked_of (or (sharing (shared_byte rules)) (list_refusal rules sep mode records pool))
       go none q z = let y : ◌≡◌ {A = ℕ} 0 1 = cc in absurd (omega arith)
       go (some x) q z = let y : b ≡ x = cc in a ∙ rw (q, y)
 
-  pub call_list : lowest.Nothing ≡ lowest_of (shared_byte rules) → {c : Checked} → c ≡ checked_of (list_refusal rules sep mode records pool)
+  pub call_list : None ≡ lowest_of (shared_byte rules) → {c : Result Unit Refusal} → c ≡ checked_of (list_refusal rules sep mode records pool)
       → c ≡ checked_of (separated_refusal rules sep mode records pool)
   unfolding separated_refusal sharing
   call_list e {c} a = go (shared_byte rules) refl e
     where
-      go : (o : Option ℕ) → shared_byte rules ≡ o → lowest.Nothing ≡ lowest_of o → c
+      go : (o : Option ℕ) → shared_byte rules ≡ o → None ≡ lowest_of o → c
           ≡ checked_of (or (sharing (shared_byte rules)) (list_refusal rules sep mode records pool))
       go none q z = a ∙ rw q
       go (some x) q z = let y : ◌≡◌ {A = ℕ} 0 1 = cc in absurd (omega arith)

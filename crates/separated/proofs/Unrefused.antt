@@ -1,4 +1,5 @@
 -- A call is accepted exactly where it passes the checks and its bytes are few enough for 20 and 22. Assumes nothing.
+use Rattle.answer.specs.declared.Reason.TheVariants.{NoSeparator, OutputTooLong, SeparatorInList, TooManyTokens, UnknownMode}
 use Rattle.answer.specs.declared.Reason.{Reason}
 use Rattle.std.specs.Prelude.{Ok}
 use mathlib.Core.Path.{◌≡◌, refl, ap}
@@ -68,17 +69,17 @@ sharing_none (some b) e = nothing e refl
 
 -- ---- the faults of tokens
 
-module _ (test : Bool) (number : ℕ) where
-  or_else_none : (fault : Option ℕ) → fault ≡ none → test ≡ false → or_else fault test number ≡ none
+module _ (test : Bool) (reason : Reason) where
+  or_else_none : (fault : Option Reason) → fault ≡ none → test ≡ false → or_else fault test reason ≡ none
   unfolding or_else
   or_else_none fault e f = rw (e, f)
 
-  none_or_else : (fault : Option ℕ) → or_else fault test number ≡ none → (fault ≡ none) × (test ≡ false)
+  none_or_else : (fault : Option Reason) → or_else fault test reason ≡ none → (fault ≡ none) × (test ≡ false)
   unfolding or_else
   none_or_else (some n) e = nothing e refl
   none_or_else none e = (refl, go test e)
     where
-      go : (b : Bool) → if b (some number) none ≡ none → b ≡ false
+      go : (b : Bool) → if b (some reason) none ≡ none → b ≡ false
       go true z = nothing z refl
       go false z = refl
 
@@ -98,30 +99,30 @@ module _ (rules : List Rule) (pool : List ℕ) (r : TokenRecord) where
   separator_taken : separator_fault rules pool r ≡ none → Taken rules pool true r
   unfolding separator_fault
   separator_taken e =
-      let p = none_or_else (not (separates rules r.tag)) 25 (fault_of rules pool r) e in
+      let p = none_or_else (not (separates rules r.tag)) NoSeparator (fault_of rules pool r) e in
       record { faultless = fine rules pool r p.0; kind = not_not _ p.1 }
 
   taken_separator : Taken rules pool true r → separator_fault rules pool r ≡ none
   unfolding separator_fault
-  taken_separator t = or_else_none _ 25 _ (of_faultless t.faultless) (ap not t.kind)
+  taken_separator t = or_else_none _ NoSeparator _ (of_faultless t.faultless) (ap not t.kind)
 
   plain_taken : plain_fault rules pool r ≡ none → Taken rules pool false r
   unfolding plain_fault
   plain_taken e =
-      let p = none_or_else (separates rules r.tag) 26 (fault_of rules pool r) e in
+      let p = none_or_else (separates rules r.tag) SeparatorInList (fault_of rules pool r) e in
       record { faultless = fine rules pool r p.0; kind = p.1 }
 
   taken_plain : Taken rules pool false r → plain_fault rules pool r ≡ none
   unfolding plain_fault
-  taken_plain t = or_else_none _ 26 _ (of_faultless t.faultless) t.kind
+  taken_plain t = or_else_none _ SeparatorInList _ (of_faultless t.faultless) t.kind
 
 -- the list has no fault
-faults_none : (fault : TokenRecord → Option ℕ) (rs : List TokenRecord) (k : ℕ) → first_fault fault rs k ≡ none
+faults_none : (fault : TokenRecord → Option Reason) (rs : List TokenRecord) (k : ℕ) → first_fault fault rs k ≡ none
     → All (λ (r : TokenRecord). fault r ≡ none) rs
 faults_none fault [] k e = tt
 faults_none fault (r ∷ rs) k e = let f = faultless_front fault r rs k e in (f.0, faults_none fault rs (suc k) f.1)
 
-none_faults : (fault : TokenRecord → Option ℕ) (rs : List TokenRecord) (k : ℕ) → All (λ (r : TokenRecord). fault r ≡ none) rs
+none_faults : (fault : TokenRecord → Option Reason) (rs : List TokenRecord) (k : ℕ) → All (λ (r : TokenRecord). fault r ≡ none) rs
     → first_fault fault rs k ≡ none
 unfolding first_fault refuse_by
 none_faults fault [] k h = refl
@@ -131,10 +132,10 @@ none_faults fault (r ∷ rs) k (e, h) = rw (e, none_faults fault rs (suc k) h)
 
 refuse_none : (t : Bool) (reason : Reason) (place : ℕ) (next : Option Refusal) → refuse t reason place next ≡ none → (t ≡ false) × (next ≡ none)
 unfolding refuse
-refuse_none true number place next e = nothing e refl
-refuse_none false number place next e = (refl, e)
+refuse_none true reason place next e = nothing e refl
+refuse_none false reason place next e = (refl, e)
 
-refuse_by_none : (o : Option ℕ) (place : ℕ) (next : Option Refusal) → refuse_by o place next ≡ none → (o ≡ none) × (next ≡ none)
+refuse_by_none : (o : Option Reason) (place : ℕ) (next : Option Refusal) → refuse_by o place next ≡ none → (o ≡ none) × (next ≡ none)
 unfolding refuse_by
 refuse_by_none (some n) place next e = nothing e refl
 refuse_by_none none place next e = (refl, e)
@@ -156,9 +157,9 @@ module _ (rules : List Rule) (sep : TokenRecord) (mode : ℕ) (records pool : Li
   unfolding separated_refusal list_refusal
   passes e =
       let a = or_none_both (sharing (shared_byte rules)) _ e in
-      let b = refuse_none (ltb 2 mode) 24 0 _ a.1 in
+      let b = refuse_none (ltb 2 mode) UnknownMode 0 _ a.1 in
       let c = refuse_by_none (separator_fault rules pool sep) (record_count records) _ b.1 in
-      let d = refuse_none (ltb max_tokens (record_count records)) 16 0 _ c.1 in
+      let d = refuse_none (ltb max_tokens (record_count records)) TooManyTokens 0 _ c.1 in
       record {
         unshared = unshared rules (sharing_none _ a.0);
         known_mode = ltb-false 2 mode b.0;
@@ -186,12 +187,12 @@ module _ (rules : List Rule) (sep : TokenRecord) (mode : ℕ) (records pool : Li
     pub passes_accepted : CallPasses rules sep mode records pool → length bytes ≤ max_text → length bytes ≤ length out
         → separated_outcome book sep mode records pool out ≡ print_accepted bytes out
     unfolding separated_outcome separated_rules unless
-    passes_accepted p short room = rw (reads, passes_none rules sep mode records pool p) (up_to_accepts max_text 20 bytes out short room)
+    passes_accepted p short room = rw (reads, passes_none rules sep mode records pool p) (up_to_accepts max_text OutputTooLong bytes out short room)
 
     pub accepted_passes : {n : ℕ} → (separated_outcome book sep mode records pool out).answer ≡ Ok n
         → CallPasses rules sep mode records pool × (length bytes ≤ max_text) × (length bytes ≤ length out)
     unfolding separated_outcome separated_rules
     accepted_passes {n} e =
         let a = unless_printed (separated_refusal rules sep mode records pool) out _ n (rw reads at e) in
-        let b = up_to_printed max_text 20 bytes out a.1 in
+        let b = up_to_printed max_text OutputTooLong bytes out a.1 in
         (passes rules sep mode records pool a.0, b.0, b.1)

@@ -39,11 +39,15 @@ pub fn fault_or_kind(
     ensures { (rs : List Rule) → Holds table.now rs
         → result ≡ fault_for (or_else (fault_of rs pool.now token) (differs separator (separates rs token.tag)) reason) }
 {
-    let fault = token_list::faults::token_fault(table, pool, token);
-    if fault.is_some() || is_separator(table, token.tag as u64) == separator {
-        return fault;
+    match token_list::faults::token_fault(table, pool, token) {
+        Some(first) => Some(first),
+        None => {
+            if is_separator(table, token.tag as u64) == separator {
+                return None;
+            }
+            Some(reason)
+        }
     }
-    Some(reason)
 }
 
 // The first token of the list that is at fault.
@@ -52,13 +56,9 @@ pub fn check_tokens(table: &[u64], records: &[u8], pool: &[u8]) -> Result<(), Re
     ensures { (rs : List Rule) → Holds table.now rs
         → result ≡ checked_of (first_fault (plain_fault rs pool.now) (records_of records.now) 0) }
 {
-    for k in 0..records.len() / 10 {
-        let token = record::read_record(records, k);
-        if let Some(reason) = fault_or_kind(table, pool, token, false, Reason::SeparatorInList) {
-            return Err(reason.at(k));
-        }
-    }
-    Ok(())
+    token_list::first_refused(records, |token| {
+        fault_or_kind(table, pool, token, false, Reason::SeparatorInList)
+    })
 }
 
 // All the checks of a call, in the order of document 01.

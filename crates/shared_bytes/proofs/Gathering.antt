@@ -13,13 +13,13 @@ use borrow.Author.Count.{below_more}
 use borrow.Author.Tests.{eqb-true}
 use Rattle.automaton.specs.Choice.{any}
 use Rattle.automaton.specs.Rule.{Transition, Rule, covers, used}
-use Rattle.automaton.specs.Layers.{low_of, high_of, edge_at, body_at, first_of, end_of, Edge, Listed, Table, blank, rule_at}
+use Rattle.automaton.specs.Layers.{low_of, high_of, edge_at, Edge, Listed, blank, rule_at}
 use Rattle.automaton.proofs.Tests.{clash, or_true, or_none, and_true, all_of, any_some, any-map}
 use Rattle.byte_set.specs.Lowest.{lowest_from}
 use Rattle.byte_set.specs.Layers.{Ranged, some_below}
 use Rattle.byte_set.proofs.Marking.{lowest_same, not_from, some_not}
 use Rattle.used_bytes.specs.Layers.{MarksAll}
-use Rattle.used_bytes.proofs.Marking.{Together, together_start, together_next}
+use Rattle.used_bytes.proofs.Marking.{Together, together_next}
 use Rattle.shared_bytes.specs.Kinds.{plain_kind, separator_kind}
 use Rattle.shared_bytes.specs.Bytes.{used_by_kind, shared, shared_byte}
 use Rattle.shared_bytes.specs.Layers.{Covers}
@@ -33,13 +33,6 @@ pub record Left (tb : List ℕ) (first at : ℕ) (P : List Transition → Type 0
   pub holds : P left
 
 module _ {tb : List ℕ} {first at : ℕ} {P : List Transition → Type 0} (w : Left tb first at P) where
-  pub left-room : first < at → at - 1 < length tb
-  left-room l = go w.left w.listed
-    where
-      go : (us : List Transition) → Listed tb first at us → at - 1 < length tb
-      go [] c = absurd (omega arith)
-      go (u ∷ us) (p, e, c) = e.room
-
   pub left_next : (Q : List Transition → Type 0) → first < at
       → ((u : Transition) (us : List Transition) → Edge tb (at - 1) u → P (u ∷ us) → Q us) → Left tb first (at - 1) Q
   left_next Q l f = go w.left w.listed w.holds
@@ -60,11 +53,6 @@ module _ {tb : List ℕ} {first at : ℕ} {P : List Transition → Type 0} (w : 
 abbrev pub Covering : List ℕ → ℕ → List Transition → List Bool → ℕ → List Bool → Type 0
 Covering tb first ts before at set = Left tb first at (λ left. Together ts before left set)
 
-pub covering_start : {tb : List ℕ} {k first at : ℕ} {r : Rule} → Table tb k r → first ≡ first_of (body_at tb k) → at ≡ end_of (body_at tb k)
-    → {set : List Bool} → length set ≡ 256 → Covering tb first r.transitions set at set
-covering_start {r = r} t f e z =
-    record { left = r.transitions; listed = rw (f, e) t.body.listed; holds = together_start r.transitions z }
-
 pub covering_next : {tb : List ℕ} {first : ℕ} {ts : List Transition} {before : List Bool} {at : ℕ} {set : List Bool}
     → Covering tb first ts before at set → {low high : ℕ} {next : List Bool} → first < at → low ≡ low_of (edge_at tb (at - 1))
     → high ≡ high_of (edge_at tb (at - 1)) → Ranged low high set next → Covering tb first ts before (at - 1) next
@@ -75,9 +63,6 @@ covering_next {ts = ts} {before} w {next = next} l p q m =
 used_covered : (r : Rule) (b : ℕ) → used r b ≡ true → any (λ (t : Transition). covers t b) r.transitions ≡ true
 unfolding used
 used_covered r b = any-map _ (λ (t : Transition). covers t b) (λ t e. (and_true (covers t b) _ e).0) r.transitions
-
-pub covers-start : (rules : List Rule) (kind : ℕ) (set : List Bool) → length set ≡ 256 → Covers rules kind 0 set
-covers-start rules kind set z = record { size = z; marks = λ k l. absurd (omega arith) }
 
 module _ {rules : List Rule} {kind n : ℕ} {set : List Bool} (w : Covers rules kind n set) where
   pub covers_with : {set₁ : List Bool} → MarksAll (rule_at rules n).transitions set set₁ → Covers rules kind (n + 1) set₁

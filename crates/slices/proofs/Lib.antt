@@ -1,6 +1,3 @@
--- The loops of lexing (Opening, Starting, Storing) and of printing (Passes, Staging).
-pub mod Opening
-pub mod Starting
+-- The loop of lexing (Storing), and the passes of printing (Passes).
 pub mod Storing
 pub mod Passes
-pub mod Staging

@@ -1,27 +1,66 @@
 -- The first and the third pass of `print_tokens` over the records that the tokens say: faults found and bytes counted; what reads on.
 -- The second is token_list's `Joining`. Assumes nothing.
-use Rattle.answer.specs.declared.Reason.TheVariants.{ReadOn}
-use mathlib.Core.Path.{◌≡◌, sym, ap, ◌∙◌, subst}
-use mathlib.Core.Option.{none, some}
+use Rattle.answer.specs.declared.Reason.{Reason}
+use Rattle.answer.specs.declared.Reason.TheVariants.{OutputTooLong, ReadOn}
+use Rattle.answer.specs.declared.Refusal.{Refusal}
+use Rattle.std.specs.Prelude.{Ok, Err}
+use mathlib.Core.Path.{◌≡◌, refl, sym, ap, ◌∙◌, subst}
+use mathlib.Core.Option.{Option, none, some}
 use mathlib.Core.List.{List, [], ◌∷◌, ◌++◌}
 use Prim.Native.Nat.{ℕ, suc, ◌+◌, ◌*◌, ◌<◌, ◌≤◌}
 use native.Mathlib.Omega.{arith}
 use native.Mathlib.Numerals.{add-one}
-use lib.ListN.{length, drop, length-append, length-drop}
-use lib.Seq.{drop-drop, drop_at}
+use lib.ListN.{length, get_or, take, drop, length-append, length-drop}
+use lib.Seq.{take-append_seam, drop-drop, drop_at}
+use borrow.Author.Tests.{lt-ltb}
 use Rattle.automaton.specs.Rule.{Rule}
+use Rattle.book.specs.Limits.{max_text, max_tokens}
 use Rattle.longest_match.specs.Lexer.{first_match, join}
 use Rattle.longest_match.specs.Layers.{Chooses}
+use Rattle.longest_match.proofs.First.{nothing}
+use Rattle.record.specs.Encoding.{encoded, Fits}
+use Rattle.record.specs.Layers.{no_record}
+use Rattle.record.proofs.Encoding.{count_encoded, record_encoded}
+use Rattle.printer.specs.Outcome.{print_rules}
+use Rattle.printer.specs.Layers.{trouble, Clean}
+use Rattle.printer.proofs.ByRules.{answered_extended, answered_checked}
+use Rattle.slices.specs.Layers.{Counted}
 use Rattle.record.specs.Records.{record_count}
 use Rattle.record.specs.declared.TokenRecord.{TokenRecord}
 use Rattle.record.specs.Tokens.{record_at, records_of, bytes_in, tokens_in, tokens_of}
 use Rattle.token_list.specs.Faults.{fault_of}
 use Rattle.token_list.specs.Checks.{refuse, refuse_by, first_fault, first_extended}
-use Rattle.token_list.specs.Layers.{Faultless, fault_for}
+use Rattle.output.specs.Layers.{PrintAnswered}
+use Rattle.token_list.specs.Layers.{Faultless, Fitting, Joined, checked_of, fault_for}
 use Rattle.token_list.proofs.Alone.{alone_first}
 use Rattle.token_list.proofs.Faulting.{Fine, fine, bytes_length}
 use Rattle.token_list.proofs.Extended.{read_no_more, read_on}
 use Rattle.token_list.proofs.Passes.{left, left-start, left_next, left_end, faultless_front, Passing, passing_start, passing_next}
+
+-- ---- a token and its record
+
+-- tokens whose fields fit their types are those that their records say
+module _ (ts : List TokenRecord) {k : ℕ} (l : k < length ts) where
+  pub more : k < record_count (encoded ts)
+  more = omega (arith, count_encoded ts)
+
+  pub here : Fits (get_or ts k no_record) → get_or ts k no_record ≡ record_at (encoded ts) k
+  here f = sym (record_encoded ts k l f)
+
+pub no_more : (ts : List TokenRecord) {k : ℕ} → length ts ≤ k → record_count (encoded ts) ≤ k
+no_more ts l = omega (arith, count_encoded ts)
+
+-- ---- what is wrong with a list
+
+module _ (rules : List Rule) (records pool : List ℕ) where
+  pub troubled_fault : {f : Refusal} → first_fault (fault_of rules pool) (records_of records) 0 ≡ some f → trouble rules records pool ≡ some f
+  unfolding trouble
+  troubled_fault e = rw e
+
+  pub troubled_long : Faultless rules records pool → max_text < length (join (tokens_of records pool))
+      → trouble rules records pool ≡ some (record { reason = OutputTooLong; place = 0 })
+  unfolding trouble refuse
+  troubled_long f l = rw (f, lt-ltb _ _ l)
 
 -- ---- the first pass
 
@@ -37,8 +76,8 @@ measuring_start rules records pool =
 
 module _ {rules : List Rule} {records pool : List ℕ} {total k : ℕ} (w : Measuring rules records pool total k) where
   module _ (more : k < record_count records) {r : TokenRecord} (e : r ≡ record_at records k) where
-    pub measuring_refused : {number : ℕ} → fault_of rules pool r ≡ some number
-        → first_fault (fault_of rules pool) (records_of records) 0 ≡ some (record { number = number; place = k })
+    pub measuring_refused : {reason : Reason} → fault_of rules pool r ≡ some reason
+        → first_fault (fault_of rules pool) (records_of records) 0 ≡ some (record { reason = reason; place = k })
     unfolding first_fault refuse_by
     measuring_refused f = w.passing.first ∙ rw (left_next records k more, ← e, f)
 
@@ -98,6 +137,9 @@ module _ {rules : List Rule} {records pool text : List ℕ} {at k : ℕ} (w : Ex
     matched : first_match rules (bytes_in pool r) ≡ some r.tag
     matched = alone_first rules r.tag (bytes_in pool r) token_fine.alone
 
+    pub some_byte : 0 ≡ r.len → ⊥
+    some_byte q = let m : first_match rules [] ≡ some r.tag = rw (← q) at matched in nothing (sym m ∙ empty) refl
+
     chosen_here : Chooses rules (bytes_in pool r ++ after) rule len
     chosen_here = subst (λ (x : List ℕ). Chooses rules x rule len) split c
 
@@ -122,3 +164,35 @@ module _ {rules : List Rule} {records pool text : List ℕ} {at k : ℕ} (w : Ex
   pub extending_end : record_count records ≤ k → first_extended rules (tokens_of records pool) 0 ≡ none
   unfolding first_extended tokens_in
   extending_end l = w.first ∙ rw (left_end records k l)
+
+-- ---- what the passes come to
+
+by_refusal : {f : Refusal} (o : Option Refusal) → Err f ≡ checked_of o → o ≡ some f
+by_refusal {f} none e = let z : ◌≡◌ {A = ℕ} 0 1 = cc in absurd (omega arith)
+by_refusal {f} (some g) e = let y : f ≡ g = cc in ap some (sym y)
+
+by_pass : (o : Option Refusal) → Ok tt ≡ checked_of o → o ≡ none
+by_pass none e = refl
+by_pass (some g) e = let z : ◌≡◌ {A = ℕ} 0 1 = cc in absurd (omega arith)
+
+module _ {rules : List Rule} {records pool : List ℕ} {total : ℕ} (w : Counted rules records pool total) where
+  pub counted_fitting : {scratch : List ℕ} → length scratch ≡ max_text → Fitting records pool scratch
+  counted_fitting l = record { each = w.spanned.each; room = omega (arith, w.spanned.bytes, w.spanned.short) }
+
+  pub counted_laid : {entry exit : List ℕ} → Joined (join (tokens_of records pool)) entry exit → take total exit ≡ join (tokens_of records pool)
+  counted_laid j = rw (w.spanned.bytes, j.written, take-append_seam)
+
+  pub counted_clean : {scratch : List ℕ} → take total scratch ≡ join (tokens_of records pool)
+      → Ok tt ≡ checked_of (first_extended rules (tokens_of records pool) 0) → Clean rules records pool scratch total
+  counted_clean l e = record {
+    settled = record { faultless = w.faultless; apart = by_pass _ e };
+    spanned = w.spanned;
+    laid = l;
+  }
+
+  pub counted_extended : {f : Refusal} (out : List ℕ) → record_count records ≤ max_tokens
+      → Err f ≡ checked_of (first_extended rules (tokens_of records pool) 0)
+      → PrintAnswered (print_rules rules records pool out) (Err f) out
+  counted_extended out few e =
+      answered_checked rules records pool out few w.faultless
+      (answered_extended rules (tokens_of records pool) out w.spanned.bytes w.spanned.short (by_refusal _ e) refl)

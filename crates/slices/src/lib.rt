@@ -1,9 +1,9 @@
 // Lexing into and printing from a slice of token structs, for callers inside the server; lexing fills a slice of masks beside it.
-// All that is decided stands in the modules, in functions over plain data; a function that holds slices is one loop.
+// `lexing` and `printing` go by the rules that a table holds.
 #![tactic(auto)]
 
-pub mod lexing;
-pub mod printing;
+mod lexing;
+mod printing;
 
 ghost use Rattle.std.specs.Prelude.{◌≡◌};
 ghost use Rattle.record.specs.Encoding.{encoded};
@@ -32,15 +32,8 @@ pub fn lex_tokens(
         ≡ (masked_outcome book.now text.now (encoded tokens.old) (mask_bytes masks.old)).masks) }
 {
     let mut table = [0u64; Book::TABLE];
-    let mut pending = crate::lexing::begin(book, &mut table, text, tokens.len(), masks.len());
-    let t = &table;
-    while pending.more {
-        let index = pending.index;
-        tokens[index] = pending.token;
-        masks[index] = pending.mask;
-        pending = crate::lexing::next(t, text, pending);
-    }
-    crate::lexing::answer(pending)
+    reader::load(book, &mut table)?;
+    lexing::lex_rules(&table, text, tokens, masks)
 }
 
 // Prints tokens whose bytes lie in `pool`, as `book_printer::print` does: the number of bytes, which stand at the start of `out`, or
@@ -56,14 +49,6 @@ pub fn print_tokens(
         ≡ (print_outcome book.now (encoded tokens.now) pool.now out.old).out) }
 {
     let mut table = [0u64; Book::TABLE];
-    let mut scratch = [0u8; Book::TEXT];
-    let count = tokens.len();
-    let mut stage = crate::printing::begin(book, &mut table, count);
-    let t = &table;
-    while stage.more {
-        let index = stage.index;
-        let token = crate::printing::fitting(tokens[index]);
-        stage = crate::printing::step(t, &mut scratch, pool, stage, token, count);
-    }
-    crate::printing::finish(&scratch, stage, out)
+    reader::load(book, &mut table)?;
+    printing::print_rules(&table, tokens, pool, out)
 }

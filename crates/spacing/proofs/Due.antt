@@ -1,10 +1,13 @@
 -- Whether a separator follows a token. Assumes nothing.
 use mathlib.Core.Path.{◌≡◌, refl, sym, ◌∙◌, subst}
-use mathlib.Core.Bool.{Bool, true, false}
-use mathlib.Core.Option.{none}
+use mathlib.Core.Bool.{Bool, true, false, not}
+use mathlib.Core.Option.{none, some}
 use mathlib.Core.List.{List, [], ◌∷◌, ◌++◌}
 use Prim.Native.Nat.{ℕ}
-use borrow.Author.Tests.{eq-eqb, ne_eqb}
+use native.Mathlib.Omega.{arith}
+use lib.Dec.{eqb}
+use lib.ListN.{length}
+use borrow.Author.Tests.{eq-eqb, ne_eqb, eqb-true}
 use Rattle.automaton.specs.Rule.{Rule}
 use Rattle.automaton.proofs.Tests.{clash}
 use Rattle.longest_match.specs.Lexer.{Token, first_match, extends, join}
@@ -48,3 +51,19 @@ module _ {rules : List Rule} (mode : ℕ) {t : Token} {len : ℕ} {last : Bool} 
 
       pub due_no : n ≡ len → false ≡ follows rules mode t us
       due_no q = sym (read_no_more rules t.bytes (join us) t.tag empty a.alone chosen (q ∙ sym a.long)) ∙ by_extends ne
+
+      -- by the length that is chosen
+      pub due_by : not (eqb n len) ≡ follows rules mode t us
+      due_by = go (eqb n len) refl
+        where
+          go : (b : Bool) → eqb n len ≡ b → not b ≡ follows rules mode t us
+          go true e = due_no (eqb-true n len e)
+          go false e = due_more (λ q. clash (eq-eqb n len q) e)
+
+      -- a token has a byte
+      pub due_none : 0 ≡ len → ⊥
+      due_none z = go t.bytes a.alone (a.long ∙ sym z)
+        where
+          go : (w : List ℕ) → first_match rules w ≡ some t.tag → length w ≡ 0 → ⊥
+          go [] e l = let y : ◌≡◌ {A = ℕ} 0 1 = cc in omega arith
+          go (b ∷ w) e l = omega arith

@@ -12,14 +12,13 @@ use Rattle.longest_match.specs.Lexer.{Token, Alone, join}
 use Rattle.record.specs.Records.{record_count}
 use Rattle.record.specs.declared.TokenRecord.{TokenRecord}
 use Rattle.record.specs.Tokens.{record_at, bytes_in, token_in, tokens_in, InPool}
-use Rattle.output.specs.declared.Placed.{Placed}
+use Rattle.std.specs.Prelude.{Option, Some, None}
 use Rattle.output.specs.Layers.{Stands}
 use Rattle.output.proofs.Placing.{stands_at, stands_full}
 use Rattle.token_list.proofs.Faulting.{bytes_length}
 use Rattle.token_list.proofs.Passes.{left, left-start, left_end, record_at_lem}
 use Rattle.spacing.specs.Separators.{follows, put, separated, spelled}
 use Rattle.spacing.specs.Layers.{is_last, Ahead, Spaceable}
-use Rattle.output.specs.declared.Placed.TheVariants as placed
 use Rattle.spacing.proofs.Separated as list
 
 -- ---- one token
@@ -30,17 +29,17 @@ module _ (rules : List Rule) (mode : ℕ) (pool : List ℕ) (token sep : TokenRe
   text = join (token_in pool token ∷ put (follows rules mode (token_in pool token) us) (token_in pool sep) us)
 
   module _ (behind : List ℕ) (e : behind ≡ join us) where
-    pub token_alone : {p q : Placed} {exit : List ℕ} → false ≡ follows rules mode (token_in pool token) us
+    pub token_alone : {p q : Option ℕ} {exit : List ℕ} → false ≡ follows rules mode (token_in pool token) us
         → p ≡ q → Stands p (bytes_in pool token ++ behind) exit → Stands q text exit
     token_alone f z s = rw (← z, ← f, ← e) s
 
-    pub token_both : {p : Placed} {exit : List ℕ} → true ≡ follows rules mode (token_in pool token) us
+    pub token_both : {p : Option ℕ} {exit : List ℕ} → true ≡ follows rules mode (token_in pool token) us
         → Stands p (bytes_in pool token ++ (bytes_in pool sep ++ behind)) exit → Stands p text exit
     token_both f s = rw (← f, ← e) s
 
     -- no room for the token alone
-    pub token_full : {p : Placed} {exit : List ℕ} → p ≡ placed.Full → Stands p (bytes_in pool token ++ behind) exit
-        → Stands placed.Full text exit
+    pub token_full : {p : Option ℕ} {exit : List ℕ} → p ≡ None → Stands p (bytes_in pool token ++ behind) exit
+        → Stands None text exit
     token_full {p} {exit} q s =
         let k : length exit < length (bytes_in pool token) + length (join us) = rw (length-append, e) at (s.full q) in
         stands_full text exit
@@ -92,12 +91,12 @@ module _ (rules : List Rule) (sep : TokenRecord) (mode : ℕ) (records pool : Li
         subst (λ (i : ℕ). from (k - 1) ≡ token_in pool r ∷ put (follows rules mode (token_in pool r) (from i)) (token_in pool sep) (from i))
         q z
 
-    module _ {p : Placed} {exit : List ℕ} (s : Stands p (join
+    module _ {p : Option ℕ} {exit : List ℕ} (s : Stands p (join
         (token_in pool r ∷ put (follows rules mode (token_in pool r) (from k)) (token_in pool sep) (from k))) exit) where
-      pub putting_next : {start : ℕ} → p ≡ placed.At start → Putting rules sep mode records pool exit start (k - 1)
+      pub putting_next : {start : ℕ} → p ≡ Some start → Putting rules sep mode records pool exit start (k - 1)
       putting_next q = let t = s.at _ q in record { within = t.within; few = omega (arith, w.few); laid = t.laid ∙ ap join (sym here) }
 
-      pub putting_full : p ≡ placed.Full → Stands placed.Full (spelled rules sep mode records pool) exit
+      pub putting_full : p ≡ None → Stands None (spelled rules sep mode records pool) exit
       putting_full q =
           let l = s.full q in
           let m : length (join (from (k - 1))) ≤ length (spelled rules sep mode records pool) = list.from-whole rules sep mode records
@@ -106,6 +105,6 @@ module _ (rules : List Rule) (sep : TokenRecord) (mode : ℕ) (records pool : Li
           stands_full (spelled rules sep mode records pool) exit (omega arith)
 
   pub putting_end : {scratch : List ℕ} {at k : ℕ} → Putting rules sep mode records pool scratch at k → k ≡ 0
-      → Stands (placed.At at) (spelled rules sep mode records pool) scratch
+      → Stands (Some at) (spelled rules sep mode records pool) scratch
   putting_end {k = k} w z =
       stands_at (record { within = w.within; laid = w.laid ∙ rw (z, ← left-start records) })

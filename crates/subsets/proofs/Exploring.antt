@@ -1,4 +1,4 @@
--- The loop of `explore_in`. Assumes nothing.
+-- The loop of `explore`. Assumes nothing.
 use mathlib.Core.Path.{◌≡◌, refl, sym, ap, subst, ◌∙◌}
 use mathlib.Core.List.{List, [], ◌∷◌, ◌++◌, map, flatten, append_assoc, append-nil}
 use Prim.Native.Nat.{ℕ, suc, ◌+◌, ◌*◌, ◌≤◌, ◌<◌}
@@ -7,9 +7,9 @@ use native.Mathlib.Omega.{arith}
 use lib.ListN.{length, take}
 use lib.Seq.{length-take-le}
 use borrow.Author.Tests.{lt-ltb, le-ltb}
+use Rattle.std.specs.Prelude.{Some, None}
 use Rattle.subsets.specs.States.{sets_ahead, ahead_of, discover, states_after, states, number_of, row_of, rows_below}
-use Rattle.subsets.specs.Layers.{Begins, Fills, Found, Explores}
-use Rattle.subsets.specs.declared.Explored.TheVariants as explored
+use Rattle.subsets.specs.Layers.{Begins, Filled, Found, Explores}
 use Rattle.subsets.proofs.Reaching.{begins_take, begins_length, discover_begins}
 use Rattle.subsets.proofs.Reaching.{states_next, states-all, states-done, ahead_same}
 
@@ -59,40 +59,38 @@ module _ {first : ℕ} {follow takers sets targets : List ℕ} {count k : ℕ} (
     all : Begins (states_after first follow takers (k + 1)) (states first follow takers)
     all = states-all first follow takers (k + 1) (omega (arith, w.few))
 
-    module _ {r : ℕ} {next after : List ℕ} (f : Fills (sets_ahead takers ahead) sets count targets (256 * k) r next after) where
-      pub exploring_next : r ≤ 254 → Exploring first follow takers next after r (k + 1)
-      unfolding rows_below row_of
-      exploring_next b =
-          let g = f.filled b in
-          let known : take r next ≡ states_after first follow takers (k + 1) = g.known ∙ discovers in
-          let n : length (take r next) ≡ r = length-take-le r next (omega (arith, f.same, w.size)) in
-          let more : count ≤ r =
-          omega (arith, long, ap length g.known, begins_length (discover_begins (take count sets) (sets_ahead takers ahead))) in
-          let here : 256 * (k + 1) ≡ 256 * k + 256 = omega arith in
-          record {
-            size = f.same ∙ w.size;
-            room = f.size ∙ w.room;
-            turn = omega arith;
-            few = b;
-            known = known;
-            written =
-                ap (λ (m : ℕ). take m after) here
-                ∙ g.written (states first follow takers) (subst (λ (x : List ℕ). Begins x (states first follow takers)) (sym known) all)
-                ∙ ap (λ (x : List ℕ). x ++ map (number_of (states first follow takers)) (sets_ahead takers ahead)) w.written
-                ∙ ap
-                (λ (a : ℕ). flatten (rows_below first follow takers k) ++ map (number_of (states first follow takers)) (sets_ahead takers a))
-                ahead_always
-                ∙ sym (flatten_more (rows_below first follow takers k) (row_of first follow takers k))
-                ∙ ap (λ (m : ℕ). flatten (rows_below first follow takers m)) (sym (add-one k));
-          }
+    pub exploring_next : {r : ℕ} {next row after : List ℕ} → length next ≡ 256 → length after ≡ 65536
+        → Filled (sets_ahead takers ahead) sets count r next row → take (256 * (k + 1)) after ≡ take (256 * k) targets ++ row
+        → Exploring first follow takers next after r (k + 1)
+    unfolding rows_below row_of
+    exploring_next {r} {next} {row} s n g t =
+        let known : take r next ≡ states_after first follow takers (k + 1) = g.known ∙ discovers in
+        let long_now : length (take r next) ≡ r = length-take-le r next (omega (arith, g.few)) in
+        let more : count ≤ r =
+        omega (arith, long, ap length g.known, begins_length (discover_begins (take count sets) (sets_ahead takers ahead))) in
+        record {
+          size = s;
+          room = n;
+          turn = omega arith;
+          few = g.few;
+          known = known;
+          written =
+              t ∙ ap (λ (x : List ℕ). x ++ row) w.written
+              ∙ ap (λ (x : List ℕ). flatten (rows_below first follow takers k) ++ x)
+              (g.written (states first follow takers) (subst (λ (x : List ℕ). Begins x (states first follow takers)) (sym known) all)
+              ∙ ap (λ (a : ℕ). map (number_of (states first follow takers)) (sets_ahead takers a)) ahead_always)
+              ∙ sym (flatten_more (rows_below first follow takers k) (row_of first follow takers k))
+              ∙ ap (λ (m : ℕ). flatten (rows_below first follow takers m)) (sym (add-one k));
+        }
 
-      pub exploring_many : 254 < r → Explores first follow takers explored.TooMany next after
-      exploring_many b = record {
-        found = λ n q. let z : ◌≡◌ {A = ℕ} 0 1 = cc in absurd (omega arith);
-        many = λ q. lt-ltb 254 (length (states first follow takers)) (omega (arith, f.many b, ap length discovers, begins_length all));
-      }
+    pub exploring_many : {next after : List ℕ} → 254 < length (discover (take count sets) (sets_ahead takers ahead))
+        → Explores first follow takers None next after
+    exploring_many b = record {
+      found = λ n q. cc;
+      many = λ q. lt-ltb 254 (length (states first follow takers)) (omega (arith, ap length discovers, begins_length all));
+    }
 
-  pub exploring_end : count < k → Explores first follow takers (explored.States count) sets targets
+  pub exploring_end : count < k → Explores first follow takers (Some count) sets targets
   exploring_end l =
       let done : states first follow takers ≡ states_after first follow takers k =
       states-done first follow takers k (omega (arith, w.turn, w.few)) (omega (arith, reached)) in
@@ -108,5 +106,5 @@ module _ {first : ℕ} {follow takers sets targets : List ℕ} {count k : ℕ} (
       } in
       record {
         found = λ m q. let e : count ≡ m = cc in subst (λ (i : ℕ). Found first follow takers i sets targets) e found;
-        many = λ q. let z : ◌≡◌ {A = ℕ} 0 1 = cc in absurd (omega arith);
+        many = λ q. cc;
       }

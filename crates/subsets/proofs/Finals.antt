@@ -1,4 +1,4 @@
--- The loop of `list_in`, and that the final states are states. Assumes nothing.
+-- The loop of `list_finals`, and that the final states are states. Assumes nothing.
 use mathlib.Core.Path.{◌≡◌, refl, sym, ap, ◌∙◌}
 use mathlib.Core.Bool.{Bool, true, false, not}
 use mathlib.Core.List.{List, [], ◌∷◌, ◌++◌, append_assoc, append-nil}
@@ -8,55 +8,35 @@ use native.Mathlib.Numerals.{add-one}
 use native.Mathlib.Omega.{arith}
 use lib.Bits.{bit_and}
 use lib.Dec.{eqb}
-use lib.ListN.{length, get_or, take, set, length-set}
-use lib.Seq.{get_or-take, length-take-le, take-suc-set}
+use lib.ListN.{length, get_or, take}
 use Rattle.automaton.specs.Choice.{if, All}
 use Rattle.automaton.proofs.Tests.{all_append}
 use Rattle.subsets.specs.Layers.{Puts}
 use Rattle.subsets.specs.States.{finals_below, finals_of}
 
-pub puts_one : (test : Bool) (number n : ℕ) (entry : List ℕ) → n < length entry → test ≡ true
-    → Puts test number n entry (n + 1) (set entry n number)
-puts_one test number n entry l e =
-    record { same = length-set entry n number; few = omega arith; front = rw (e, add-one) (take-suc-set entry n number l) }
-
-pub puts_none : (test : Bool) (number n : ℕ) (entry : List ℕ) → test ≡ false → Puts test number n entry n entry
-puts_none test number n entry e = record { same = refl; few = omega arith; front = rw (e, append-nil (take n entry)) }
-
--- the first k states are gone through, and the finals of them stand at the front
-pub record Listing (last : ℕ) (empty : Bool) (sets : List ℕ) (count : ℕ) (finals : List ℕ) (n k : ℕ) : Type 0 where
-  pub size : length finals ≡ 256
-  pub within : k ≤ count
+-- the first k sets are gone through, and the finals of them stand at the front
+pub record Listing (last : ℕ) (empty : Bool) (sets finals : List ℕ) (n k : ℕ) : Type 0 where
   pub few : n ≤ k + 1
-  pub front : take n finals ≡ if empty (0 ∷ []) [] ++ finals_below last (take count sets) k
+  pub front : take n finals ≡ if empty (0 ∷ []) [] ++ finals_below last sets k
 
-pub listing_start : (last : ℕ) (empty : Bool) (sets : List ℕ) (count : ℕ) {entry finals : List ℕ} {n : ℕ} → length entry ≡ 256
-    → Puts empty 0 0 entry n finals → Listing last empty sets count finals n 0
+pub listing_start : (last : ℕ) (empty : Bool) (sets : List ℕ) {entry finals : List ℕ} {n : ℕ}
+    → Puts empty 0 0 entry n finals → Listing last empty sets finals n 0
 unfolding finals_below
-listing_start last empty sets count s p =
-    record { size = p.same ∙ s; within = omega arith; few = p.few; front = p.front ∙ sym (append-nil (if empty (0 ∷ []) [])) }
+listing_start last empty sets p = record { few = p.few; front = p.front ∙ sym (append-nil (if empty (0 ∷ []) [])) }
 
 if_not : {A : Type 0} (t : Bool) (a b : A) → if (not t) a b ≡ if t b a
 if_not true a b = refl
 if_not false a b = refl
 
-module _ {last : ℕ} {empty : Bool} {sets : List ℕ} {count : ℕ} {finals : List ℕ} {n k : ℕ}
-    (w : Listing last empty sets count finals n k) where
-  pub listing_next : k < count → {next : List ℕ} {m : ℕ} → Puts (not (eqb (bit_and (get_or sets k 0) last) 0)) (k + 1) n finals m next
-      → Listing last empty sets count next m (k + 1)
+module _ {last : ℕ} {empty : Bool} {sets finals : List ℕ} {n k : ℕ} (w : Listing last empty sets finals n k) where
+  pub listing_next : {next : List ℕ} {m : ℕ} → Puts (not (eqb (bit_and (get_or sets k 0) last) 0)) (k + 1) n finals m next
+      → Listing last empty sets next m (k + 1)
   unfolding finals_below
-  listing_next l p = record {
-    size = p.same ∙ w.size;
-    within = omega arith;
-    few = omega (arith, w.few, p.few);
-    front = p.front ∙ rw (w.front, if_not, add-one, get_or-take count sets k 0 l, append_assoc);
-  }
+  listing_next p = record { few = omega (arith, w.few, p.few); front = p.front ∙ rw (w.front, if_not, add-one, append_assoc) }
 
-  pub listing-end : count ≤ 254 → length sets ≡ 256 → count ≤ k → take n finals ≡ finals_of last empty (take count sets)
+  pub listing-end : k ≡ length sets → take n finals ≡ finals_of last empty sets
   unfolding finals_of
-  listing-end b s l =
-      let e : k ≡ length (take count sets) = omega (arith, w.within, length-take-le count sets (omega arith)) in
-      w.front ∙ ap (λ (j : ℕ). if empty (0 ∷ []) [] ++ finals_below last (take count sets) j) e
+  listing-end e = w.front ∙ ap (λ (j : ℕ). if empty (0 ∷ []) [] ++ finals_below last sets j) e
 
 -- ---- each final state is a state
 

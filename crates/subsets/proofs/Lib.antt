@@ -1,5 +1,5 @@
--- Laws of the sets that are reached (Reaching) and of where they lead (Targets). The loops of `after` (Following), `find` (Finding),
--- `fill_row` (Rows), `explore_in` (Exploring) and `list_in` (Finals). The search as a walk over steps (Walking, Searching), the strings
+-- Laws of the sets that are reached (Reaching) and of where they lead (Targets). Where a set stands (Finding), and the loops of `after`
+-- (Following), `fill_row` (Rows), `explore` (Exploring) and `list_finals` (Finals). The search as a walk over steps (Walking, Searching), the strings
 -- that lead to sets (Strings), and the numbers of the sets by them (Numbering).
 pub mod Following
 pub mod Finding

@@ -7,14 +7,13 @@ use Prim.Native.Nat.{ℕ, zero, suc, ◌+◌, ◌*◌, ◌/◌, ◌%◌, ◌≤�
 use native.Mathlib.Omega.{arith}
 use lib.Bits.{bit_and}
 use lib.Dec.{eqb, ltb}
-use lib.ListN.{length, get_or, take}
-use lib.Seq.{take-length}
+use lib.ListN.{length, get_or}
 use borrow.Author.Tests.{ltb-true, ltb-false, eqb-true, eqb-false, ne_eqb}
 use Rattle.automaton.specs.Choice.{among}
 use Rattle.automaton.proofs.Tests.{all_append}
 use Rattle.subsets.specs.States.{after, ahead_of, states, are_too_many, place, number_of}
 use Rattle.subsets.proofs.Reaching.{number_some}
-use Rattle.subsets.proofs.Finding.{found_at}
+use Rattle.subsets.proofs.Finding.{place_at}
 use Rattle.subsets.specs.Numbering.{set_from, Bytes, Before, LedTo, NumberedByStrings, ManySets}
 use Rattle.subsets.proofs.Walking.{Stands, stands_among, Walked, walked_different, walked_only, walked_upto}
 use Rattle.subsets.proofs.Searching.{met, gone}
@@ -126,11 +125,10 @@ module _ (first : ℕ) (follow takers : List ℕ) {E : ℕ} {steps : List ℕ}
       → number_of (states first follow takers) (set_from first follow takers (word (suc k))) ≡ suc k
   word_number k l =
       let known : List ℕ = states first follow takers in
-      let p : k ≡ place (get_or known k 0) (take (length known) known) =
-      found_at known (length known) (get_or known k 0) k (omega arith) (omega arith) (λ i m. walked_different w i k m l) refl in
+      let p : place (get_or known k 0) known ≡ k = place_at (get_or known k 0) known k l refl (λ i m. walked_different w i k m l) in
       ap (number_of known) (word-leads k l)
       ∙ number_some known (get_or known k 0) (ne_eqb (get_or known k 0) 0 (w.firsts k l).filled)
-      ∙ ap suc (ap (place (get_or known k 0)) (sym (take-length known)) ∙ sym p)
+      ∙ ap suc p
 
   walked_led : LedTo first follow takers (λ (k : ℕ). word (suc k))
   walked_led = record {

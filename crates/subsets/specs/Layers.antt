@@ -1,11 +1,9 @@
 -- What the functions ask and answer: `Explores` for the sets that are reached.
-use Rattle.std.specs.Prelude.{◌≡◌, Bool, true, false, ℕ, ◌+◌, ◌*◌, ◌≤◌, ◌<◌, length, take}
+use Rattle.std.specs.Prelude.{◌≡◌, Bool, true, false, Option, Some, None, ℕ, ◌+◌, ◌*◌, ◌≤◌, ◌<◌, length, take, MatchOption}
 use mathlib.Core.List.{List, [], ◌∷◌, ◌++◌, map, flatten}
 use Rattle.automaton.specs.Choice.{if}
 use Rattle.subsets.specs.States.{discover, number_of, max_states, states, are_too_many, rows_of}
 use Rattle.subsets.specs.declared.Latest.{Latest}
-use Rattle.subsets.specs.declared.Explored.{Explored}
-use Rattle.subsets.specs.declared.Explored.TheVariants as explored
 
 -- ---- numbering
 
@@ -21,23 +19,21 @@ pub record Numbered (sets : List ℕ) (l : Latest) : Type 0 where
 
 -- a set is met
 pub record Learns (entry : List ℕ) (l : Latest) (set : ℕ) (r : Latest) (exit : List ℕ) : Type 0 where
-  pub same : length exit ≡ length entry
   pub few : r.count ≤ 255
   pub met : r.set ≡ set
   pub latest : Numbered exit r
   pub known : take r.count exit ≡ discover (take l.count entry) (set ∷ [])
 
--- a row of sets is met, and their numbers, which no set that is found later changes, stand in the targets
-pub record Filled (row entry : List ℕ) (count : ℕ) (before : List ℕ) (at r : ℕ) (exit behind : List ℕ) : Type 0 where
+-- a row of sets is met, and their numbers, which no set that is found later changes, are the targets
+pub record Filled (row entry : List ℕ) (count r : ℕ) (exit targets : List ℕ) : Type 0 where
+  pub few : r ≤ max_states
   pub known : take r exit ≡ discover (take count entry) row
-  pub written : (all : List ℕ) → Begins (take r exit) all → take (at + 256) behind ≡ take at before ++ map (number_of all) row
+  pub written : (all : List ℕ) → Begins (take r exit) all → targets ≡ map (number_of all) row
 
 -- or there are too many
-pub record Fills (row entry : List ℕ) (count : ℕ) (before : List ℕ) (at r : ℕ) (exit behind : List ℕ) : Type 0 where
-  pub same : length exit ≡ length entry
-  pub size : length behind ≡ length before
-  pub filled : r ≤ max_states → Filled row entry count before at r exit behind
-  pub many : max_states < r → max_states < length (discover (take count entry) row)
+abbrev pub Fills : List ℕ → List ℕ → ℕ → Option ℕ → List ℕ → List ℕ → Type 0
+Fills row entry count r exit targets =
+    MatchOption r (max_states < length (discover (take count entry) row)) (λ n. Filled row entry count n exit targets)
 
 -- ---- the states
 
@@ -49,9 +45,9 @@ pub record Found (first : ℕ) (follow takers : List ℕ) (n : ℕ) (sets target
   pub rows : take (256 * (n + 1)) targets ≡ flatten (rows_of first follow takers)
 
 -- or there are too many
-pub record Explores (first : ℕ) (follow takers : List ℕ) (r : Explored) (sets targets : List ℕ) : Type 0 where
-  pub found : (n : ℕ) → r ≡ explored.States n → Found first follow takers n sets targets
-  pub many : r ≡ explored.TooMany → are_too_many first follow takers ≡ true
+pub record Explores (first : ℕ) (follow takers : List ℕ) (r : Option ℕ) (sets targets : List ℕ) : Type 0 where
+  pub found : (n : ℕ) → r ≡ Some n → Found first follow takers n sets targets
+  pub many : r ≡ None → are_too_many first follow takers ≡ true
 
 -- ---- the final states
 

@@ -2,57 +2,43 @@
 // they are reached, and where each of them leads at each byte.
 #![tactic(auto)]
 
-ghost use Rattle.std.specs.Prelude.{◌≡◌, ◌+◌, ◌≤◌, ◌<◌, ◌%◌, eqb, length, take};
-ghost use Rattle.automaton.specs.Choice.{if};
+ghost use Rattle.std.specs.Prelude.{◌≡◌, ◌==◌, ◌+◌, ◌≤◌, ◌<◌, length, take, position, MatchOption};
 ghost use Rattle.subsets.specs.States.{after, sets_ahead, ahead_of, place, number_of, finals_of};
 ghost use Rattle.subsets.specs.Layers.{Numbered, Learns, Fills, Explores, Puts};
 
-// `follow` where the lowest bit of `rest` is set, else nothing.
-fn pick(rest: u64, follow: u64) -> u64
-    ensures { result ≡ if (eqb (rest % 2) 1) follow 0 }
-{
-    if rest % 2 == 1 { follow } else { 0 }
-}
+// The greatest number of a state.
+const MAX_STATES: usize = 254;
 
 // The positions that can match the byte after that of a position of the set.
 fn after(follow: &[u64; 64], set: u64) -> u64
     ensures { result ≡ after follow.now set }
 {
-    let mut all: u64 = 0;
-    let mut rest = set;
-    let mut p = 0;
-    while p < 64 {
-        all = all | pick(rest, follow[p]);
-        rest = rest / 2;
-        p += 1;
+    let mut all = 0;
+    for p in 0..64 {
+        if (set >> p) % 2 == 1 {
+            all |= follow[p];
+        }
     }
     all
 }
 
-// The index of the set among the first `count`, or `count` where it is not there.
-fn find(sets: &[u64], count: usize, set: u64) -> usize
-    requires { count ≤ length sets.now }
-    ensures { result ≡ place set (take count sets.now) }
+// The index of the set among the known ones.
+fn find(known: &[u64], set: u64) -> Option<usize>
+    ensures { result ≡ position (λ x. x == set) known.now }
 {
-    let mut i = 0;
-    while i < count {
-        if sets[i] == set {
-            return i;
-        }
-        i += 1;
-    }
-    i
+    known.iter().position(|x| *x == set)
 }
 
-// The number of the set among the first `count`: 0 where it is empty, and the next one where it is not there.
-fn number_of(sets: &[u64], count: usize, set: u64) -> usize
-    requires { count ≤ length sets.now }
-    ensures { result ≡ number_of (take count sets.now) set }
+// The number of the set among the known ones, 0 where it is empty.
+fn number_of(known: &[u64], set: u64) -> Option<usize>
+    ensures { MatchOption result (length known.now < number_of known.now set)
+        (λ n. (n ≡ number_of known.now set) × (n ≤ length known.now)) }
 {
     if set == 0 {
-        return 0;
+        return Some(0);
     }
-    find(sets, count, set) + 1
+    let k = find(known, set)?;
+    Some(k + 1)
 }
 
 // How many sets are known, and the set that was met last, with its number.
@@ -64,59 +50,49 @@ struct Latest {
 }
 
 // Numbers the set, which becomes known if it was not. One that was met last is not looked up.
-fn learn(sets: &mut [u64], last: Latest, set: u64) -> Latest
-    requires { Numbered sets.old last × (last.count ≤ 254) × (length sets.old ≡ 256) }
+fn learn(sets: &mut [u64; 256], last: Latest, set: u64) -> Latest
+    requires { Numbered sets.old last × (last.count ≤ 254) }
     ensures { Learns sets.old last set result sets.new }
 {
     if set == last.set {
         return last;
     }
     let count = last.count;
-    let number = number_of(sets, count, set);
-    if number <= count {
-        return Latest {
-            count: count,
-            set: set,
-            number: number,
-        };
+    if let Some(number) = number_of(&sets[..count], set) {
+        return Latest { count, set, number };
     }
     sets[count] = set;
     Latest {
-        count: number,
-        set: set,
-        number: number,
+        count: count + 1,
+        set,
+        number: count + 1,
     }
 }
 
-// Numbers the sets to which the bytes lead, and stores the numbers from `at` on. Answers how many sets are then known; it stops where
-// there are too many.
+// Numbers the sets to which the bytes lead, and stores the numbers. Answers how many sets are then known, unless there are too many.
 fn fill_row(
     ahead: u64,
-    takers: &[u64],
-    sets: &mut [u64],
+    takers: &[u64; 256],
+    sets: &mut [u64; 256],
     count: usize,
     targets: &mut [u8],
-    at: usize,
-) -> usize
-    requires { (count ≤ 254) × (length takers.now ≡ 256) × (length sets.old ≡ 256) × (at + 256 ≤ length targets.old) }
-    ensures { Fills (sets_ahead takers.now ahead) sets.old count targets.old at result
-        sets.new targets.new }
+) -> Option<usize>
+    requires { (count ≤ 254) × (length targets.old ≡ 256) }
+    ensures { Fills (sets_ahead takers.now ahead) sets.old count result sets.new targets.new }
 {
     let mut last = Latest {
-        count: count,
+        count,
         set: 0,
         number: 0,
     };
-    let mut b = 0;
-    while b < 256 {
+    for b in 0..256 {
         last = learn(sets, last, ahead & takers[b]);
-        targets[at + b] = last.number as u8;
-        b += 1;
-        if last.count > 254 {
-            return last.count;
+        targets[b] = last.number as u8;
+        if last.count > MAX_STATES {
+            return None;
         }
     }
-    last.count
+    Some(last.count)
 }
 
 // What can match the next byte in state `k`.
@@ -130,48 +106,33 @@ fn ahead_of(first: u64, follow: &[u64; 64], sets: &[u64], k: usize) -> u64
     after(follow, sets[k - 1])
 }
 
-// How many sets are reached, or that there are more than a rule has numbers for.
-#[derive(Clone, Copy)]
-pub enum Explored {
-    States(usize),
-    TooMany,
-}
-
-fn explore_in(
-    first: u64,
-    follow: &[u64; 64],
-    takers: &[u64],
-    sets: &mut [u64],
-    targets: &mut [u8],
-) -> Explored
-    requires { (length takers.now ≡ 256) × (length sets.old ≡ 256) × (length targets.old ≡ 65536) }
-    ensures { Explores first follow.now takers.now result sets.new targets.new }
-{
-    let mut count = 0;
-    let mut k = 0;
-    while k <= count {
-        let ahead = ahead_of(first, follow, sets, k);
-        count = fill_row(ahead, takers, sets, count, targets, 256 * k);
-        k += 1;
-        if count > 254 {
-            return Explored::TooMany;
-        }
-    }
-    Explored::States(count)
-}
-
-// Finds the sets that are reached, in the order of their numbers, and of each state, the start first, its 256 targets. What stands in the
-// two arrays before plays no part; where there are too many sets, what they hold afterwards means nothing.
+// Finds the sets that are reached, in the order of their numbers, and of each state, the start first, its 256 targets. Answers how many
+// sets there are, unless there are more than a rule has numbers for: what the two arrays hold then means nothing. What stands in them
+// before plays no part.
 pub fn explore(
     first: u64,
     follow: &[u64; 64],
     takers: &[u64; 256],
     sets: &mut [u64; 256],
     targets: &mut [u8; 65536],
-) -> Explored
+) -> Option<usize>
     ensures { Explores first follow.now takers.now result sets.new targets.new }
 {
-    explore_in(first, follow, takers, sets, targets)
+    let mut count = 0;
+    let mut k = 0;
+    // `count` grows on the way, so this is no range.
+    while k <= count {
+        let ahead = ahead_of(first, follow, sets, k);
+        count = fill_row(
+            ahead,
+            takers,
+            sets,
+            count,
+            &mut targets[256 * k..256 * k + 256],
+        )?;
+        k += 1;
+    }
+    Some(count)
 }
 
 // Puts the number behind the first `n` finals where the test holds, and answers how many there are then.
@@ -186,29 +147,14 @@ fn put_if(test: bool, finals: &mut [u8], n: usize, number: u8) -> usize
     n
 }
 
-fn list_in(last: u64, empty: bool, sets: &[u64], count: usize, finals: &mut [u8]) -> usize
-    requires { (count ≤ 254) × (length sets.now ≡ 256) × (length finals.old ≡ 256) }
-    ensures { (result ≤ count + 1) × (take result finals.new ≡ finals_of last empty (take count sets.now)) }
+// The numbers of the final states, rising: 0 where the empty text matches, and each whose set has a position in common with `last`.
+pub fn list_finals(last: u64, empty: bool, sets: &[u64], finals: &mut [u8; 256]) -> usize
+    requires { length sets.now ≤ 254 }
+    ensures { (result ≤ length sets.now + 1) × (take result finals.new ≡ finals_of last empty sets.now) }
 {
     let mut n = put_if(empty, finals, 0, 0);
-    let mut k = 0;
-    while k < count {
-        n = put_if(sets[k] & last != 0, finals, n, (k + 1) as u8);
-        k += 1;
+    for (k, set) in sets.iter().enumerate() {
+        n = put_if(*set & last != 0, finals, n, (k + 1) as u8);
     }
     n
-}
-
-// The numbers of the final states, rising: 0 where the empty text matches, and each whose set has a position in common with `last`.
-pub fn list_finals(
-    last: u64,
-    empty: bool,
-    sets: &[u64; 256],
-    count: usize,
-    finals: &mut [u8; 256],
-) -> usize
-    requires { count ≤ 254 }
-    ensures { (result ≤ count + 1) × (take result finals.new ≡ finals_of last empty (take count sets.now)) }
-{
-    list_in(last, empty, sets, count, finals)
 }

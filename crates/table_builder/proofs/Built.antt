@@ -6,7 +6,7 @@ use mathlib.Core.Logic.{◌⊎◌, inl, inr}
 use mathlib.Core.List.{List, [], ◌∷◌}
 use Prim.Native.Nat.{ℕ, ◌+◌, ◌-◌, ◌*◌, ◌/◌, ◌%◌, ◌<◌, ◌≤◌}
 use native.Mathlib.Omega.{arith}
-use lib.ListN.{length, get_or, set, length-set, get_or-eq_default}
+use lib.ListN.{length, get_or, set, length-set}
 use lib.Seq.{get_or-set_same, get_or-set_other}
 use lib.Dec.{eqb, leb}
 use borrow.Author.Tests.{eq-eqb, ne_eqb, eqb-true, eqb-false}
@@ -33,21 +33,6 @@ spot_state : (h s m : ℕ) → s < 32768 → m < 2 → state_of (h * 65536 + s *
 spot_state h s m l b =
     let q : (h * 65536 + s * 2 + m) / 2 ≡ h * 32768 + s = omega arith in
     rw q (omega arith)
-
-pub cell_small : (rows : List ℕ) (stamp s : ℕ) → cell_at rows stamp s < 131072
-cell_small rows stamp s = go (eqb (stamp_at rows s) stamp)
-  where
-    go : (c : Bool) → if c (get_or rows s 0 % 131072) 0 < 131072
-    go true = omega arith
-    go false = omega arith
-
--- a cell that is not there is empty
-pub cell_none : (rows : List ℕ) (stamp s : ℕ) → length rows ≤ s → cell_at rows stamp s ≡ 0
-cell_none rows stamp s l = rw (get_or-eq_default rows 0 l) (go (eqb (0 / 131072) stamp))
-  where
-    go : (c : Bool) → if c (0 % 131072) 0 ≡ 0
-    go true = refl
-    go false = refl
 
 -- one cell stored: the bound of the stamps
 pub stamp_set : (rows : List ℕ) (stamp j head mark : ℕ) → j < length rows → head * 2 + mark < 131072
@@ -376,46 +361,6 @@ built_cells e b =
       tops = λ s l. rw (e s l) (b.tops s l);
       finals = λ s l. rw (e s l) (b.finals s l);
     }
-
--- ---- the loop of `settle`
-
-pub settles_none : (rows : List ℕ) (stamp first : ℕ) (tb : List ℕ) → Settles rows stamp first first tb tb
-settles_none rows stamp first tb = record { same_length = refl; inside = λ i f k. absurd (omega arith); outside = λ i o. refl }
-
-module _ {rows : List ℕ} {stamp first : ℕ} {tb tb₁ : List ℕ} {i : ℕ} (w : Settles rows stamp first i tb tb₁) where
-  -- the word at i is the old one
-  pub settles_here : edge_at tb₁ i ≡ edge_at tb i
-  settles_here = w.outside i (inr (omega arith))
-
-  pub settles_next : {tb₂ : List ℕ} → first ≤ i → i < length tb₁ → tb₂ ≡ set tb₁ i (settled rows stamp (edge_at tb₁ i))
-      → Settles rows stamp first (i + 1) tb tb₂
-  settles_next from room e =
-      rw e
-      (record {
-        same_length = simp length-set w.same_length;
-        inside = λ j f k. go j f k (eqb j i) refl;
-        outside = λ j o. there j (apart j o) ∙ w.outside j (widen j o);
-      })
-    where
-      there : (j : ℕ) → (j ≡ i → ⊥) → edge_at (set tb₁ i (settled rows stamp (edge_at tb₁ i))) j ≡ edge_at tb₁ j
-      there j n = get_or-set_other tb₁ i j (settled rows stamp (edge_at tb₁ i)) 0 n
-
-      apart : (j : ℕ) → (j < first) ⊎ (i + 1 ≤ j) → j ≡ i → ⊥
-      apart j (inl p) z = absurd (omega arith)
-      apart j (inr p) z = absurd (omega arith)
-
-      widen : (j : ℕ) → (j < first) ⊎ (i + 1 ≤ j) → (j < first) ⊎ (i ≤ j)
-      widen j (inl p) = inl p
-      widen j (inr p) = inr (omega arith)
-
-      go : (j : ℕ) → first ≤ j → j < i + 1 → (c : Bool) → eqb j i ≡ c
-          → edge_at (set tb₁ i (settled rows stamp (edge_at tb₁ i))) j ≡ settled rows stamp (edge_at tb j)
-      go j f k true z =
-          let q = eqb-true j i z in
-          rw q (get_or-set_same tb₁ i (settled rows stamp (edge_at tb₁ i)) 0 room ∙ ap (settled rows stamp) settles_here)
-      go j f k false z =
-          let q = eqb-false j i z in
-          there j q ∙ w.inside j f (omega arith)
 
 -- ---- what the chains and the marks of the cells tell of a rule
 

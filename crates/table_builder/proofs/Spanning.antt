@@ -9,9 +9,8 @@ use native.Mathlib.Omega.{arith}
 use borrow.Author.Tests.{le-leb, lt-leb}
 use Rattle.automaton.specs.Rule.{Transition}
 use Rattle.automaton.specs.Choice.{any}
-use Rattle.automaton.specs.Layers.{low_of, high_of, next_of, edge_at, Edge, Chain, Chained, Between, Within}
+use Rattle.automaton.specs.Layers.{low_of, high_of, next_of, edge_at, Edge, Chain, Between, Within}
 use Rattle.automaton.proofs.Tests.{and_false_right}
-use Rattle.automaton.proofs.Chains.{At, at_left}
 use Rattle.table_builder.specs.Layers.{shares}
 
 -- ---- the bytes that a chain covers
@@ -37,11 +36,6 @@ spanning_start tb head =
     }
 
 module _ {tb : List ℕ} {head h low high : ℕ} (w : Spanning tb head h low high) where
-  pub spanning_at : (k : Chained tb head) → 0 < h → At tb k.first h
-  spanning_at k pos =
-      let m = w.rest low high (omega arith) (omega arith) k.first k.transitions k.chain in
-      at_left tb k.first h m.transitions m.chain pos
-
   pub spanning_next : {n low₁ high₁ : ℕ} → 0 < h → low₁ ≡ min low (low_of (edge_at tb h)) → high₁ ≡ max high (high_of (edge_at tb h))
       → n ≡ next_of (edge_at tb h) → Spanning tb head n low₁ high₁
   spanning_next {n} {low₁} {high₁} pos a b e =

@@ -9,6 +9,7 @@ ghost use Rattle.automaton.specs.Layers.{rule_room, edge_start, name_place, body
 ghost use Rattle.automaton.specs.Layers.{edge_at, to_of, Chain, Chained, Within};
 ghost use Rattle.table_builder.specs.Layers.{shares, row_word, cell_at, head_in, final_in, spot_at, settled, Settles};
 
+use automaton::chain::Words;
 use automaton::words;
 
 // The cell of state `s` in the rule with this stamp: twice the head of its chain, plus 1 where it is final. A state that has no cell is not
@@ -43,14 +44,10 @@ pub fn shares_byte(table: &[u64], head: usize, low: u8, high: u8) -> bool
 {
     let first = low as u64;
     let last = high as u64;
-    let mut h = head;
-    // A chain of links in fixed memory: no index is counted.
-    while h != 0 {
-        let e = table[h];
+    for e in (Words { table, link: head }) {
         if first <= words::high(e) && words::low(e) <= last {
             return true;
         }
-        h = words::next(e);
     }
     false
 }
@@ -63,12 +60,9 @@ pub fn first_bytes(table: &[u64], head: usize) -> u64
 {
     let mut low: u64 = 255;
     let mut high: u64 = 0;
-    let mut h = head;
-    while h != 0 {
-        let e = table[h];
+    for e in (Words { table, link: head }) {
         low = low.min(words::low(e));
         high = high.max(words::high(e));
-        h = words::next(e);
     }
     high * 256 + low
 }

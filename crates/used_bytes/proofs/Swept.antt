@@ -10,14 +10,14 @@ use lib.ListN.{length, get_or, set, length-set}
 use lib.Seq.{get_or-set_same, get_or-set_other}
 use borrow.Author.Tests.{eqb-true, eqb-false, eq-eqb, ne_eqb}
 use Rattle.automaton.specs.Choice.{if, All, any, among}
-use Rattle.automaton.specs.Rule.{Transition, state_count, covers}
+use Rattle.automaton.specs.Rule.{Transition, covers}
 use Rattle.automaton.specs.Layers.{edge_start, low_of, high_of, next_of, to_of, edge_at, edge_word, bare_spot}
 use Rattle.automaton.specs.Layers.{leaving, Edge, Chain}
 use Rattle.automaton.proofs.Tests.{or_true, or_none, all_map, all_among}
 use Rattle.table_builder.specs.Layers.{row_word, cell_at, head_in, Built}
 use Rattle.table_builder.proofs.Built.{stamp_set, built_edge}
 use Rattle.byte_set.specs.Layers.{between}
-use Rattle.used_bytes.specs.Layers.{hits, queued, Worklist, noted, turned, Marked, Free, Releases, Waits, Waiting, waits, Passes}
+use Rattle.used_bytes.specs.Layers.{hits, queued, Worklist, noted, turned, Marked, Free, Releases, Waits, Waiting, waits, Passes, Passing}
 use Rattle.used_bytes.proofs.Marking.{or_swap}
 use Rattle.used_bytes.proofs.States.{noted-all, noted_here}
 use Rattle.used_bytes.proofs.Queues.{Standing, hits_new, standing}
@@ -51,10 +51,6 @@ pub waiting_put : {bound : ℕ} {tb rows tb₁ rows₁ : List ℕ} {stamp end : 
 waiting_put w room short e x low high head from f g p q r s t u =
     rw (t, u, s, p, q, r) (waiting_more w (record { from = to_of e; low = low_of e; high = high_of e; to = from }) room short f (omega arith)
     (omega arith) g)
-
-pub waits_short : {bound : ℕ} {tb rows : List ℕ} {stamp : ℕ} → Waits bound tb rows stamp → (e x : ℕ) → to_of e < bound → x ≡ to_of e
-    → {head : ℕ} → head ≡ cell_at rows stamp x / 2 → head < 65536
-waits_short w e x l p q = let s : x < state_count = omega (arith, w.within) in omega (arith, w.built.tops x s, w.built.short)
 
 -- ---- a chain that is gone through
 
@@ -254,3 +250,12 @@ module _ {bound : ℕ} {good : List ℕ} {stamp : ℕ} {queue gs : List ℕ} (w 
             → All (λ (u : Transition). (among u.to (noted gs s) ≡ true) × Marked marks u) vs
         none [] c = tt
         none (v ∷ vs) (k, c) = let q = k.some in absurd (omega arith)
+
+-- of the chain that is known to be there
+pub going_passing : {tb : List ℕ} {head from : ℕ} {good : List ℕ} {stamp : ℕ} {words₀ rows₀ : List ℕ} {end : ℕ}
+    (a : Passing tb head from good stamp words₀ rows₀ end) {set₀ : List Bool} {words rows : List ℕ} {set : List Bool} {h at : ℕ} {leads : Bool}
+    → ((bound first : ℕ) (ts us : List Transition) (gs : List ℕ) → Chain tb first head ts → All (λ (t : Transition). t.from ≡ from) ts
+    → Waiting bound words₀ rows₀ stamp end us → ((x : ℕ) → eqb (get_or good x 0) stamp ≡ among x gs)
+    → Going bound tb first from stamp gs ts us end set₀ words rows set h at leads)
+    → Going a.bound tb a.leading.first from stamp a.states a.leading.transitions a.transitions end set₀ words rows set h at leads
+going_passing a w = w a.bound a.leading.first a.leading.transitions a.transitions a.states a.leading.chain a.froms a.waiting a.same

@@ -17,7 +17,7 @@ use Rattle.table_builder.specs.Layers.{head_in, Built}
 use Rattle.byte_set.specs.Layers.{Ranged}
 use Rattle.used_bytes.specs.Layers.{queued, Worklist, noted_all, Leading}
 use Rattle.used_bytes.specs.Layers.{Marked, MarksAll, Lets, Waits, Free, Releases}
-use Rattle.used_bytes.proofs.Marking.{Together, together_start, together_next, together_end}
+use Rattle.used_bytes.proofs.Marking.{Together, together_next, together_end}
 use Rattle.used_bytes.proofs.States.{Passed, all_noted, all-noted-all, all-noted_kept, leaving-all, leaving-from}
 use Rattle.used_bytes.proofs.States.{passed_each, queued-all, queued_at}
 
@@ -28,10 +28,6 @@ pub record Bytes (tb : List ℕ) (first : ℕ) (ts : List Transition) (before : 
   pub left : List Transition
   pub chain : Chain tb first h left
   pub marked : Together ts before left set
-
-pub bytes_start : {tb : List ℕ} {first : ℕ} {ts : List Transition} {h : ℕ} {set : List Bool} → Chain tb first h ts → length set ≡ 256
-    → Bytes tb first ts set h set
-bytes_start {ts = ts} c z = record { left = ts; chain = c; marked = together_start ts z }
 
 module _ {tb : List ℕ} {first : ℕ} {ts : List Transition} {before : List Bool} {h : ℕ} {set : List Bool}
     (w : Bytes tb first ts before h set) where
@@ -181,17 +177,6 @@ pub record Releasing (bound : ℕ) (us : List Transition) (stamp : ℕ) (base gs
   pub free : (k : ℕ) → k < next → Free us (queued queue₁ n base) set₁ (state_of (get_or queue₁ k 0))
   pub size : length set₁ ≡ 256
   pub grows : Grows us gs (queued queue₁ n base) set set₁
-
-pub releasing_start : {bound : ℕ} {us : List Transition} {stamp : ℕ} {base good queue : List ℕ} {set : List Bool} {n : ℕ}
-    → Worklist bound good stamp queue n base → length set ≡ 256 → Releasing bound us stamp base (queued queue n base) set good queue set n 0
-releasing_start {us = us} {base = base} {queue = queue} {set = set} {n = n} w z =
-    record {
-      worklist = w;
-      done = omega arith;
-      free = λ k l. absurd (omega arith);
-      size = z;
-      grows = grows_none us (queued queue n base) set;
-    }
 
 module _ {bound : ℕ} {us : List Transition} {stamp : ℕ} {base gs : List ℕ} {set : List Bool} {good₁ queue₁ : List ℕ}
     {set₁ : List Bool} {n next : ℕ} (w : Releasing bound us stamp base gs set good₁ queue₁ set₁ n next) where

@@ -1,5 +1,6 @@
 // Which of the states that the start reaches lead to a final state, and the bytes of the transitions between such states. The states are
 // taken from the last one reached to the first, so that most transitions lead to a state of which that is known. One that does not waits.
+// The slices of the workspace come one by one: some are lent to read and some to write, which a struct of them would leave to clauses.
 ghost use Rattle.std.specs.Prelude.{◌≡◌, true, false, List, ◌∷◌, eqb, ℕ, ◌+◌, ◌<◌, ◌≤◌, length, get_or};
 ghost use Rattle.automaton.specs.Choice.{All, among};
 ghost use Rattle.automaton.specs.Rule.{Transition, Rule, ends, used};
@@ -71,7 +72,9 @@ pub fn sweep_chain(
     Swept { leads, end: at }
 }
 
+// It becomes a part of its callers, and so does `sweep`: there are several for each size of workspace, and as calls they cost a sixth more.
 // Where it is `said` that state `s` leads to a final state: marks it and lets go what waits at it.
+#[inline(always)]
 fn gain(
     said: bool,
     s: usize,
@@ -146,6 +149,7 @@ pub fn sweep_state(
 
 // Goes through the states of the first `n` spots, which are all that the start of a rule reaches, and marks the bytes that the rule uses.
 // `n` comes beside the spots: `Reaches` speaks of the whole queue.
+#[inline(always)]
 pub fn sweep(
     table: &[u64],
     spots: &[u64],

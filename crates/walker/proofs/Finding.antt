@@ -6,8 +6,8 @@ use Prim.Native.Nat.{ℕ, ◌<◌, ◌≤◌}
 use native.Mathlib.Omega.{arith}
 use Rattle.std.specs.Prelude.{None, Some}
 use Rattle.automaton.specs.Rule.{Transition, covers}
-use Rattle.automaton.specs.Layers.{next_of, to_of, edge_at, covers_word, Edge, Chain, Chained}
-use Rattle.automaton.proofs.Chains.{At, Along, along_start, along_in, along_at, along_next, along_hit, along_end}
+use Rattle.automaton.specs.Layers.{next_of, spot_of, to_of, edge_at, covers_word, Edge, Chain}
+use Rattle.automaton.proofs.Chains.{Along, along_in, along_next, along_hit, along_end}
 use Rattle.walker.specs.Layers.{pick, Finds}
 
 same_covers : {tb : List ℕ} {h : ℕ} {t : Transition} (b : ℕ) → Edge tb h t → covers_word (edge_at tb h) b ≡ covers t b
@@ -33,13 +33,7 @@ pub record Finding (tb : List ℕ) (head b h : ℕ) : Type 0 where
   pub below : h ≤ head
   pub along : (error : ℕ) → Along tb head h (λ (ts : List Transition). pick ts b error)
 
-pub finding_start : (tb : List ℕ) (head b : ℕ) → Finding tb head b head
-finding_start tb head b = record { below = omega arith; along = λ error. along_start tb head _ }
-
 module _ {tb : List ℕ} {head b h : ℕ} (w : Finding tb head b h) where
-  pub finding_at : (k : Chained tb head) → 0 < h → At tb k.first h
-  finding_at k pos = along_at (w.along 0) k pos
-
   pub finding_next : {n : ℕ} → 0 < h → covers_word (edge_at tb h) b ≡ false → n ≡ next_of (edge_at tb h) → n < h → Finding tb head b n
   finding_next pos e q l =
       record {
@@ -47,13 +41,15 @@ module _ {tb : List ℕ} {head b h : ℕ} (w : Finding tb head b h) where
         along = λ error. along_next (w.along error) pos (λ t us k. pick_miss b error us k e) q;
       }
 
-  pub finding_hit : 0 < h → covers_word (edge_at tb h) b ≡ true
-      → (first : ℕ) (ts : List Transition) → Chain tb first head ts → Finds tb first head ts b (Some h)
-  finding_hit pos e first ts c =
+  pub finding_hit : {p : ℕ} → 0 < h → covers_word (edge_at tb h) b ≡ true → p ≡ spot_of (edge_at tb h)
+      → (first : ℕ) (ts : List Transition) → Chain tb first head ts → Finds tb first head ts b (Some p)
+  finding_hit pos e q first ts c =
       record {
+        link = h;
         some = pos;
         above = (along_in (w.along 0) first ts c pos).link.above;
         below = w.below;
+        spot = q;
         to = λ error. sym (along_hit (w.along error) pos (λ t us k. pick_hit b error us k e) first ts c);
       }
 

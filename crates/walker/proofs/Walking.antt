@@ -12,7 +12,7 @@ use borrow.Author.Tests.{leb-true, le-leb, ltb-true, ltb-false, eqb-true, eqb-fa
 use Rattle.std.specs.Prelude.{None, Some}
 use Rattle.automaton.specs.Choice.{if, any, among}
 use Rattle.automaton.specs.Rule.{Transition, Rule, covers, target, walk, longest_within, longest}
-use Rattle.automaton.specs.Layers.{state_of, head_of, is_final, low_of, high_of, covers_word, spot_of, to_of, edge_at, first_of, end_of}
+use Rattle.automaton.specs.Layers.{state_of, head_of, is_final, low_of, high_of, covers_word, to_of, edge_at, first_of, end_of}
 use Rattle.automaton.specs.Layers.{start_of, body_at, leaving, Within, Chain, Spot, Table}
 use Rattle.automaton.proofs.Tests.{clash, or_false, and_true}
 use Rattle.automaton.proofs.Walks.{walk_more, longest_zero, longest_yes, longest_no, longest-done}
@@ -155,22 +155,20 @@ module _ {tb : List ℕ} {k : ℕ} {r : Rule} (table : Table tb k r) where
       walk_nothing = stop more nowhere
 
     -- where it has
-    module _ {head link : ℕ} (more : i < length t) (h : head ≡ head_of p)
-        (f : (first : ℕ) (ts : List Transition) → Chain tb first head ts → Finds tb first head ts (get_or t i 0) (Some link)) where
-      found : Found tb (first_of (body_at tb k)) (head_of p) (leaving (here more) r.transitions) (get_or t i 0) link
+    module _ {head q : ℕ} (more : i < length t) (h : head ≡ head_of p)
+        (f : (first : ℕ) (ts : List Transition) → Chain tb first head ts → Finds tb first head ts (get_or t i 0) (Some q)) where
+      found : Found tb (first_of (body_at tb k)) (head_of p) (leaving (here more) r.transitions) (get_or t i 0) q
       found = rw (← h) (f (first_of (body_at tb k)) (leaving (here more) r.transitions) (rw h w.chain))
 
-      pub link_below : link < end_of (body_at tb k)
-      link_below = omega (arith, found.below, w.below)
-
-      reached : walk r r.start (take (suc i) t) ≡ to_of (edge_at tb link)
+      reached : walk r r.start (take (suc i) t) ≡ to_of (edge_at tb found.link)
       reached = leads more ∙ found.to r.error
 
-      next : Spot tb (first_of (body_at tb k)) (end_of (body_at tb k)) r.finals r.transitions
-          (walk r r.start (take (suc i) t)) (spot_of (edge_at tb link))
-      next = rw reached (table.body.spots link found.above link_below)
+      next : Spot tb (first_of (body_at tb k)) (end_of (body_at tb k)) r.finals r.transitions (walk r r.start (take (suc i) t)) q
+      next =
+          subst (λ (x : ℕ). Spot tb (first_of (body_at tb k)) (end_of (body_at tb k)) r.finals r.transitions (walk r r.start (take (suc i) t)) x)
+          (sym found.spot) (rw reached (table.body.spots found.link found.above (omega (arith, found.below, w.below))))
 
-      onward : {best₁ : ℕ} → best₁ ≡ longest_within r t (suc i) → Walk tb k r t (spot_of (edge_at tb link)) best₁ (i + 1)
+      onward : {best₁ : ℕ} → best₁ ≡ longest_within r t (suc i) → Walk tb k r t q best₁ (i + 1)
       onward e = rw add-one (record {
         within = more;
         chain = next.chain;
@@ -181,10 +179,10 @@ module _ {tb : List ℕ} {k : ℕ} {r : Rule} (table : Table tb k r) where
             (omega arith);
       })
 
-      pub walk-final : is_final (spot_of (edge_at tb link)) ≡ true → Walk tb k r t (spot_of (edge_at tb link)) (i + 1) (i + 1)
+      pub walk-final : is_final q ≡ true → Walk tb k r t q (i + 1) (i + 1)
       walk-final e = onward (add-one i ∙ longest_yes r t i (sym next.final ∙ e))
 
-      pub walk_other : is_final (spot_of (edge_at tb link)) ≡ false → Walk tb k r t (spot_of (edge_at tb link)) best (i + 1)
+      pub walk_other : is_final q ≡ false → Walk tb k r t q best (i + 1)
       walk_other e = onward (w.most ∙ longest_no r t i (sym next.final ∙ e))
 
   -- a text with no first byte, or with one that lies not between those of the start

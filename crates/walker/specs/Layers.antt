@@ -2,24 +2,26 @@
 use Rattle.std.specs.Prelude.{◌≡◌, List, [], ◌∷◌, Option, None, Some, ℕ, ◌+◌, ◌<◌, ◌≤◌, max, ltb, eqb, length, take}
 use Rattle.automaton.specs.Choice.{if}
 use Rattle.automaton.specs.Rule.{Transition, Rule, covers, walk}
-use Rattle.automaton.specs.Layers.{state_of, head_of, to_of, edge_at}
+use Rattle.automaton.specs.Layers.{state_of, head_of, spot_of, to_of, edge_at}
 
 -- where a chain's transitions lead at b: by the first that covers b, else to the error state
 unfoldable pub pick : List Transition → ℕ → ℕ → ℕ
 pick [] b error = error
 pick (t ∷ ts) b error = if (covers t b) t.to (pick ts b error)
 
--- the link is that of the first transition that covers b
-pub record Found (tb : List ℕ) (first head : ℕ) (ts : List Transition) (b link : ℕ) : Type 0 where
+-- p is the spot to which the first transition that covers b leads
+pub record Found (tb : List ℕ) (first head : ℕ) (ts : List Transition) (b p : ℕ) : Type 0 where
+  pub link : ℕ
   pub some : 0 < link
   pub above : first ≤ link
   pub below : link ≤ head
+  pub spot : p ≡ spot_of (edge_at tb link)
   pub to : (error : ℕ) → pick ts b error ≡ to_of (edge_at tb link)
 
--- the link of the first transition that covers b
+-- the spot to which the first transition that covers b leads
 abbrev pub Finds : List ℕ → ℕ → ℕ → List Transition → ℕ → Option ℕ → Type 0
 Finds tb first head ts b None = (error : ℕ) → pick ts b error ≡ error
-Finds tb first head ts b (Some link) = Found tb first head ts b link
+Finds tb first head ts b (Some p) = Found tb first head ts b p
 
 -- how far a walk went that stands at the spot or start p after i bytes, where no byte more leads elsewhere than into the error state: to
 -- where it stood there first, behind its first byte at least; a state that something leaves is not the error state

@@ -7,22 +7,19 @@ ghost use Rattle.automaton.specs.Rule.{Transition, Rule, longest};
 ghost use Rattle.automaton.specs.Layers.{Chain, Chained, Table, Tabled};
 ghost use Rattle.walker.specs.Layers.{Finds, went_to, Further};
 
+use automaton::chain::Words;
 use automaton::words;
 
-// The link of the transition that covers `byte` in the chain that starts at `head`.
-fn find(table: &[u64], head: usize, byte: u64) -> Option<usize>
+// The spot to which the transition that covers `byte` leads, in the chain that starts at `head`.
+fn find(table: &[u64], head: usize, byte: u64) -> Option<u64>
     requires { Chained table.now head }
     ensures { (first : ℕ) (ts : List Transition) → Chain table.now first head ts
         → Finds table.now first head ts byte result }
 {
-    let mut h = head;
-    // A chain of links in fixed memory: no index is counted.
-    while h != 0 {
-        let e = table[h];
+    for e in (Words { table, link: head }) {
         if words::covers(e, byte) {
-            return Some(h);
+            return Some(words::spot(e));
         }
-        h = words::next(e);
     }
     None
 }
@@ -55,11 +52,11 @@ pub fn walk(table: &[u64], rule: usize, text: &[u8], known: usize) -> Walked
     }
     let mut len = 0;
     for (i, byte) in text.iter().enumerate() {
-        let Some(link) = find(table, words::head(spot), *byte as u64) else {
+        let Some(to) = find(table, words::head(spot), *byte as u64) else {
             let went = went_to(table, rule, spot, i, known);
             return Walked { len, went };
         };
-        spot = words::spot(table[link]);
+        spot = to;
         if words::is_final(spot) {
             len = i + 1;
         }

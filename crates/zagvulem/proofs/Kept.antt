@@ -35,49 +35,44 @@ use Rattle.zagvulem.proofs.Refused.{turn-within, print_within, separated-within}
 
 -- ---- an answer of a call fits its word
 
-refusal-fits : {numbers : List ℕ} {most : ℕ} {f : Refusal} → among 0 numbers ≡ false → most ≤ largest_place → Refused numbers most f
-    → RefusalFits f
-refusal-fits {numbers} {most} {f} e l r =
-    record {
-      number_some = ne_eqb f.number 0 (λ z. clash (rw z at r.number_among) e);
-      place-within = omega (arith, r.place-within);
-    }
+refusal-fits : {numbers : List ℕ} {most : ℕ} {f : Refusal} → most ≤ largest_place → Refused numbers most f → RefusalFits f
+refusal-fits l r = record { place-within = omega (arith, r.place-within) }
 
-book_fits : (numbers : List ℕ) → among 0 numbers ≡ false → (a : Result ℕ Refusal) → BookWithin numbers a → BookFits a
-book_fits numbers e (Ok n) w = omega arith
-book_fits numbers e (Err f) w = refusal-fits e (omega arith) w
+book_fits : (numbers : List ℕ) → (a : Result ℕ Refusal) → BookWithin numbers a → BookFits a
+book_fits numbers (Ok n) w = omega arith
+book_fits numbers (Err f) w = refusal-fits (omega arith) w
 
 rule_fits : (a : Result RuleName Refusal) → RuleWithin TagAndKind a → RuleFits a
-rule_fits (named tag kind) (l, m) = (omega arith, omega arith)
-rule_fits (Err f) w = refusal-fits refl (omega arith) w
+rule_fits (Ok r) (l, m) = (omega arith, omega arith)
+rule_fits (Err f) w = refusal-fits (omega arith) w
 
 lex-fits : (a : Result Cut Refusal) → LexWithin a → LexFits a
-lex-fits (lexed tokens rest) (l, m) = (omega arith, omega arith)
-lex-fits (Err f) w = refusal-fits refl (omega arith) w
+lex-fits (Ok cut) (l, m) = (omega arith, omega arith)
+lex-fits (Err f) w = refusal-fits (omega arith) w
 
 turn-fits : (a : Result Turn Refusal) → TurnWithin a → TurnFits a
-turn-fits (turned tokens place bytes finished) (l, m) = omega arith
-turn-fits (Err f) w = refusal-fits refl (omega arith) w
+turn-fits (Ok turn) (l, m) = omega arith
+turn-fits (Err f) w = refusal-fits (omega arith) w
 
-print_fits : (numbers : List ℕ) (most : ℕ) → among 0 numbers ≡ false → most ≤ largest_place → (a : Result ℕ Refusal)
+print_fits : (numbers : List ℕ) (most : ℕ) → most ≤ largest_place → (a : Result ℕ Refusal)
     → PrintWithin numbers most a → PrintFits a
-print_fits numbers most e l (Ok n) w = omega arith
-print_fits numbers most e l (Err f) w = refusal-fits e l w
+print_fits numbers most l (Ok n) w = omega arith
+print_fits numbers most l (Err f) w = refusal-fits l w
 
 rule_made_fits : (a : Result ℕ Refusal) → RuleMade a → PrintFits a
 rule_made_fits (Ok n) w = omega arith
-rule_made_fits (Err f) w = refusal-fits refl (omega arith) w
+rule_made_fits (Err f) w = refusal-fits (omega arith) w
 
 -- ---- calls
 
 pub book_word_kept : BookWordKept
-book_word_kept false book = let a = answer (read_book book) in book_kept a (book_fits book_numbers refl a (book_within book))
-book_word_kept true book = let a = answer (read_strict book) in book_kept a (book_fits strict_numbers refl a (strict_within book))
+book_word_kept false book = let a = answer (read_book book) in book_kept a (book_fits book_numbers a (book_within book))
+book_word_kept true book = let a = answer (read_strict book) in book_kept a (book_fits strict_numbers a (strict_within book))
 
 pub rewrite_word_kept : RewriteWordKept
 rewrite_word_kept book out =
     let a = (rewrite_outcome book out).answer in
-    print_kept a (print_fits rewrite_numbers max_bytes refl (omega arith) a (rewrite_within book out))
+    print_kept a (print_fits rewrite_numbers max_bytes (omega arith) a (rewrite_within book out))
 
 pub compile_word_kept : CompileWordKept
 compile_word_kept tag kind text out =
@@ -98,10 +93,10 @@ turn-word_kept book text place budget records masks next examined =
 pub print_word_kept : PrintWordKept
 print_word_kept book records pool out =
     let a = (print_outcome book records pool out).answer in
-    print_kept a (print_fits print_numbers max_text refl (omega arith) a (print_within book records pool out))
+    print_kept a (print_fits print_numbers max_text (omega arith) a (print_within book records pool out))
 
 pub separated-word_kept : SeparatedWordKept
 separated-word_kept book sep mode records pool out l =
     let a = (separated_outcome book sep mode records pool out).answer in
     print_kept a
-    (print_fits separated_numbers (farthest records) refl (max-le (omega arith) l) a (separated-within book sep mode records pool out))
+    (print_fits separated_numbers (farthest records) (max-le (omega arith) l) a (separated-within book sep mode records pool out))

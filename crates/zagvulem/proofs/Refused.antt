@@ -1,10 +1,11 @@
 -- A call refuses by the numbers of its operation alone, and what it answers is held down by the limits. Assumes nothing.
+use Rattle.answer.specs.declared.Reason.TheVariants.{BookTooLong, BytesAfterEnd, CutOff, ErrorFinal, LargeExpression, LeavesError, Misplaced, NoExpression, NoRule, OutOfRange, OutputTooLong, OutputTooShort, Overlap, PastTheText, ReadOn, Retired, SharedByte, StartFinal, TagTaken, TextTooLong, TooFewRecords, TooMany, TooManySets, TooManyTokens, TwiceOrMissing, UnknownMode, UnknownTag}
+use Rattle.answer.specs.Refusals.{number_of}
 use Rattle.answer.specs.declared.Cut.{Cut}
 use Rattle.answer.specs.declared.Reason.{Reason}
 use Rattle.answer.specs.declared.RuleName.{RuleName}
 use Rattle.answer.specs.declared.Turn.{Turn}
 use Rattle.std.specs.Prelude.{Result, Ok, Err}
-use Rattle.answer.specs.declared.Reason.TheVariants.{BookTooLong, CutOff, PastTheText, TextTooLong, TooFewRecords}
 use Rattle.answer.specs.Answers.{lexed, named, turned}
 use mathlib.Core.Path.{◌≡◌, refl, ap, subst}
 use mathlib.Core.Logic.{inl, inr}
@@ -65,7 +66,6 @@ use Rattle.expression_rule.proofs.Compiled.{compiled_short}
 use Rattle.zagvulem.specs.Numbers.{compile_numbers}
 use Rattle.zagvulem.specs.Numbers.{book_numbers, strict_numbers, rewrite_numbers, rule_numbers, lex_numbers, turn_numbers}
 use Rattle.zagvulem.specs.Numbers.{print_numbers, separated_numbers, Refused}
-use Rattle.command.specs.declared.Decoded.TheVariants as decoded
 
 -- ---- what is said of an answer: its refusal is by one of these numbers at a place of at most `most`; its values are held down
 
@@ -74,15 +74,15 @@ BookWithin numbers (Ok rules) = rules ≤ max_rules
 BookWithin numbers (Err f) = Refused numbers max_bytes f
 
 abbrev pub RuleWithin : (ℕ → ℕ → Type 0) → Result RuleName Refusal → Type 0
-RuleWithin P (named tag kind) = P tag kind
+RuleWithin P (Ok r) = P r.tag r.kind
 RuleWithin P (Err f) = Refused rule_numbers max_bytes f
 
 abbrev pub LexWithin : Result Cut Refusal → Type 0
-LexWithin (lexed tokens rest) = (tokens ≤ max_text) × (rest ≤ max_text)
+LexWithin (Ok cut) = (cut.tokens ≤ max_text) × (cut.rest ≤ max_text)
 LexWithin (Err f) = Refused lex_numbers max_text f
 
 abbrev pub TurnWithin : Result Turn Refusal → Type 0
-TurnWithin (turned tokens next examined finished) = (tokens ≤ max_text) × (next ≤ max_text)
+TurnWithin (Ok turn) = (turn.tokens ≤ max_text) × (turn.next ≤ max_text)
 TurnWithin (Err f) = Refused turn_numbers max_text f
 
 abbrev pub PrintWithin : List ℕ → ℕ → Result ℕ Refusal → Type 0
@@ -91,9 +91,9 @@ PrintWithin numbers most (Err f) = Refused numbers most f
 
 -- ---- numbers
 
-by : {numbers : List ℕ} {most : ℕ} (reason : Reason) (place : ℕ) → among number numbers ≡ true → place ≤ most
+by : {numbers : List ℕ} {most : ℕ} (reason : Reason) (place : ℕ) → among (number_of reason) numbers ≡ true → place ≤ most
     → Refused numbers most (record { reason = reason; place = place })
-by number place e l = record { number_among = e; place-within = l }
+by reason place e l = record { number_among = e; place-within = l }
 
 among_more : (n : ℕ) (xs ys : List ℕ) → among n xs ≡ true → among n (xs ++ ys) ≡ true
 among_more n [] ys e = clash e refl
@@ -106,7 +106,7 @@ among_more n (x ∷ xs) ys e = go (eqb n x) (among_more n xs ys) e
 -- a book's refusal is one of each operation that reads a book
 of_book : {most : ℕ} {f : Refusal} (more : List ℕ) → max_bytes ≤ most → Refused book_numbers max_bytes f → Refused (book_numbers ++ more) most f
 of_book {most} {f} more l r =
-    record { number_among = among_more f.number book_numbers more r.number_among; place-within = omega (arith, r.place-within) }
+    record { number_among = among_more (number_of f.reason) book_numbers more r.number_among; place-within = omega (arith, r.place-within) }
 
 -- ---- reading a book
 
@@ -119,11 +119,11 @@ Fair len (goes d) = Room d
 Fair len (accepts rules) = length rules ≤ max_rules
 Fair len (refuses reason place) = Refused book_numbers len (record { reason = reason; place = place })
 
-check_fair : {len : ℕ} (t : Bool) (number : ℕ) {place : ℕ} (v : Verdict) → among number book_numbers ≡ true → place ≤ len
+check_fair : {len : ℕ} (t : Bool) (reason : Reason) {place : ℕ} (v : Verdict) → among (number_of reason) book_numbers ≡ true → place ≤ len
     → (t ≡ false → Fair len v) → Fair len (check t reason place v)
 unfolding check
-check_fair true number v e l h = by number _ e l
-check_fair false number v e l h = h refl
+check_fair true reason v e l h = by reason _ e l
+check_fair false reason v e l h = h refl
 
 module _ (d : Draft) (at len : ℕ) (room : Room d) (before : at < len) where
   here : at ≤ len
@@ -132,34 +132,32 @@ module _ (d : Draft) (at len : ℕ) (room : Room d) (before : at < len) where
   move_fair : (from low high to : ℕ) → Fair len (move d at from low high to)
   unfolding move
   move_fair from low high to =
-      check_fair (leb max_transitions (length d.transitions)) 5 _ refl here (λ e.
-      check_fair (ltb high low || (no_state from || no_state to)) 6 _ refl here (λ e. room))
+      check_fair (leb max_transitions (length d.transitions)) TooMany _ refl here (λ e.
+      check_fair (ltb high low || (no_state from || no_state to)) OutOfRange _ refl here (λ e. room))
 
   apply_fair : (c : Command) → (c ≡ Close → d.inside ≡ true) → Fair len (apply d c at len)
   unfolding apply
   apply_fair (RULE tag kind) i =
-      check_fair (leb max_rules (length d.rules)) 5 _ refl here (λ few. check_fair (eqb tag 0 || ltb 1 kind) 6 _ refl here (λ e.
-      check_fair (tagged tag d.rules) 7 _ refl here (λ e. omega (arith, leb-false max_rules (length d.rules) few))))
-  apply_fair (Start s) i = check_fair (no_state s) 6 _ refl here (λ e. check_fair (is_set d.start) 8 _ refl here (λ e. room))
-  apply_fair (Error s) i = check_fair (no_state s) 6 _ refl here (λ e. check_fair (is_set d.error) 8 _ refl here (λ e. room))
-  apply_fair (Final s) i = check_fair (no_state s) 6 _ refl here (λ e. room)
+      check_fair (leb max_rules (length d.rules)) TooMany _ refl here (λ few. check_fair (eqb tag 0 || ltb 1 kind) OutOfRange _ refl here (λ e.
+      check_fair (tagged tag d.rules) TagTaken _ refl here (λ e. omega (arith, leb-false max_rules (length d.rules) few))))
+  apply_fair (Start s) i = check_fair (no_state s) OutOfRange _ refl here (λ e. check_fair (is_set d.start) TwiceOrMissing _ refl here (λ e. room))
+  apply_fair (Error s) i = check_fair (no_state s) OutOfRange _ refl here (λ e. check_fair (is_set d.error) TwiceOrMissing _ refl here (λ e. room))
+  apply_fair (Final s) i = check_fair (no_state s) OutOfRange _ refl here (λ e. room)
   apply_fair (Step from byte to) i = move_fair from byte byte to
   apply_fair (Span from low high to) i = move_fair from low high to
   apply_fair Close i =
-      check_fair (is_unset d.start || is_unset d.error) 8 _ refl here (λ e. check_fair (overlaps d.transitions) 9 _ refl here (λ e.
-      check_fair (any (λ (t : Transition). eqb t.from (state_of d.error)) d.transitions) 10 _ refl here (λ e.
-      check_fair (among (state_of d.error) d.finals) 11 _ refl here (λ e. check_fair (among (state_of d.start) d.finals) 12 _ refl here (λ e.
+      check_fair (is_unset d.start || is_unset d.error) TwiceOrMissing _ refl here (λ e. check_fair (overlaps d.transitions) Overlap _ refl here (λ e.
+      check_fair (any (λ (t : Transition). eqb t.from (state_of d.error)) d.transitions) LeavesError _ refl here (λ e.
+      check_fair (among (state_of d.error) d.finals) ErrorFinal _ refl here (λ e. check_fair (among (state_of d.start) d.finals) StartFinal _ refl here (λ e.
       let r : length d.rules + 1 ≤ max_rules = rw (i refl) at room in
       omega (arith, length-append d.rules (rule_of d ∷ [])))))))
   apply_fair End i =
-      check_fair (is_empty d.rules) 13 _ refl here (λ e. check_fair (ltb (at + 1) len) 4 _ refl (omega arith) (λ e. omega arith))
+      check_fair (is_empty d.rules) NoRule _ refl here (λ e. check_fair (ltb (at + 1) len) BytesAfterEnd _ refl (omega arith) (λ e. omega arith))
 
--- CLOSE is found only inside a rule, and no command is retired
-abbrev Closing : Bool → Decoded → Type 0
-Closing inside decoded.Misplaced = Unit {0}
-Closing inside decoded.Retired = ⊥
-Closing inside decoded.CutOff = Unit {0}
-Closing inside (decoded.Command c cursor) = c ≡ Close → inside ≡ true
+-- CLOSE is found only inside a rule, and where nothing is found the ordinary reading refuses it by a number of its own
+abbrev Closing : Bool → Result Decoded Reason → Type 0
+Closing inside (Ok read) = read.command ≡ Close → inside ≡ true
+Closing inside (Err reason) = among (number_of reason) book_numbers ≡ true
 
 module _ (bytes : List ℕ) (at : ℕ) where
   close_inside : (code : ℕ) (inside : Bool) → placed code inside ≡ true → decode bytes at code ≡ Close → inside ≡ true
@@ -180,10 +178,10 @@ module _ (bytes : List ℕ) (at : ℕ) where
       go (byte_at bytes at) (placed (byte_at bytes at) inside) refl (leb (at + 1 + operands_of (byte_at bytes at)) (length bytes))
     where
       go : (code : ℕ) (p : Bool) → placed code inside ≡ p → (l : Bool) → Closing inside
-          (if p (if l (decoded.Command (decode bytes at code) (record { at = at + 1 + operands_of code })) decoded.CutOff) decoded.Misplaced)
+          (if p (if l (Ok (record { command = decode bytes at code; next = record { at = at + 1 + operands_of code } })) (Err CutOff)) (Err Misplaced))
       go code true e true = close_inside code inside e
-      go code true e false = tt
-      go code false e l = tt
+      go code true e false = refl
+      go code false e l = refl
 
 -- what is read from a place on
 abbrev ReadWithin : ℕ → Reading → Type 0
@@ -192,7 +190,7 @@ ReadWithin len (refused reason place) = Refused book_numbers len (record { reaso
 
 read_within : (n : ℕ) (bytes : List ℕ) (at : ℕ) (d : Draft) → Room d → ReadWithin (length bytes) (read_from false n bytes at d)
 unfolding read_from
-read_within zero bytes at d r = by 2 _ refl (omega arith)
+read_within zero bytes at d r = by CutOff _ refl (omega arith)
 read_within (suc n) bytes at d r =
     go (ltb at (length bytes)) refl (command_at false bytes at d.inside) (command_closing bytes at d.inside) (read_within n bytes)
   where
@@ -204,18 +202,16 @@ read_within (suc n) bytes at d r =
     decided (accepts rules) m ih f = f
     decided (refuses reason place) m ih f = f
 
-    taken : (c : Decoded) → Closing d.inside c → Rest → at < length bytes
+    taken : (c : Result Decoded Reason) → Closing d.inside c → Rest → at < length bytes
         → ReadWithin (length bytes) (take_in c d at (length bytes) (read_from false n bytes))
-    taken decoded.Misplaced h ih l = by 3 _ refl (omega arith)
-    taken decoded.Retired h ih l = absurd h
-    taken decoded.CutOff h ih l = by 2 _ refl (omega arith)
-    taken (decoded.Command c cursor) h ih l =
-        decided (apply d c at (length bytes)) cursor.at ih (apply_fair d at (length bytes) r l c h)
+    taken (Ok read) h ih l =
+        decided (apply d read.command at (length bytes)) read.next.at ih (apply_fair d at (length bytes) r l read.command h)
+    taken (Err reason) h ih l = by reason _ h (omega arith)
 
-    go : (t : Bool) → ltb at (length bytes) ≡ t → (c : Decoded) → Closing d.inside c → Rest
+    go : (t : Bool) → ltb at (length bytes) ≡ t → (c : Result Decoded Reason) → Closing d.inside c → Rest
         → ReadWithin (length bytes) (if t (take_in c d at (length bytes) (read_from false n bytes)) (refused CutOff (length bytes)))
     go true e c h ih = taken c h ih (ltb-true at (length bytes) e)
-    go false e c h ih = by 2 _ refl (omega arith)
+    go false e c h ih = by CutOff _ refl (omega arith)
 
 answer-within : (r : Reading) → ReadWithin max_bytes r → BookWithin book_numbers (answer r)
 answer-within (accepted rules) w = w
@@ -227,11 +223,11 @@ book_read book = go (ltb max_bytes (length book)) refl
   where
     shorter : (r : Reading) → length book ≤ max_bytes → ReadWithin (length book) r → ReadWithin max_bytes r
     shorter (accepted rules) l w = w
-    shorter (refused reason place) l w = by number place w.number_among (omega (arith, w.place-within))
+    shorter (refused reason place) l w = by reason place w.number_among (omega (arith, w.place-within))
 
     go : (t : Bool) → ltb max_bytes (length book) ≡ t
         → ReadWithin max_bytes (if t (refused BookTooLong 0) (read_from false (length book) book 0 (between [])))
-    go true e = by 1 0 refl (omega arith)
+    go true e = by BookTooLong 0 refl (omega arith)
     go false e =
         shorter (read_from false (length book) book 0 (between [])) (ltb-false max_bytes (length book) e)
         (read_within (length book) book 0 (between []) (omega arith))
@@ -249,8 +245,8 @@ strict_within book = go (ltb max_bytes (length book)) refl (stricter book)
     go : (t : Bool) → ltb max_bytes (length book) ≡ t → Stricter book (read_strict book) (read_book book)
         → BookWithin strict_numbers (answer (read_strict book))
     go t e (alike s) = rw s (ordinary (answer (read_book book)) (book_within book))
-    go true e (retires place l b s) = rw (read_too_long true book (ltb-true max_bytes (length book) e)) (by 1 0 refl (omega arith))
-    go false e (retires place l b s) = rw s (by 33 place refl (omega (arith, ltb-false max_bytes (length book) e)))
+    go true e (retires place l b s) = rw (read_too_long true book (ltb-true max_bytes (length book) e)) (by BookTooLong 0 refl (omega arith))
+    go false e (retires place l b s) = rw s (by Retired place refl (omega (arith, ltb-false max_bytes (length book) e)))
 
 pub book_refused : (book : List ℕ) (f : Refusal) → answer (read_book book) ≡ Err f → Refused book_numbers max_bytes f
 book_refused book f e = subst (BookWithin book_numbers) e (book_within book)
@@ -268,7 +264,7 @@ numbered_within P book h index = go (read_book book) refl (book_read book)
   where
     told : (count : ℕ) → count ≤ max_rules → (rules : List Rule) (k : ℕ) → All (λ (r : Rule). P r.tag r.kind) rules
         → RuleWithin P (rule_answer (numbered rules k) count)
-    told count l [] k a = by 18 count refl (omega arith)
+    told count l [] k a = by UnknownTag count refl (omega arith)
     told count l (r ∷ rs) zero (p, a) = p
     told count l (r ∷ rs) (suc k) (p, a) = told count l rs k a
 
@@ -304,8 +300,8 @@ lex-within book text records = go (read_book book) (book_read book)
     by_rules : (rules : List Rule) (long : Bool) → ltb max_text (length text) ≡ long → (few : Bool)
         → LexWithin (if long (lex_refused TextTooLong 0 records)
         (if few (lex_refused TooFewRecords (length (lex rules text).tokens) records) (lex_accepted (lex rules text) text records))).answer
-    by_rules rules true e few = by 14 0 refl (omega arith)
-    by_rules rules false e true = by 15 _ refl (omega (arith, lex_few rules text, ltb-false max_text (length text) e))
+    by_rules rules true e few = by TextTooLong 0 refl (omega arith)
+    by_rules rules false e true = by TooFewRecords _ refl (omega (arith, lex_few rules text, ltb-false max_text (length text) e))
     by_rules rules false e false =
         let l : length text ≤ max_text = ltb-false max_text (length text) e in (omega (arith, lex_few rules text), omega arith)
 
@@ -326,11 +322,11 @@ pub masked_within : (book text records masks : List ℕ) → LexWithin (masked_o
 masked_within book text records masks = go (masked_outcome book text records masks).answer refl
   where
     go : (a : Result Cut Refusal) → (masked_outcome book text records masks).answer ≡ a → LexWithin a
-    go (lexed tokens rest) e =
-        lex_accepted_lem book text records tokens rest (masked_lexed book text records masks tokens rest e).1.1.cut
+    go (Ok cut) e =
+        lex_accepted_lem book text records cut.tokens cut.rest (masked_lexed book text records masks cut.tokens cut.rest e).1.1.cut
     go (Err f) e = elim (masked_refused_lem book text records masks f e).why [
       | inl w ↦ lex_refused_lem book text records f w.0
-      | inr w ↦ rw w.4 (by 15 w.0 refl (lex_accepted_lem book text records w.0 w.1 w.2).0)
+      | inr w ↦ rw w.4 (by TooFewRecords w.0 refl (lex_accepted_lem book text records w.0 w.1 w.2).0)
     ]
 
 -- ---- cutting in turns
@@ -344,10 +340,10 @@ module _ (book text : List ℕ) (place budget : ℕ) (records masks : List ℕ) 
           → TurnWithin (if long (turn_refused TextTooLong 0 records masks) (if past (turn_refused PastTheText 0 records masks)
           (if few (turn_refused TooFewRecords (length (turn rules (drop place text) budget).tokens) records masks)
           (turn_accepted rules (turn rules (drop place text) budget) text place records masks)))).answer
-      by_rules rules true e past few = by 14 0 refl (omega arith)
-      by_rules rules false e true few = by 27 0 refl (omega arith)
+      by_rules rules true e past few = by TextTooLong 0 refl (omega arith)
+      by_rules rules false e true few = by PastTheText 0 refl (omega arith)
       by_rules rules false e false true =
-          by 15 _ refl (omega (arith, simp length-drop at (turn_short rules (drop place text) budget), ltb-false max_text (length text) e))
+          by TooFewRecords _ refl (omega (arith, simp length-drop at (turn_short rules (drop place text) budget), ltb-false max_text (length text) e))
       by_rules rules false e false false =
           let l : length text ≤ max_text = ltb-false max_text (length text) e in
           (omega (arith, simp length-drop at (turn_short rules (drop place text) budget)), omega arith)
@@ -355,7 +351,7 @@ module _ (book text : List ℕ) (place budget : ℕ) (records masks : List ℕ) 
       go : (r : Reading) → ReadWithin max_bytes r → TurnWithin (turn_reading r text place budget records masks).answer
       go (accepted rules) w = by_rules rules (ltb max_text (length text)) refl (ltb (length text) place)
           (ltb (room_in records masks) (length (turn rules (drop place text) budget).tokens))
-      go (refused number at) w = of_book (14 ∷ 27 ∷ 15 ∷ []) (omega arith) w
+      go (refused reason at) w = of_book (14 ∷ 27 ∷ 15 ∷ []) (omega arith) w
 
   pub turn_refused_lem : (f : Refusal) → (turn_outcome book text place budget records masks).answer ≡ Err f
       → Refused turn_numbers max_text f
@@ -377,29 +373,29 @@ unfolding tokens_in
 length-tokens pool [] = refl
 length-tokens pool (r ∷ rs) = ap suc (length-tokens pool rs)
 
--- the refusal, or the number, if there is one
+-- the refusal, or the reason, if there is one
 abbrev Refusing : List ℕ → ℕ → Option Refusal → Type 0
 Refusing numbers most none = Unit {0}
 Refusing numbers most (some f) = Refused numbers most f
 
-abbrev Numbered : List ℕ → Option ℕ → Type 0
+abbrev Numbered : List ℕ → Option Reason → Type 0
 Numbered numbers none = Unit {0}
-Numbered numbers (some n) = among n numbers ≡ true
+Numbered numbers (some reason) = among (number_of reason) numbers ≡ true
 
 module _ (numbers : List ℕ) (most : ℕ) where
-  refuse-within : (t : Bool) (number : ℕ) {place : ℕ} (next : Option Refusal) → among number numbers ≡ true → place ≤ most
+  refuse-within : (t : Bool) (reason : Reason) {place : ℕ} (next : Option Refusal) → among (number_of reason) numbers ≡ true → place ≤ most
       → (t ≡ false → Refusing numbers most next) → Refusing numbers most (refuse t reason place next)
   unfolding refuse
-  refuse-within true number next e l h = by number _ e l
-  refuse-within false number next e l h = h refl
+  refuse-within true reason next e l h = by reason _ e l
+  refuse-within false reason next e l h = h refl
 
-  refuse_by_within : (o : Option ℕ) {place : ℕ} (next : Option Refusal) → Numbered numbers o → place ≤ most
+  refuse_by_within : (o : Option Reason) {place : ℕ} (next : Option Refusal) → Numbered numbers o → place ≤ most
       → Refusing numbers most next → Refusing numbers most (refuse_by o place next)
   unfolding refuse_by
-  refuse_by_within (some number) next e l h = by number _ e l
+  refuse_by_within (some reason) next e l h = by reason _ e l
   refuse_by_within none next e l h = h
 
-  fault_within : (fault : TokenRecord → Option ℕ) → ((r : TokenRecord) → Numbered numbers (fault r))
+  fault_within : (fault : TokenRecord → Option Reason) → ((r : TokenRecord) → Numbered numbers (fault r))
       → (rs : List TokenRecord) (k : ℕ) → k + length rs ≤ most → Refusing numbers most (first_fault fault rs k)
   unfolding first_fault
   fault_within fault e [] k l = tt
@@ -411,13 +407,13 @@ module _ (numbers : List ℕ) (most : ℕ) where
   unfolding first_extended
   extended_within e rules [] k l = tt
   extended_within e rules (t ∷ ts) k l =
-      refuse-within (extends rules t.bytes (join ts)) 21 _ e (omega arith) (λ z. extended_within e rules ts (suc k) (omega arith))
+      refuse-within (extends rules t.bytes (join ts)) ReadOn _ e (omega arith) (λ z. extended_within e rules ts (suc k) (omega arith))
 
-  refused_if-within : (t : Bool) (number : ℕ) {place : ℕ} (out : List ℕ) (next : PrintOutcome) → among number numbers ≡ true → place ≤ most
+  refused_if-within : (t : Bool) (reason : Reason) {place : ℕ} (out : List ℕ) (next : PrintOutcome) → among (number_of reason) numbers ≡ true → place ≤ most
       → (t ≡ false → PrintWithin numbers most next.answer) → PrintWithin numbers most (refused_if t reason place out next).answer
   unfolding refused_if
-  refused_if-within true number out next e l h = by number _ e l
-  refused_if-within false number out next e l h = h refl
+  refused_if-within true reason out next e l h = by reason _ e l
+  refused_if-within false reason out next e l h = h refl
 
   unless-within : (o : Option Refusal) (out : List ℕ) (next : PrintOutcome) → Refusing numbers most o
       → PrintWithin numbers most next.answer → PrintWithin numbers most (unless o out next).answer
@@ -427,13 +423,13 @@ module _ (numbers : List ℕ) (most : ℕ) where
 
   written-within : among 22 numbers ≡ true → (bytes out : List ℕ) → length bytes ≤ most → length bytes ≤ max_text
       → PrintWithin numbers most (written bytes out).answer
-  written-within e bytes out l m = refused_if-within (ltb (length out) (length bytes)) 22 out _ e l (λ z. m)
+  written-within e bytes out l m = refused_if-within (ltb (length out) (length bytes)) OutputTooShort out _ e l (λ z. m)
 
-  up_to_within : (limit number : ℕ) → among number numbers ≡ true → among 22 numbers ≡ true → limit ≤ most → limit ≤ max_text
-      → (bytes out : List ℕ) → PrintWithin numbers most (written_up_to limit number bytes out).answer
+  up_to_within : (limit : ℕ) (reason : Reason) → among (number_of reason) numbers ≡ true → among 22 numbers ≡ true → limit ≤ most → limit ≤ max_text
+      → (bytes out : List ℕ) → PrintWithin numbers most (written_up_to limit reason bytes out).answer
   unfolding written_up_to
-  up_to_within limit number e f l m bytes out =
-      refused_if-within (ltb limit (length bytes)) number out _ e (omega arith) (λ z.
+  up_to_within limit reason e f l m bytes out =
+      refused_if-within (ltb limit (length bytes)) reason out _ e (omega arith) (λ z.
       let short : length bytes ≤ limit = ltb-false limit (length bytes) z in
       written-within f bytes out (omega arith) (omega arith))
 
@@ -456,7 +452,7 @@ unfolding rewrite_outcome
 rewrite_within book out = go (read_book book) (book_read book)
   where
     go : (r : Reading) → ReadWithin max_bytes r → PrintWithin rewrite_numbers max_bytes (rewrite_reading r book out).answer
-    go (accepted rules) w = up_to_within rewrite_numbers max_bytes max_bytes 1 refl refl (omega arith) (omega arith) (rewritten book) out
+    go (accepted rules) w = up_to_within rewrite_numbers max_bytes max_bytes BookTooLong refl refl (omega arith) (omega arith) (rewritten book) out
     go (refused reason place) w = of_book (22 ∷ []) (omega arith) w
 
 -- ---- making a rule of an expression
@@ -470,26 +466,26 @@ abbrev pub RuleMade : Result ℕ Refusal → Type 0
 RuleMade (Ok bytes) = bytes ≤ most_rule
 RuleMade (Err f) = Refused compile_numbers most_rule f
 
-made_if : (t : Bool) (number : ℕ) {place : ℕ} (out : List ℕ) (next : PrintOutcome) → among number compile_numbers ≡ true → place ≤ most_rule
+made_if : (t : Bool) (reason : Reason) {place : ℕ} (out : List ℕ) (next : PrintOutcome) → among (number_of reason) compile_numbers ≡ true → place ≤ most_rule
     → (t ≡ false → RuleMade next.answer) → RuleMade (refused_if t reason place out next).answer
 unfolding refused_if
-made_if true number out next e l h = by number _ e l
-made_if false number out next e l h = h refl
+made_if true reason out next e l h = by reason _ e l
+made_if false reason out next e l h = h refl
 
 pub compile_within : (tag kind : ℕ) (text out : List ℕ) → RuleMade (compile_outcome tag kind text out).answer
 unfolding compile_outcome
 compile_within tag kind text out =
-    made_if (eqb tag 0 || ltb 1 kind) 6 out _ refl (omega arith) (λ x.
-    made_if (ltb max_expression (length text)) 31 out _ refl (omega arith) (λ y.
+    made_if (eqb tag 0 || ltb 1 kind) OutOfRange out _ refl (omega arith) (λ x.
+    made_if (ltb max_expression (length text)) LargeExpression out _ refl (omega arith) (λ y.
     go (read_expression text) refl (ltb-false max_expression (length text) y)))
   where
     go : (r : Expressed) → read_expression text ≡ r → length text ≤ max_expression → RuleMade (compile_reading tag kind r out).answer
-    go (wrong place) e l = by 30 place refl (omega (arith, (wrong_first text e).within))
+    go (wrong place) e l = by NoExpression place refl (omega (arith, (wrong_first text e).within))
     go (right x) e l =
-        made_if (is_too_large x) 31 out _ refl (omega arith) (λ s.
-        made_if (many_sets x) 32 out _ refl (omega arith) (λ t.
+        made_if (is_too_large x) LargeExpression out _ refl (omega arith) (λ s.
+        made_if (many_sets x) TooManySets out _ refl (omega arith) (λ t.
         let short : length (compiled tag kind x) ≤ most_rule = compiled_short tag kind x t in
-        made_if (ltb (length out) (length (compiled tag kind x))) 22 out _ refl short (λ z. short)))
+        made_if (ltb (length out) (length (compiled tag kind x))) OutputTooShort out _ refl short (λ z. short)))
 
 -- ---- printing
 
@@ -500,7 +496,7 @@ print_within book records pool out = go (read_book book) (book_read book)
     checked : (rules : List Rule) (ts : List Token) → length ts ≤ max_tokens
         → PrintWithin print_numbers max_text (print_checked rules ts out).answer
     checked rules ts few =
-        refused_if-within print_numbers max_text (ltb max_text (length (join ts))) 20 out _ refl (omega arith) (λ e.
+        refused_if-within print_numbers max_text (ltb max_text (length (join ts))) OutputTooLong out _ refl (omega arith) (λ e.
         let short : length (join ts) ≤ max_text = ltb-false max_text (length (join ts)) e in
         unless-within print_numbers max_text (first_extended rules ts 0) out _
         (extended_within print_numbers max_text refl rules ts 0 (omega arith))
@@ -508,7 +504,7 @@ print_within book records pool out = go (read_book book) (book_read book)
 
     by_rules : (rules : List Rule) → PrintWithin print_numbers max_text (print_rules rules records pool out).answer
     by_rules rules =
-        refused_if-within print_numbers max_text (ltb max_tokens (record_count records)) 16 out _ refl (omega arith) (λ e.
+        refused_if-within print_numbers max_text (ltb max_tokens (record_count records)) TooManyTokens out _ refl (omega arith) (λ e.
         let l : record_count records ≤ max_tokens = ltb-false max_tokens (record_count records) e in
         let few : length (records_of records) ≤ max_tokens = omega (arith, length_records records) in
         unless-within print_numbers max_text (first_fault (fault_of rules pool) (records_of records) 0) out _
@@ -530,12 +526,12 @@ print_accepted_lem book records pool out bytes e = subst (PrintWithin print_numb
 
 -- ---- printing with separators
 
-or_else_number : (numbers : List ℕ) (fault : Option ℕ) (test : Bool) (number : ℕ) → Numbered numbers fault → among number numbers ≡ true
-    → Numbered numbers (or_else fault test number)
+or_else_number : (numbers : List ℕ) (fault : Option Reason) (test : Bool) (reason : Reason) → Numbered numbers fault → among (number_of reason) numbers ≡ true
+    → Numbered numbers (or_else fault test reason)
 unfolding or_else
-or_else_number numbers (some n) test number f e = f
-or_else_number numbers none true number f e = e
-or_else_number numbers none false number f e = tt
+or_else_number numbers (some n) test reason f e = f
+or_else_number numbers none true reason f e = e
+or_else_number numbers none false reason f e = tt
 
 shared-within : (most : ℕ) → 256 ≤ most → (rules : List Rule) → Refusing separated_numbers most (sharing (shared_byte rules))
 unfolding shared_byte lowest_from sharing
@@ -547,7 +543,7 @@ shared-within most l rules = lowest (shared rules) 0 256 (omega arith)
       where
         go : (t : Bool) → Refusing separated_numbers most (sharing (lowest_from f (suc b) n))
             → Refusing separated_numbers most (sharing (if t (some b) (lowest_from f (suc b) n)))
-        go true w = by 23 b refl (omega arith)
+        go true w = by SharedByte b refl (omega arith)
         go false w = w
 
 -- the separator token is refused at the list's length
@@ -579,11 +575,11 @@ separated-within book sep mode records pool out = go (read_book book) (book_read
 
     list : (rules : List Rule) → Refusing separated_numbers most (list_refusal rules sep mode records pool)
     list rules =
-        refuse-within separated_numbers most (ltb 2 mode) 24 _ refl (omega arith) (λ e.
+        refuse-within separated_numbers most (ltb 2 mode) UnknownMode _ refl (omega arith) (λ e.
         refuse_by_within separated_numbers most (separator_fault rules pool sep) _
         (or_else_number separated_numbers (fault_of rules pool sep) (not (separates rules sep.tag)) 25 (faults rules sep) refl)
         count
-        (refuse-within separated_numbers most (ltb max_tokens (record_count records)) 16 _ refl (omega arith) (λ z.
+        (refuse-within separated_numbers most (ltb max_tokens (record_count records)) TooManyTokens _ refl (omega arith) (λ z.
         tokens rules)))
 
     before : (o next : Option Refusal) → Refusing separated_numbers most o → Refusing separated_numbers most next
@@ -596,7 +592,7 @@ separated-within book sep mode records pool out = go (read_book book) (book_read
     go (accepted rules) w =
         unless-within separated_numbers most (separated_refusal rules sep mode records pool) out _
         (before (sharing (shared_byte rules)) _ (shared-within most (omega (arith, limit)) rules) (list rules))
-        (up_to_within separated_numbers most max_text 20 refl refl (omega (arith, limit)) (omega arith)
+        (up_to_within separated_numbers most max_text OutputTooLong refl refl (omega (arith, limit)) (omega arith)
         (spelled rules sep mode records pool) out)
     go (refused reason place) w = of_book (23 ∷ 24 ∷ 17 ∷ 18 ∷ 19 ∷ 25 ∷ 16 ∷ 26 ∷ 20 ∷ 22 ∷ []) (omega (arith, limit)) w
 

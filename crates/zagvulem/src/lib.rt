@@ -21,14 +21,14 @@ use record::TokenRecord;
 pub fn zgv_read_book(book: &[u8]) -> u64
     ensures { result ≡ book_word (answer (read_book book.now)) }
 {
-    answer_word::read(book_reader::read(book))
+    answer_word::counted(book_reader::read(book))
 }
 
 // The stricter reading, which refuses STEP: as `zgv_read_book`, with 33 directly after 3.
 pub fn zgv_read_book_strict(book: &[u8]) -> u64
     ensures { result ≡ book_word (answer (read_strict book.now)) }
 {
-    answer_word::read(book_reader::read_strict(book))
+    answer_word::counted(book_reader::read_strict(book))
 }
 
 // Rewrites an old book, a SPAN in each STEP's place: the number of bytes and 0, or the refusal.
@@ -36,7 +36,7 @@ pub fn zgv_rewrite_book(book: &[u8], out: &mut [u8]) -> u64
     ensures value { result ≡ print_word (rewrite_outcome book.now out.old).answer }
     ensures out_after { out.new ≡ (rewrite_outcome book.now out.old).out }
 {
-    answer_word::printed(rewriting::rewrite(book, out))
+    answer_word::counted(rewriting::rewrite(book, out))
 }
 
 // Makes a rule of an expression, of this tag and kind: the number of bytes of its commands and 0, or the refusal.
@@ -44,7 +44,7 @@ pub fn zgv_compile(tag: u16, kind: u32, regex: &[u8], out: &mut [u8]) -> u64
     ensures value { result ≡ print_word (compile_outcome tag kind regex.now out.old).answer }
     ensures out_after { out.new ≡ (compile_outcome tag kind regex.now out.old).out }
 {
-    answer_word::printed(expression_rule::compile(tag, kind, regex, out))
+    answer_word::counted(expression_rule::compile(tag, kind, regex, out))
 }
 
 // The tag and the kind of a rule of a book by its number, from 0, or the refusal.
@@ -116,7 +116,7 @@ pub fn zgv_print(book: &[u8], records: &[u8], pool: &[u8], out: &mut [u8]) -> u6
     ensures out_after { out.new
         ≡ (print_outcome book.now records.now pool.now out.old).out }
 {
-    answer_word::printed(book_printer::print(book, records, pool, out))
+    answer_word::counted(book_printer::print(book, records, pool, out))
 }
 
 // Prints the tokens with a separator token between them: the number of bytes and 0, or the refusal.
@@ -142,5 +142,5 @@ pub fn zgv_print_separated(
         place: separator_place,
         len: separator_length,
     };
-    answer_word::printed(book_separated::print_separated(book, token, mode, records, pool, out))
+    answer_word::counted(book_separated::print_separated(book, token, mode, records, pool, out))
 }

@@ -1,18 +1,15 @@
-use Rattle.std.proofs.Common.{arith, refl}
-use Rattle.table_builder.proofs.Spanning.{spanning_at, spanning_next, spanning_end}
+use Rattle.std.proofs.Common.{◌≡◌, ◌∙◌, refl}
+use Rattle.automaton.specs.Layers.{edge_at}
+use Rattle.table_builder.proofs.Spanning.{spanning_next, spanning_end}
 use Rattle.table_builder.proofs.first_bytes.Goals as goal
 
-pub offset_bounds-table-h : goal.offset_bounds-table-h
-offset_bounds-table-h c = omega (arith, (spanning_at c.loop-h.invariant c.requires (omega arith)).link.edge.room, c.well_formed)
-
-pub bounds-table-h : goal.bounds-table-h
-bounds-table-h c = (spanning_at c.loop-h.invariant c.requires (omega arith)).link.edge.room
-
-pub loop-h-smaller : goal.loop-h-smaller
-loop-h-smaller c = rw c.next-h.ensures (spanning_at c.loop-h.invariant c.requires (omega arith)).link.back
-
-pub loop-h-preserved : goal.loop-h-preserved
-loop-h-preserved c = spanning_next c.loop-h.invariant (omega arith) (cc) (cc) c.next-h.ensures
+pub loop-e-preserved : goal.loop-e-preserved
+loop-e-preserved c =
+    let s = c.in-Some.ensures.steps in
+    let e : c.in-Some.e ≡ edge_at c.args.table.now c.loop-e.e-iterator.link = rw (← c.loop-e.invariant.0) s.word in (
+      s.same ∙ c.loop-e.invariant.0,
+      spanning_next c.loop-e.invariant.1 s.some (cc) (cc) (rw (← c.loop-e.invariant.0) s.next),
+    )
 
 pub returns-clause-by_index : goal.returns-clause-by_index
-returns-clause-by_index c = spanning_end c.loop-h.invariant c.loop-h-test.false refl
+returns-clause-by_index c = spanning_end c.loop-e.invariant.1 c.in-None.ensures.steps.0 refl

@@ -1,8 +1,6 @@
+use Rattle.std.proofs.Common.{◌≡◌}
 use Rattle.walker.proofs.Finding.{Finding}
 use Rattle.walker.proofs.find.Given as goal
 
-abbrev pub invariant-loop-h : goal.invariant-loop-h
-invariant-loop-h l = Finding l.table l.head l.byte l.h
-
-abbrev pub decreases-loop-h : goal.decreases-loop-h
-decreases-loop-h l = l.h
+abbrev pub invariant-loop-e : goal.invariant-loop-e
+invariant-loop-e l = (l.e-iterator.table.now ≡ l.table) × Finding l.table l.head l.byte l.e-iterator.link

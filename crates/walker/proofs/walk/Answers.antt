@@ -1,5 +1,5 @@
-use Rattle.std.proofs.Common.{◌≡◌, ◌<◌, false, length, get_or, arith, sym, ◌∙◌, ap}
-use Rattle.automaton.specs.Layers.{covers_word, is_final}
+use Rattle.std.proofs.Common.{◌≡◌, ◌<◌, false, length, get_or, arith, sym, ◌∙◌}
+use Rattle.automaton.specs.Layers.{covers_word}
 use Rattle.walker.proofs.Walking.{walk_start, walk_nothing, walk-final, walk_other, walk_dismissed, further_one, goes_dismissed, walk_over, walk_went}
 use Rattle.walker.proofs.walk.Goals as goal
 use Rattle.walker.proofs.walk.Goals.{then-is_empty-via-then-is_empty, then-is_empty-via-else-is_empty+then-not-covers}
@@ -35,12 +35,10 @@ pub loop-i-preserved : goal.loop-i-preserved
 loop-i-preserved c = λ m t.
     let more : c.loop-i.i < length c.args.text.now = omega arith in
     elim c.if-is_final.branch [
-      | then-is_final w ↦ rw (w.len-is, c.spot-spot.ensures)
-          (walk-final t (c.loop-i.invariant m t) more c.head.ensures c.in-Some.ensures
-          (ap is_final (sym c.spot-spot.ensures) ∙ sym c.is_final.ensures ∙ w.if-is_final.true))
-      | else-is_final w ↦ rw (w.len-is, c.spot-spot.ensures)
-          (walk_other t (c.loop-i.invariant m t) more c.head.ensures c.in-Some.ensures
-          (ap is_final (sym c.spot-spot.ensures) ∙ sym c.is_final.ensures ∙ w.if-is_final.false))
+      | then-is_final w ↦ rw w.len-is
+          (walk-final t (c.loop-i.invariant m t) more c.head.ensures c.in-Some.ensures (sym c.is_final.ensures ∙ w.if-is_final.true))
+      | else-is_final w ↦ rw w.len-is
+          (walk_other t (c.loop-i.invariant m t) more c.head.ensures c.in-Some.ensures (sym c.is_final.ensures ∙ w.if-is_final.false))
     ]
 
 pub returns-clause-further : goal.returns-clause-further

@@ -20,9 +20,9 @@ returns-then-chosen-len c = λ rs h.
     let w = c.in-Some-choose.ensures.chooses rs _ h (part_bytes _ _ _) in
     let some_byte = c.in-Some-choose.ensures.some_byte in
     elim c.then-chosen-len.branch [
-      | then-chosen-len-via-then-chosen-len b ↦ checked-part h _ _ (omega arith) (c.in-Some.ensures rs h) w b.if-chosen-len.true
+      | then-chosen-len-via-then-chosen-len b ↦ checked-part h _ _ (omega arith) (c.in-Some.ensures rs h) w (λ e. omega arith)
       | then-chosen-len-via-else-chosen-len+then-chosen-rule b ↦
-          checked_other h _ _ (omega arith) (c.in-Some.ensures rs h) w some_byte (omega arith) b.if-chosen-rule.true
+          checked_other h _ _ (omega arith) (c.in-Some.ensures rs h) w some_byte (omega arith) (λ e. omega arith)
     ]
 
 pub returns : goal.returns

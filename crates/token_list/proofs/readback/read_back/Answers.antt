@@ -1,13 +1,12 @@
 -- `read_back`: a turn reads one token back. Assumes nothing.
 use mathlib.Core.Path.{◌≡◌, sym, ◌∙◌, subst}
 use native.Mathlib.Omega.{arith}
-use lib.ListN.{take, length}
 use lib.Seq.{length-take-le}
 use Rattle.longest_match.proofs.Parts.{part-front}
 use Rattle.longest_match.proofs.Held.{held_empty}
 use Rattle.record.specs.Records.{record_count}
 use Rattle.token_list.specs.Layers.{ReadsBack}
-use Rattle.token_list.proofs.Settling.{Retracing, retracing_start, retracing_within, retracing_next, retracing_none}
+use Rattle.token_list.proofs.Settling.{retracing_start, retracing_within, retracing_next, retracing_none}
 use Rattle.token_list.proofs.Settling.{found, retracing_longer, retracing_other, retracing_end}
 use Rattle.token_list.proofs.readback.read_back.Goals as goal
 use Rattle.token_list.proofs.readback.read_back.Goals.{then-chosen-len-via-then-chosen-len, then-chosen-len-via-else-chosen-len+then-ne}
@@ -33,7 +32,7 @@ returns-then-chosen-len c = λ rs pool h s.
     let chosen = c.in-Some.ensures.chooses rs _ h (part-front _ _ _) in
     elim c.then-chosen-len.branch [
       | then-chosen-len-via-then-chosen-len b ↦
-          retracing_longer w (held_empty h) (omega arith) c.read_record-token.ensures chosen b.if-chosen-len.true
+          retracing_longer w (held_empty h) (omega arith) c.read_record-token.ensures chosen (λ e. omega arith)
       | then-chosen-len-via-else-chosen-len+then-ne b ↦
           retracing_other w (held_empty h) (omega arith) c.read_record-token.ensures chosen c.in-Some.ensures.some_byte (omega arith)
           _ (c.find_tag-rule.ensures rs h) (sym b.ne.ensures ∙ b.if-ne.true)

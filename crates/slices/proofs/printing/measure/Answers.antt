@@ -1,0 +1,38 @@
+-- `measure`: a turn checks one token, and adds its bytes.
+use Rattle.std.proofs.Common.{arith, below_none, below_more}
+use Rattle.token_list.proofs.Passes.{faultless_pool}
+use Rattle.slices.proofs.Passes.{more, here, no_more, troubled_fault, troubled_long}
+use Rattle.slices.proofs.Passes.{measuring_start, measuring_refused, measuring_next, measuring_end}
+use Rattle.slices.proofs.printing.measure.Goals as goal
+
+pub loop-k-init : goal.loop-k-init
+loop-k-init c = record { fits = λ i l. absurd (omega arith); measuring = λ rs h. measuring_start rs _ _ }
+
+pub returns-in-Err-clause-counts : goal.returns-in-Err-clause-counts
+returns-in-Err-clause-counts c = λ rs h.
+    let l = c.loop-k-test.true in
+    rw c.at.ensures
+    (troubled_fault rs _ _
+    (measuring_refused (c.loop-k.invariant.measuring rs h) (more _ l) (here c.args.tokens.now l c.token_len.ensures.fits)
+    (c.in-Err.ensures.counts rs h)))
+
+pub loop-k-preserved : goal.loop-k-preserved
+loop-k-preserved c =
+    let l = c.loop-k-test.true in
+    let f = c.token_len.ensures.fits in
+    record {
+      fits = below_more _ _ c.loop-k.invariant.fits f;
+      measuring = λ rs h.
+          let n = c.in-Ok.ensures.counts rs h in
+          rw n.0 (measuring_next (c.loop-k.invariant.measuring rs h) (more _ l) (here c.args.tokens.now l f) n.1 f.len);
+    }
+
+pub returns-then-total-gt-TEXT-clause-counts : goal.returns-then-total-gt-TEXT-clause-counts
+returns-then-total-gt-TEXT-clause-counts c = λ rs h.
+    let m = measuring_end (c.loop-k.invariant.measuring rs h) (no_more c.args.tokens.now (omega arith)) in
+    rw c.at-then-total-gt-TEXT.ensures (troubled_long rs _ _ m.0 (omega (arith, m.1)))
+
+pub returns-clause-counts : goal.returns-clause-counts
+returns-clause-counts c = λ rs h.
+    let m = measuring_end (c.loop-k.invariant.measuring rs h) (no_more c.args.tokens.now (omega arith)) in
+    record { faultless = m.0; spanned = record { each = faultless_pool rs _ _ 0 m.0; bytes = m.1; short = omega arith } }
