@@ -31,7 +31,7 @@ unfolding rewrite_outcome
 rewrite_accepts book out n e = go (read_book book) refl e
   where
     go : (o : Reading) → read_book book ≡ o → (rewrite_reading o book out).answer ≡ Ok n → Accepts book out n
-    go (refused reason place) q z = let y : ◌≡◌ {A = ℕ} 0 1 = cc in absurd (omega arith)
+    go (refused _ _) q z = let y : ◌≡◌ {A = ℕ} 0 1 = cc in absurd (omega arith)
     go (accepted rules) q z =
         let a = up_to_printed max_bytes BookTooLong (rewritten book) out z in
         let o = book_rewritten book out q a.0 a.1 in

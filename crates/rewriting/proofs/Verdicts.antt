@@ -20,8 +20,8 @@ module _ (R : Verdict → Verdict → Type 0) (refusing : (reason : Reason) (pla
   check_both : (t : Bool) (reason : Reason) (place place₁ : ℕ) (v w : Verdict) → (t ≡ false → R v w)
       → R (check t reason place v) (check t reason place₁ w)
   unfolding check
-  check_both true reason place place₁ v w h = refusing reason place _
-  check_both false reason place place₁ v w h = h refl
+  check_both true _ _ _ v w h = refusing _ _ _
+  check_both false _ _ _ v w h = h refl
 
   module _ (d : Draft) (at at₁ : ℕ) where
     pub move_both : (from low high to : ℕ) → R (move d at from low high to) (move d at₁ from low high to)
