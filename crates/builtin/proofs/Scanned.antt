@@ -9,7 +9,6 @@ use native.Mathlib.Nat.{zero-add}
 use native.Mathlib.Omega.{arith}
 use lib.ListN.{length, get_or, take, drop, length-append, get_or-append}
 use lib.Seq.{get_or-append_seam}
-use borrow.Author.Count.{below_more}
 use Rattle.automaton.specs.Rule.{Rule, matches}
 use Rattle.automaton.specs.Layers.{blank, rule_at}
 use Rattle.automaton.proofs.Tests.{all_at}
