@@ -38,7 +38,7 @@ pub record Taken (strict : Bool) (command : List ℕ) : Type 0 where
 abbrev Ends : ℕ → ℕ → Verdict → Type 0
 Ends at len (goes d) = Unit {0}
 Ends at len (accepts rules) = len ≤ at + 1
-Ends at len (refuses reason place) = Unit {0}
+Ends at len (refuses _ _) = Unit {0}
 
 apply-ends : (d : Draft) (c : Command) (at len : ℕ) → Ends at len (apply d c at len)
 apply-ends d c at len =
@@ -70,7 +70,7 @@ module _ (strict : Bool) (bytes : List ℕ) where
           → go_on v (read_from strict n bytes after) ≡ accepted rules → All (Taken strict) (commands_in m (drop after bytes))
       go (goes e) l ih y = ih e y
       go (accepts rs) l ih y = rw (drop_of_length-le bytes {i = after} (omega arith), commands_none m) tt
-      go (refuses reason place) l ih y = not_accepted y
+      go (refuses _ _) l ih y = not_accepted y
 
 pub book_taken : (strict : Bool) (book : List ℕ) {rules : List Rule} → read_by strict book ≡ accepted rules
     → (length book ≤ max_bytes) × All (Taken strict) (commands_of book)
@@ -158,7 +158,7 @@ module _ (pre p after : List ℕ) (w : Whole p) where
 abbrev Like : Verdict → Verdict → Type 0
 Like (goes d) v = v ≡ goes d
 Like (accepts rules) v = v ≡ accepts rules
-Like (refuses reason place) v = Unit {0}
+Like (refuses _ _) v = Unit {0}
 
 module _ (p : List ℕ) where
   modern_stands : (inside : Bool) → placed (byte_at p 0) inside ≡ true → placed (byte_at (modern p) 0) inside ≡ true
@@ -226,7 +226,7 @@ module _ (strict : Bool) where
           → go_on v₁ (read_from strict m new (length (pre₁ ++ modern p))) ≡ accepted rules
       go (goes e) v₁ s y ih = rw s (rw append_assoc at (ih e (rw append_assoc y)))
       go (accepts rs) v₁ s y ih = rw s y
-      go (refuses reason place) v₁ s y ih = not_accepted y
+      go (refuses _ _) v₁ s y ih = not_accepted y
 
 -- ---- the book
 

@@ -17,11 +17,11 @@ use Rattle.book.specs.Draft.{Draft, is_set, is_unset, state_of, tagged, is_empty
 
 module _ (R : Verdict → Verdict → Type 0) (refusing : (reason : Reason) (place : ℕ) (v : Verdict) → R (refuses reason place) v)
     (going : (d : Draft) → R (goes d) (goes d)) where
-  check_both : (t : Bool) (number place place₁ : ℕ) (v w : Verdict) → (t ≡ false → R v w)
-      → R (check t reason place v) (check t number place₁ w)
+  check_both : (t : Bool) (reason : Reason) (place place₁ : ℕ) (v w : Verdict) → (t ≡ false → R v w)
+      → R (check t reason place v) (check t reason place₁ w)
   unfolding check
-  check_both true number place place₁ v w h = refusing number place _
-  check_both false number place place₁ v w h = h refl
+  check_both true _ _ _ v w h = refusing _ _ _
+  check_both false _ _ _ v w h = h refl
 
   module _ (d : Draft) (at at₁ : ℕ) where
     pub move_both : (from low high to : ℕ) → R (move d at from low high to) (move d at₁ from low high to)

@@ -101,9 +101,5 @@ fn write_span(book: &[u8], at: usize, out: &mut [u8], to: usize)
     let from = book[at + 1];
     let byte = book[at + 2];
     let target = book[at + 3];
-    out[to] = Command::SPAN;
-    out[to + 1] = from;
-    out[to + 2] = byte;
-    out[to + 3] = byte;
-    out[to + 4] = target;
+    out[to..to + 5].copy_from_slice(&[Command::SPAN, from, byte, byte, target]);
 }
