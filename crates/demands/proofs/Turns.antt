@@ -14,6 +14,7 @@ use lib.ListN.{length, take, drop, length-append, length-drop, length-map}
 use lib.Seq.{take_at, drop_at, drop-drop, take-take}
 use borrow.Author.Tests.{lt-ltb, le-ltb, ltb-false, eq-eqb}
 use Rattle.answer.specs.declared.Refusal.{Refusal}
+use Rattle.answer.specs.declared.Turn.{Turn as Said}
 use Rattle.automaton.specs.Choice.{if, All}
 use Rattle.automaton.specs.Rule.{Rule, Sound, state_count}
 use Rattle.automaton.proofs.Tests.{clash, all_map, all_left}
@@ -68,6 +69,18 @@ reach_is_fewest rules text =
     }
 
 -- ---- a call, refused or not
+
+-- equal answers have equal parts
+same_turn : {n next examined m place bytes : ℕ} {finished done : Bool} → turned n next examined finished ≡ turned m place bytes done
+    → (n ≡ m) × (next ≡ place) × (examined ≡ bytes) × (finished ≡ done)
+same_turn {n} {next} {examined} {m} {place} {bytes} {finished} {done} e =
+    let q : ◌≡◌ {A = Said} (record { tokens = n; next = next; examined = examined; finished = finished })
+    (record { tokens = m; next = place; examined = bytes; finished = done }) = cc in (
+      ap (λ (t : Said). t.tokens) q,
+      ap (λ (t : Said). t.next) q,
+      ap (λ (t : Said). t.examined) q,
+      ap (λ (t : Said). t.finished) q,
+    )
 
 module _ (book text : List ℕ) (place budget : ℕ) (entry masks : List ℕ) where
   abbrev outcome : TurnOutcome
@@ -160,10 +173,10 @@ module _ (book text : List ℕ) (place budget : ℕ) (entry masks : List ℕ) wh
             reads = r;
             short = l;
             inside = i;
-            count = cc;
-            next_is = cc;
-            examined_is = cc;
-            finished_is = cc;
+            count = (same_turn a).0;
+            next_is = (same_turn a).1;
+            examined_is = (same_turn a).2;
+            finished_is = (same_turn a).3;
             leaves_records = ap (λ (x : TurnOutcome). x.records) o;
             leaves_masks = ap (λ (x : TurnOutcome). x.masks) o;
             enough = m;

@@ -1,7 +1,7 @@
 -- What stands in the lent buffers: after a refusal what stood there before, and past the count of an accepted call too. Assumes nothing.
 use Rattle.answer.specs.declared.Reason.{Reason}
 use Rattle.std.specs.Prelude.{Ok, Err}
-use Rattle.answer.specs.declared.Reason.TheVariants.{TextTooLong, TooFewRecords}
+use Rattle.answer.specs.declared.Reason.TheVariants.{BookTooLong, OutputTooLong, TextTooLong, TooFewRecords}
 use mathlib.Core.Path.{◌≡◌, refl, sym, ◌∙◌, ap}
 use mathlib.Core.Bool.{Bool, true, false}
 use mathlib.Core.Option.{Option, none, some}
@@ -95,7 +95,7 @@ module _ (out : List ℕ) where
   module _ (book : List ℕ) where
     keeps_rewrite : (o : Reading) → Keeps out (rewrite_reading o book out)
     keeps_rewrite (refused reason place) = λ r e. refl
-    keeps_rewrite (accepted rules) = keeps_up_to max_bytes 1 (rewritten book)
+    keeps_rewrite (accepted rules) = keeps_up_to max_bytes BookTooLong (rewritten book)
 
     pub rewrite_leaves : Keeps out (rewrite_outcome book out)
     unfolding rewrite_outcome
@@ -126,7 +126,7 @@ module _ (out : List ℕ) where
       unfolding separated_rules
       keeps_space (refused reason place) = λ r e. refl
       keeps_space (accepted rules) =
-          keeps_unless _ _ (keeps_up_to max_text 20 (spelled rules sep mode records pool))
+          keeps_unless _ _ (keeps_up_to max_text OutputTooLong (spelled rules sep mode records pool))
 
       pub space_leaves : (book : List ℕ) → Keeps out (separated_outcome book sep mode records pool out)
       unfolding separated_outcome

@@ -1,5 +1,5 @@
 -- A call refuses by the numbers of its operation alone, and what it answers is held down by the limits. Assumes nothing.
-use Rattle.answer.specs.declared.Reason.TheVariants.{BookTooLong, BytesAfterEnd, CutOff, ErrorFinal, LargeExpression, LeavesError, Misplaced, NoExpression, NoRule, OutOfRange, OutputTooLong, OutputTooShort, Overlap, PastTheText, ReadOn, Retired, SharedByte, StartFinal, TagTaken, TextTooLong, TooFewRecords, TooMany, TooManySets, TooManyTokens, TwiceOrMissing, UnknownMode, UnknownTag}
+use Rattle.answer.specs.declared.Reason.TheVariants.{BookTooLong, BytesAfterEnd, CutOff, ErrorFinal, LargeExpression, LeavesError, Misplaced, NoExpression, NoRule, NoSeparator, NotAlone, OutOfRange, OutputTooLong, OutputTooShort, Overlap, PastThePool, PastTheText, ReadOn, Retired, SeparatorInList, SharedByte, StartFinal, TagTaken, TextTooLong, TooFewRecords, TooMany, TooManySets, TooManyTokens, TwiceOrMissing, UnknownMode, UnknownTag}
 use Rattle.answer.specs.Refusals.{number_of}
 use Rattle.answer.specs.declared.Cut.{Cut}
 use Rattle.answer.specs.declared.Reason.{Reason}
@@ -439,7 +439,7 @@ unfolding fault_of
 fault_number numbers e f g rules pool r =
     go (ltb (length pool) (r.place + r.len)) (not (tagged r.tag rules)) (not (alone_in rules r.tag (bytes_in pool r)))
   where
-    go : (a b c : Bool) → Numbered numbers (if a (some 17) (if b (some 18) (if c (some 19) none)))
+    go : (a b c : Bool) → Numbered numbers (if a (some PastThePool) (if b (some UnknownTag) (if c (some NotAlone) none)))
     go true b c = e
     go false true c = f
     go false false true = g
@@ -570,14 +570,14 @@ separated-within book sep mode records pool out = go (read_book book) (book_read
     tokens : (rules : List Rule) → Refusing separated_numbers most (first_fault (plain_fault rules pool) (records_of records) 0)
     tokens rules =
         fault_within separated_numbers most (plain_fault rules pool)
-        (λ r. or_else_number separated_numbers (fault_of rules pool r) (separates rules r.tag) 26 (faults rules r) refl)
+        (λ r. or_else_number separated_numbers (fault_of rules pool r) (separates rules r.tag) SeparatorInList (faults rules r) refl)
         (records_of records) 0 (omega (arith, length_records records, count))
 
     list : (rules : List Rule) → Refusing separated_numbers most (list_refusal rules sep mode records pool)
     list rules =
         refuse-within separated_numbers most (ltb 2 mode) UnknownMode _ refl (omega arith) (λ e.
         refuse_by_within separated_numbers most (separator_fault rules pool sep) _
-        (or_else_number separated_numbers (fault_of rules pool sep) (not (separates rules sep.tag)) 25 (faults rules sep) refl)
+        (or_else_number separated_numbers (fault_of rules pool sep) (not (separates rules sep.tag)) NoSeparator (faults rules sep) refl)
         count
         (refuse-within separated_numbers most (ltb max_tokens (record_count records)) TooManyTokens _ refl (omega arith) (λ z.
         tokens rules)))
