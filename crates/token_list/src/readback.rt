@@ -40,7 +40,8 @@ pub fn read_back(table: &[u64], records: &[u8], text: &[u8]) -> usize
         let token = record::read_record(records, k);
         let len = token.len as usize;
         let rule = automaton::find_tag(table, token.tag as u64);
-        let Some(chosen) = longest_match::choose_with(table, text, at, text.len(), &mut lengths) else {
+        let Some(chosen) = longest_match::choose_with(table, text, at, text.len(), &mut lengths)
+        else {
             return k;
         };
         if chosen.len != len || rule != Some(chosen.rule) {
