@@ -10,7 +10,7 @@ pub record PrintOutcome : Type 0 where
   pub answer : Result ℕ Refusal
   pub out : List ℕ
 
--- a refusal by this number at this place leaves the output as it is
+-- a refusal for this reason at this place leaves the output as it is
 abbrev pub print_refused : Reason → ℕ → List ℕ → PrintOutcome
 print_refused reason place out =
     record { answer = Err (record { reason = reason; place = place }); out = out }
@@ -19,7 +19,7 @@ print_refused reason place out =
 abbrev pub print_accepted : List ℕ → List ℕ → PrintOutcome
 print_accepted bytes out = record { answer = Ok (length bytes); out = bytes ++ drop (length bytes) out }
 
--- refused by this number at this place where the test holds
+-- refused for this reason at this place where the test holds
 unfoldable pub refused_if : Bool → Reason → ℕ → List ℕ → PrintOutcome → PrintOutcome
 refused_if true why place out next = print_refused why place out
 refused_if false why place out next = next

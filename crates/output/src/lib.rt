@@ -10,7 +10,8 @@ ghost use Rattle.output.specs.Layers.{Stands, WritesOut};
 use answer::{Reason, Refusal};
 use record::TokenRecord;
 
-// Copies `len` bytes of `from`, from `place` on, to `to` from `at` on.
+// Copies `len` bytes of `from`, from `place` on, to `to` from `at` on. Places, not two slices: what callers go on from is that the rest of
+// `to` stays, which `paste` of the whole says.
 pub fn copy(from: &[u8], place: usize, len: usize, to: &mut [u8], at: usize)
     requires { (place + len ≤ length from.now) × (at + len ≤ length to.old) }
     ensures { to.new ≡ paste to.old at (drop place from.now) len }
@@ -57,7 +58,7 @@ pub fn put_both(
     put_token(pool, token, scratch, start)
 }
 
-// Writes `total` bytes of the scratch, from `at` on, to the start of `out`.
+// Writes `total` bytes of the scratch, from `at` on, to the start of `out`. A place and a count, not a slice: `WritesOut` says them.
 pub fn write(scratch: &[u8], at: usize, total: usize, out: &mut [u8]) -> Result<usize, Refusal>
     requires { at + total ≤ length scratch.now }
     ensures { WritesOut scratch.now at total out.old result out.new }

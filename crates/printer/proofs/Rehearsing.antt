@@ -1,8 +1,8 @@
 -- The rehearsal: from the extent, the joined bytes and the first token that is not read back; and what is wrong with a list.
 -- Assumes nothing.
 use Rattle.answer.specs.declared.Reason.TheVariants.{OutputTooLong, ReadOn}
-use Rattle.std.specs.Prelude.{Result, Ok, Err}
-use mathlib.Core.Path.{◌≡◌, refl, sym, ap, ◌∙◌, subst}
+use Rattle.std.specs.Prelude.{Ok, Err}
+use mathlib.Core.Path.{◌≡◌, refl, ap, ◌∙◌, subst}
 use mathlib.Core.Option.{Option, none, some}
 use mathlib.Core.List.{List}
 use Prim.Native.Nat.{ℕ, ◌<◌, ◌≤◌}

@@ -8,17 +8,17 @@ use Rattle.automaton.specs.Rule.{Rule}
 use Rattle.longest_match.specs.Lexer.{Token, join, extends}
 use Rattle.record.specs.declared.TokenRecord.{TokenRecord}
 
--- refused by this number at this place where the test holds; the place of a token is its number, the first being number k
+-- refused for this reason at this place where the test holds; the place of a token is its number, the first being number k
 unfoldable pub refuse : Bool → Reason → ℕ → Option Refusal → Option Refusal
 refuse true why place next = some (record { reason = why; place = place })
 refuse false why place next = next
 
--- refused by the number, if there is one
+-- refused for the reason, if there is one
 unfoldable pub refuse_by : Option Reason → ℕ → Option Refusal → Option Refusal
 refuse_by (some reason) place next = some (record { reason = reason; place = place })
 refuse_by none place next = next
 
--- by the number that `fault` gives
+-- for the reason that `fault` gives
 unfoldable pub first_fault : (TokenRecord → Option Reason) → List TokenRecord → ℕ → Option Refusal
 first_fault fault [] k = none
 first_fault fault (r ∷ rs) k = refuse_by (fault r) k (first_fault fault rs (suc k))

@@ -15,7 +15,7 @@ unfoldable pub alone_in : List Rule → ℕ → List ℕ → Bool
 alone_in [] tag w = false
 alone_in (r ∷ rs) tag w = if (eqb r.tag tag) (matches r w) (if (matches r w) false (alone_in rs tag w))
 
--- The number that refuses a token, if one does: 17 where it ends behind the pool, 18 where no rule has its tag, 19 where it is not cut as
+-- The reason that refuses a token, if one does: 17 where it ends behind the pool, 18 where no rule has its tag, 19 where it is not cut as
 -- itself.
 unfoldable pub fault_of : List Rule → List ℕ → TokenRecord → Option Reason
 fault_of rules pool r =
