@@ -111,13 +111,10 @@ fn read_back(
     let mut at = 0;
     for (k, token) in tokens.iter().enumerate() {
         let len = token.len as usize;
-        let Some(chosen) = longest_match::choose_with(table, text, at, total, &mut lengths) else {
-            return Err(Reason::ReadOn.at(k));
-        };
-        if chosen.len != len {
-            return Err(Reason::ReadOn.at(k));
+        match longest_match::choose_with(table, text, at, total, &mut lengths) {
+            Some(chosen) if chosen.len == len => at += len,
+            _ => return Err(Reason::ReadOn.at(k)),
         }
-        at += len;
     }
     Ok(())
 }

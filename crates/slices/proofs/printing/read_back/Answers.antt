@@ -7,6 +7,7 @@ use Rattle.longest_match.proofs.Held.{held_empty}
 use Rattle.slices.proofs.Passes.{more, here, no_more}
 use Rattle.slices.proofs.Passes.{some_byte, extending_start, extending_found, extending_next, extending_end}
 use Rattle.slices.proofs.printing.read_back.Goals as goal
+use Rattle.slices.proofs.printing.read_back.Goals.{in_default-via-in-Some+else-chosen-len, in_default-via-in_default}
 
 pub loop-k-init : goal.loop-k-init
 loop-k-init c = record { within = omega arith; extending = λ rs pool h f e. extending_start f e }
@@ -16,17 +17,14 @@ returns-in_default c = λ rs pool h f e.
     let l = c.loop-k-test.true in
     let w = c.loop-k.invariant.extending rs pool h f e in
     let r = here c.args.tokens.now l (c.requires.fits.each _ l) in
-    let chosen = c.in_default.ensures.chooses rs _ h (part-front _ _ _) in
-    rw (c.at.ensures, extending_found w (held_empty h) (more _ l) r chosen (some_byte w (held_empty h) (more _ l) r chosen))
-
-pub returns-then-chosen-len : goal.returns-then-chosen-len
-returns-then-chosen-len c = λ rs pool h f e.
-    let l = c.loop-k-test.true in
-    rw (
-      c.at-then-chosen-len.ensures,
-      extending_found (c.loop-k.invariant.extending rs pool h f e) (held_empty h) (more _ l)
-          (here c.args.tokens.now l (c.requires.fits.each _ l)) (c.in-Some.ensures.chooses rs _ h (part-front _ _ _)) c.if-chosen-len.true,
-    )
+    elim c.in_default.branch [
+      | in_default-via-in-Some+else-chosen-len b ↦
+          let chosen = b.in-Some.ensures.chooses rs _ h (part-front _ _ _) in
+          rw (c.at.ensures, extending_found w (held_empty h) (more _ l) r chosen b.if-chosen-len.false)
+      | in_default-via-in_default b ↦
+          let chosen = b.in_default.ensures.chooses rs _ h (part-front _ _ _) in
+          rw (c.at.ensures, extending_found w (held_empty h) (more _ l) r chosen (some_byte w (held_empty h) (more _ l) r chosen))
+    ]
 
 pub loop-k-preserved : goal.loop-k-preserved
 loop-k-preserved c =
@@ -38,7 +36,7 @@ loop-k-preserved c =
       within = omega (arith, simp length-drop at chosen.within, length-take-le c.args.total c.args.text.now c.requires.total_in_bounds);
       extending = λ rs pool h f e.
           extending_next (c.loop-k.invariant.extending rs pool h f e) (held_empty h) (more _ l)
-          (here c.args.tokens.now l (c.requires.fits.each _ l)) (c.in-Some.ensures.chooses rs _ h (part-front _ _ _)) c.if-chosen-len.false;
+          (here c.args.tokens.now l (c.requires.fits.each _ l)) (c.in-Some.ensures.chooses rs _ h (part-front _ _ _)) c.if-chosen-len.true;
     }
 
 pub returns : goal.returns
