@@ -2,12 +2,10 @@
 use mathlib.Core.Path.{◌≡◌, ap, sym, ◌∙◌}
 use mathlib.Core.List.{List, [], ◌∷◌, ◌++◌, map, flatten}
 use Prim.Native.Nat.{ℕ, zero, suc, ◌+◌, ◌≤◌, ◌<◌}
-use native.Mathlib.Numerals.{add-one, add-two, add-three, add-four}
 use native.Mathlib.Omega.{arith}
 use lib.Dec.{eqb}
-use lib.ListN.{length, get_or, take, drop, set, length-take, length-drop, length-append, drop_of_length-le}
-use lib.Seq.{paste, sets-eq, get_or-drop, get_or-take, take-take, take-length}
-use borrow.Author.Tests.{ne_eqb}
+use lib.ListN.{length, take, drop, length-take, length-drop, length-append, drop_of_length-le}
+use lib.Seq.{paste, get_or-take, take-length}
 use Rattle.command.specs.Commands.{byte_at, operands_of}
 use Rattle.command.proofs.Commands.{if-le}
 use Rattle.automaton.specs.Choice.{if, All}

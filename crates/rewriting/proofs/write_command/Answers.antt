@@ -1,7 +1,7 @@
 -- `write_command`: by whether it is a STEP.
-use Rattle.std.proofs.Common.{◌≡◌, refl, sym, ◌∙◌, arith}
+use Rattle.std.proofs.Common.{◌≡◌, refl, arith}
 use Rattle.command.specs.Commands.{byte_at}
-use Rattle.rewriting.proofs.Writing.{standing_length, step-width, step-modern, other_modern, other_copied}
+use Rattle.rewriting.proofs.Writing.{step-width, step-modern}
 use Rattle.rewriting.proofs.write_command.Goals as goal
 
 pub write_span-requires : goal.write_span-requires
