@@ -7,7 +7,7 @@ use Rattle.longest_match.specs.Lexer.{choose}
 use Rattle.longest_match.specs.Masks.{agreeing}
 use Rattle.longest_match.specs.Layers.{front}
 use Rattle.builtin.specs.Book.{builtin_rules}
-use Rattle.builtin.specs.Classes.{class_table, class_at}
+use Rattle.builtin.specs.Classes.{class_at}
 
 -- the place of a row
 pub record State (s : ℕ) : Type 0 where

@@ -12,10 +12,9 @@ ghost use Rattle.lexer.specs.Layers.{Room, Fills, LexAnswered};
 ghost use Rattle.lexer.specs.Masked.{masked_rules, masked_outcome};
 ghost use Rattle.builtin.specs.Book.{builtin_bytes, builtin_rules};
 
+use crate::tables::Tables;
 use answer::{Cut, Reason, Refusal};
 use book::Book;
-
-use crate::tables::Tables;
 
 // How `text` is cut, with nothing written.
 fn count(tables: &Tables, text: &[u8]) -> Cut

@@ -2,7 +2,13 @@
 ghost use Rattle.std.specs.Prelude.{◌≡◌};
 ghost use Rattle.builtin.specs.Classes.{class_table};
 ghost use Rattle.builtin.specs.Layers.{
-    State, next_table, next_state, tag_table, tag_at, mask_table, mask_of_state,
+  State,
+  next_table,
+  next_state,
+  tag_table,
+  tag_at,
+  mask_table,
+  mask_of_state,
 };
 
 // The class of each byte.

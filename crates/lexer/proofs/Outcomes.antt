@@ -67,6 +67,11 @@ rest_part {text} {rest} {at} r = take_all (length text - at) (drop at text) (ome
 
 -- ---- both calls agree
 
+same_rest : {m at n place : ℕ} → lexed m at ≡ lexed n place → at ≡ place
+same_rest {m} {at} {n} {place} e =
+    let k : record { tokens = m; rest = at } ≡ record { tokens = n; rest = place } = cc in
+    ap (λ (cut : Cut). cut.rest) k
+
 -- Where a text is cut, `rest_of` is its part from the place that the answer reports.
 pub rest-agrees : (book text records : List ℕ) (tokens rest : ℕ) → (lex_outcome book text records).answer ≡ lexed tokens rest
     → rest_of book text ≡ drop rest text
@@ -84,9 +89,8 @@ rest-agrees book text records tokens rest e = by (read_book book) e
     rules_agree rules true u q = refused_not q
     rules_agree rules false true q = refused_not q
     rules_agree rules false false q =
-        let z : length text - length (lex rules text).rest ≡ rest = cc in
-        rest-drop rules text ∙ ap (λ (n : ℕ). drop n text) z
+        rest-drop rules text ∙ ap (λ (n : ℕ). drop n text) (same_rest q)
 
     by : (o : Reading) → (lex_reading o text records).answer ≡ lexed tokens rest → rest_reading o text ≡ drop rest text
-    by (refused reason place) q = refused_not q
+    by (refused _ _) q = refused_not q
     by (accepted rules) q = rules_agree rules (ltb max_text (length text)) (ltb (record_count records) (length (lex rules text).tokens)) q

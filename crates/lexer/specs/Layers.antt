@@ -1,8 +1,7 @@
 -- What the layers of the code ask and answer between themselves. Nobody needs to believe it: the operations' contracts do not rest on it.
 use Rattle.answer.specs.declared.Cut.{Cut}
 use Rattle.answer.specs.declared.Refusal.{Refusal}
-use Rattle.std.specs.Prelude.{Result}
-use Rattle.std.specs.Prelude.{◌≡◌, List, ◌++◌, ℕ, ◌*◌, ◌≤◌, length, drop}
+use Rattle.std.specs.Prelude.{Result, ◌≡◌, List, ◌++◌, ℕ, ◌*◌, ◌≤◌, length, drop}
 use Rattle.automaton.specs.Rule.{Rule}
 use Rattle.automaton.specs.Layers.{Holds, Held}
 use Rattle.longest_match.specs.Lexer.{lex}

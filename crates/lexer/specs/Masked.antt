@@ -1,9 +1,8 @@
 -- Cutting with masks (document 02, wish 11): each token has, beside its record, the mask of the rules that agree on it. Answer and records
 -- are those of Outcome, and 15 is said also where the masks are fewer than the tokens.
 use Rattle.answer.specs.declared.Cut.{Cut}
-use Rattle.std.specs.Prelude.{Result, Ok, Err}
+use Rattle.std.specs.Prelude.{Result, Ok, Err, List, ◌++◌, ℕ, ◌*◌, ltb, drop}
 use Rattle.answer.specs.declared.Reason.TheVariants.{TooFewRecords}
-use Rattle.std.specs.Prelude.{List, ◌++◌, ℕ, ◌*◌, ltb, drop}
 use Rattle.answer.specs.declared.Refusal.{Refusal}
 use Rattle.automaton.specs.Choice.{if}
 use Rattle.automaton.specs.Rule.{Rule}

@@ -3,10 +3,9 @@
 use Rattle.answer.specs.declared.Reason.{Reason}
 use Rattle.answer.specs.declared.Cut.{Cut}
 use Rattle.answer.specs.declared.Refusal.{Refusal}
-use Rattle.std.specs.Prelude.{Result, Err}
+use Rattle.std.specs.Prelude.{Result, Err, List, ◌++◌, ℕ, ◌-◌, ◌*◌, ltb, length, drop}
 use Rattle.answer.specs.declared.Reason.TheVariants.{TextTooLong, TooFewRecords}
 use Rattle.answer.specs.Answers.{lexed}
-use Rattle.std.specs.Prelude.{List, ◌++◌, ℕ, ◌-◌, ◌*◌, ltb, length, drop}
 use Rattle.automaton.specs.Choice.{if}
 use Rattle.automaton.specs.Rule.{Rule}
 use Rattle.book.specs.Limits.{max_text}

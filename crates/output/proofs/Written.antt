@@ -54,8 +54,8 @@ pub check_printed : (t : Bool) (reason : Reason) (place : ℕ) (out : List ℕ) 
     → (refused_if t reason place out next).answer ≡ Ok n
     → (t ≡ false) × (next.answer ≡ Ok n)
 unfolding refused_if
-check_printed true reason place out next n e = cc
-check_printed false reason place out next n e = (refl, e)
+check_printed true why place out next n e = cc
+check_printed false why place out next n e = (refl, e)
 
 pub unless_printed : (o : Option Refusal) (out : List ℕ) (next : PrintOutcome) (n : ℕ) → (unless o out next).answer ≡ Ok n
     → (o ≡ none) × (next.answer ≡ Ok n)

@@ -21,8 +21,8 @@ print_accepted bytes out = record { answer = Ok (length bytes); out = bytes ++ d
 
 -- refused by this number at this place where the test holds
 unfoldable pub refused_if : Bool → Reason → ℕ → List ℕ → PrintOutcome → PrintOutcome
-refused_if true reason place out next = print_refused reason place out
-refused_if false reason place out next = next
+refused_if true why place out next = print_refused why place out
+refused_if false why place out next = next
 
 -- refused where there is a refusal
 unfoldable pub unless : Option Refusal → List ℕ → PrintOutcome → PrintOutcome

@@ -43,7 +43,7 @@ fn rehearse_bytes(
         → Rehearses rs records.now pool.now scratch.new result }
 {
     token_list::join_tokens(records, pool, scratch);
-    let k = token_list::readback::read_back(table, records, scratch, total);
+    let k = token_list::readback::read_back(table, records, &scratch[..total]);
     if k < records.len() / 10 {
         return Err(Reason::ReadOn.at(k));
     }

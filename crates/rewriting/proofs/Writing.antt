@@ -18,14 +18,6 @@ use Rattle.rewriting.proofs.Pieces.{commands_none, width, commands_next, piece_f
 
 -- ---- a command
 
-pub span-stored : (book : List ℕ) (at : ℕ) (out : List ℕ) (to : ℕ) → to + 5 ≤ length out
-    → set (set (set (set (set out to 6) (to + 1) (get_or book (at + 1) 0)) (to + 2) (get_or book (at + 2) 0)) (to + 3) (get_or book (at + 2) 0))
-    (to + 4) (get_or book (at + 3) 0)
-    ≡ paste out to (span_of (drop at book)) 5
-span-stored book at out to l =
-    rw (← (get_or-drop at book 1 0), ← (get_or-drop at book 2 0), ← (get_or-drop at book 3 0), add-one, add-two, add-three, add-four)
-    (sets-eq (span_of (drop at book)) out to l)
-
 module _ {book : List ℕ} {at width : ℕ} (s : Standing book at width) where
   abbrev piece : List ℕ
   piece = take width (drop at book)
@@ -54,13 +46,6 @@ module _ {book : List ℕ} {at width : ℕ} (s : Standing book at width) where
           get_or-take width (drop at book) 2 0 (omega arith),
           get_or-take width (drop at book) 3 0 (omega arith),
         )
-
-  -- another command
-  pub other_modern : (byte_at book at ≡ 5 → ⊥) → modern piece ≡ piece
-  other_modern n = rw (standing_code, ne_eqb (byte_at book at) 5 n)
-
-  pub other_copied : (out : List ℕ) (to : ℕ) → paste out to (drop at book) width ≡ paste out to piece width
-  other_copied out to = rw (take-take width width (drop at book) (omega arith))
 
 -- ---- from command to command
 

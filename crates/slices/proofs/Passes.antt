@@ -1,7 +1,7 @@
--- The first and the third pass of `print_tokens` over the records that the tokens say: faults found and bytes counted; what reads on.
--- The second is token_list's `Joining`. Assumes nothing.
+-- The first and the third pass of printing over the records that the tokens say: faults found and bytes counted; what reads on. The second
+-- is token_list's `Joining`.
 use Rattle.answer.specs.declared.Reason.{Reason}
-use Rattle.answer.specs.declared.Reason.TheVariants.{OutputTooLong, ReadOn}
+use Rattle.answer.specs.declared.Reason.TheVariants.{ReadOn}
 use Rattle.answer.specs.declared.Refusal.{Refusal}
 use Rattle.std.specs.Prelude.{Ok, Err}
 use mathlib.Core.Path.{◌≡◌, refl, sym, ap, ◌∙◌, subst}
@@ -11,31 +11,30 @@ use Prim.Native.Nat.{ℕ, suc, ◌+◌, ◌*◌, ◌<◌, ◌≤◌}
 use native.Mathlib.Omega.{arith}
 use native.Mathlib.Numerals.{add-one}
 use lib.ListN.{length, get_or, take, drop, length-append, length-drop}
-use lib.Seq.{take-append_seam, drop-drop, drop_at}
-use borrow.Author.Tests.{lt-ltb}
+use lib.Seq.{drop-drop, drop_at}
 use Rattle.automaton.specs.Rule.{Rule}
-use Rattle.book.specs.Limits.{max_text, max_tokens}
+use Rattle.book.specs.Limits.{max_tokens}
 use Rattle.longest_match.specs.Lexer.{first_match, join}
 use Rattle.longest_match.specs.Layers.{Chooses}
 use Rattle.longest_match.proofs.First.{nothing}
-use Rattle.record.specs.Encoding.{encoded, Fits}
-use Rattle.record.specs.Layers.{no_record}
-use Rattle.record.proofs.Encoding.{count_encoded, record_encoded}
-use Rattle.printer.specs.Outcome.{print_rules}
-use Rattle.printer.specs.Layers.{trouble, Clean}
-use Rattle.printer.proofs.ByRules.{answered_extended, answered_checked}
-use Rattle.slices.specs.Layers.{Counted}
 use Rattle.record.specs.Records.{record_count}
 use Rattle.record.specs.declared.TokenRecord.{TokenRecord}
 use Rattle.record.specs.Tokens.{record_at, records_of, bytes_in, tokens_in, tokens_of}
+use Rattle.record.specs.Encoding.{encoded, Fits}
+use Rattle.record.specs.Layers.{no_record}
+use Rattle.record.proofs.Encoding.{count_encoded, record_encoded}
+use Rattle.output.specs.Layers.{PrintAnswered}
 use Rattle.token_list.specs.Faults.{fault_of}
 use Rattle.token_list.specs.Checks.{refuse, refuse_by, first_fault, first_extended}
-use Rattle.output.specs.Layers.{PrintAnswered}
-use Rattle.token_list.specs.Layers.{Faultless, Fitting, Joined, checked_of, fault_for}
+use Rattle.token_list.specs.Layers.{Faultless, checked_of, fault_for}
 use Rattle.token_list.proofs.Alone.{alone_first}
 use Rattle.token_list.proofs.Faulting.{Fine, fine, bytes_length}
 use Rattle.token_list.proofs.Extended.{read_no_more, read_on}
 use Rattle.token_list.proofs.Passes.{left, left-start, left_next, left_end, faultless_front, Passing, passing_start, passing_next}
+use Rattle.printer.specs.Outcome.{print_rules}
+use Rattle.printer.specs.Layers.{Clean}
+use Rattle.printer.proofs.ByRules.{answered_extended, answered_checked}
+use Rattle.slices.specs.Layers.{Counted}
 
 -- ---- a token and its record
 
@@ -49,18 +48,6 @@ module _ (ts : List TokenRecord) {k : ℕ} (l : k < length ts) where
 
 pub no_more : (ts : List TokenRecord) {k : ℕ} → length ts ≤ k → record_count (encoded ts) ≤ k
 no_more ts l = omega (arith, count_encoded ts)
-
--- ---- what is wrong with a list
-
-module _ (rules : List Rule) (records pool : List ℕ) where
-  pub troubled_fault : {f : Refusal} → first_fault (fault_of rules pool) (records_of records) 0 ≡ some f → trouble rules records pool ≡ some f
-  unfolding trouble
-  troubled_fault e = rw e
-
-  pub troubled_long : Faultless rules records pool → max_text < length (join (tokens_of records pool))
-      → trouble rules records pool ≡ some (record { reason = OutputTooLong; place = 0 })
-  unfolding trouble refuse
-  troubled_long f l = rw (f, lt-ltb _ _ l)
 
 -- ---- the first pass
 
@@ -168,7 +155,7 @@ module _ {rules : List Rule} {records pool text : List ℕ} {at k : ℕ} (w : Ex
 -- ---- what the passes come to
 
 by_refusal : {f : Refusal} (o : Option Refusal) → Err f ≡ checked_of o → o ≡ some f
-by_refusal {f} none e = let z : ◌≡◌ {A = ℕ} 0 1 = cc in absurd (omega arith)
+by_refusal none e = let z : ◌≡◌ {A = ℕ} 0 1 = cc in absurd (omega arith)
 by_refusal {f} (some g) e = let y : f ≡ g = cc in ap some (sym y)
 
 by_pass : (o : Option Refusal) → Ok tt ≡ checked_of o → o ≡ none
@@ -176,12 +163,6 @@ by_pass none e = refl
 by_pass (some g) e = let z : ◌≡◌ {A = ℕ} 0 1 = cc in absurd (omega arith)
 
 module _ {rules : List Rule} {records pool : List ℕ} {total : ℕ} (w : Counted rules records pool total) where
-  pub counted_fitting : {scratch : List ℕ} → length scratch ≡ max_text → Fitting records pool scratch
-  counted_fitting l = record { each = w.spanned.each; room = omega (arith, w.spanned.bytes, w.spanned.short) }
-
-  pub counted_laid : {entry exit : List ℕ} → Joined (join (tokens_of records pool)) entry exit → take total exit ≡ join (tokens_of records pool)
-  counted_laid j = rw (w.spanned.bytes, j.written, take-append_seam)
-
   pub counted_clean : {scratch : List ℕ} → take total scratch ≡ join (tokens_of records pool)
       → Ok tt ≡ checked_of (first_extended rules (tokens_of records pool) 0) → Clean rules records pool scratch total
   counted_clean l e = record {

@@ -1,5 +1,5 @@
 -- The loop of `fill`, of the bytes that the tokens and the masks say: there is room for a token more, and a turn stores it and its mask.
-use mathlib.Core.Path.{◌≡◌, refl, ◌∙◌}
+use mathlib.Core.Path.{◌≡◌}
 use mathlib.Core.List.{List}
 use Prim.Native.Nat.{ℕ, ◌+◌, ◌%◌, ◌<◌}
 use native.Mathlib.Omega.{arith}

@@ -1,6 +1,6 @@
 // Printing a slice of tokens by the rules that a lent table holds, in three passes: each token is checked and the bytes are counted, the
 // bytes are joined in a scratch, and they are read back.
-ghost use Rattle.std.specs.Prelude.{◌≡◌, List, ◌≤◌, IfOk, MatchResult, length, take, ℕ};
+ghost use Rattle.std.specs.Prelude.{◌≡◌, List, ◌≤◌, IfOk, MatchResult, Err, length, take, ℕ};
 ghost use Rattle.std.proofs.Math.Option.{none, some};
 ghost use Rattle.automaton.specs.Rule.{Rule};
 ghost use Rattle.automaton.specs.Layers.{Holds, Held};
@@ -12,7 +12,6 @@ ghost use Rattle.output.specs.Layers.{PrintAnswered};
 ghost use Rattle.token_list.specs.Faults.{fault_of};
 ghost use Rattle.token_list.specs.Checks.{first_extended};
 ghost use Rattle.token_list.specs.Layers.{checked_of, Fitting, Joined, Faultless};
-ghost use Rattle.printer.specs.Layers.{trouble};
 ghost use Rattle.printer.specs.Outcome.{print_rules};
 ghost use Rattle.slices.specs.Layers.{EachFits, Counted};
 
@@ -20,6 +19,7 @@ use answer::{Reason, Refusal};
 use book::Book;
 use record::TokenRecord;
 
+// The bytes are joined in a scratch, so that `out` stands as it was where the list is refused.
 pub fn print_rules(
     table: &[u64],
     tokens: &[TokenRecord],
@@ -47,7 +47,8 @@ fn measure(table: &[u64], tokens: &[TokenRecord], pool: &[u8]) -> Result<usize, 
     ensures fits { IfOk result (λ _. EachFits tokens.now) }
     ensures counts { (rs : List Rule) → Holds table.now rs
         → MatchResult result (λ n. Counted rs (encoded tokens.now) pool.now n)
-        (λ f. trouble rs (encoded tokens.now) pool.now ≡ some f) }
+        (λ f. (out : List ℕ)
+        → PrintAnswered (print_rules rs (encoded tokens.now) pool.now out) (Err f) out) }
 {
     let mut total = 0;
     for (k, token) in tokens.iter().enumerate() {
@@ -90,7 +91,8 @@ fn join_tokens(tokens: &[TokenRecord], pool: &[u8], out: &mut [u8])
     }
 }
 
-// The first token at whose place of the tokens' bytes joined, the first `total` bytes of `text`, another length than its own is chosen.
+// Refuses the first token at whose place of the tokens' bytes joined, the first `total` bytes of `text`, another length than its own is
+// chosen.
 fn read_back(
     table: &[u64],
     tokens: &[TokenRecord],

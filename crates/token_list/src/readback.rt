@@ -1,5 +1,5 @@
 // Reading back the joined bytes of tokens: a token that is chosen at its own place, by its own rule, is alone and is not read on.
-ghost use Rattle.std.specs.Prelude.{List, ℕ, ◌≤◌, length, take};
+ghost use Rattle.std.specs.Prelude.{List, ℕ};
 ghost use Rattle.automaton.specs.Rule.{Rule};
 ghost use Rattle.automaton.specs.Layers.{Holds, Held};
 ghost use Rattle.token_list.specs.Layers.{Spans, Spread, Spreads, ReadsBack};
@@ -25,14 +25,13 @@ pub fn measure(records: &[u8], pool: &[u8]) -> Option<usize>
     Some(total)
 }
 
-// The number of the first token that is not what is chosen at its place of the tokens' bytes joined, the first `total` bytes of
-// `text`; the number of tokens where each is.
-pub fn read_back(table: &[u64], records: &[u8], text: &[u8], total: usize) -> usize
+// The number of the first token that is not what is chosen at its place of the text, the tokens' bytes joined; the number of tokens
+// where each is.
+pub fn read_back(table: &[u64], records: &[u8], text: &[u8]) -> usize
     requires held { Held table.now }
-    requires total_in_bounds { total ≤ length text.now }
-    requires spreads { Spreads records.now (take total text.now) }
+    requires spreads { Spreads records.now text.now }
     ensures { (rs : List Rule) (pool : List ℕ) → Holds table.now rs
-        → Spread records.now pool (take total text.now) → ReadsBack rs records.now pool result }
+        → Spread records.now pool text.now → ReadsBack rs records.now pool result }
 {
     let count = records.len() / 10;
     let mut lengths = [0usize; automaton::RULES];
@@ -41,7 +40,8 @@ pub fn read_back(table: &[u64], records: &[u8], text: &[u8], total: usize) -> us
         let token = record::read_record(records, k);
         let len = token.len as usize;
         let rule = automaton::find_tag(table, token.tag as u64);
-        let Some(chosen) = longest_match::choose_with(table, text, at, total, &mut lengths) else {
+        let Some(chosen) = longest_match::choose_with(table, text, at, text.len(), &mut lengths)
+        else {
             return k;
         };
         if chosen.len != len || rule != Some(chosen.rule) {

@@ -199,21 +199,6 @@ module _ (writing : Bool) (rules : List Rule) (text : List ℕ) (place budget : 
 
 module _ {writing : Bool} {rules : List Rule} {text : List ℕ} {place budget : ℕ} {entry records masks-entry masks : List ℕ} {at left n : ℕ}
     (w : Running writing rules text place budget entry records masks-entry masks at left n) where
-  -- nothing gets longer or shorter
-  pub running_same : length records ≡ length entry
-  running_same = go writing refl
-    where
-      go : (b : Bool) → writing ≡ b → length records ≡ length entry
-      go true e = (w.stored e).same
-      go false e = ap length (w.kept e)
-
-  pub running_masks_same : length masks ≡ length masks-entry
-  running_masks_same = go writing refl
-    where
-      go : (b : Bool) → writing ≡ b → length masks ≡ length masks-entry
-      go true e = (w.masked e).same
-      go false e = ap length (w.masks_kept e)
-
   module _ {rule len mask paid : ℕ} (x : Takes rules (drop at text) left rule len mask paid) (p : 0 < len) where
     pub running_within : at + len ≤ length text
     running_within = omega (arith, w.pays.within, simp length-drop at x.chooses.within)

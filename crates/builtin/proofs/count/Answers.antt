@@ -1,6 +1,6 @@
 -- `count`: the invariant is `Cutting` by the built-in rules.
-use Rattle.std.proofs.Common.{◌≤◌, length, drop, arith}
-use Rattle.longest_match.proofs.Cutting.{cutting_start, cutting_next, cutting_stop, lex_stop, lex-end}
+use Rattle.std.proofs.Common.{arith}
+use Rattle.longest_match.proofs.Cutting.{cutting_next, cutting_stop, lex_stop, lex-end}
 use Rattle.builtin.specs.Book.{builtin_rules}
 use Rattle.builtin.proofs.Scanned.{picked}
 use Rattle.builtin.proofs.count.Goals as goal

@@ -1,5 +1,5 @@
 -- `fill`: the invariant is `Filling` by the built-in rules.
-use Rattle.std.proofs.Common.{◌+◌, ◌*◌, ◌≤◌, length, drop, arith}
+use Rattle.std.proofs.Common.{arith}
 use Rattle.longest_match.proofs.Cutting.{cutting_stop, lex_stop, lex-end}
 use Rattle.lexer.proofs.Filled.{filling_start, filling_room, filling_mask_room, filling_next, filling_stop}
 use Rattle.builtin.specs.Book.{builtin_rules}

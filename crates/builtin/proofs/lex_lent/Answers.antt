@@ -1,5 +1,5 @@
 -- `lex_lent`: each answer is a case of the outcome.
-use Rattle.std.proofs.Common.{◌≤◌, length, arith}
+use Rattle.std.proofs.Common.{arith}
 use Rattle.lexer.proofs.ByRules.{answered_long, answered_few, answered_lexed, enough, room_for}
 use Rattle.builtin.specs.Book.{builtin_rules}
 use Rattle.builtin.proofs.lex_lent.Goals as goal

@@ -12,13 +12,3 @@ write_span-requires c =
 
 pub returns-then-book-at-eq-STEP : goal.returns-then-book-at-eq-STEP
 returns-then-book-at-eq-STEP c = rw (step-modern c.requires.standing (omega arith)) (refl, c.write_span.ensures)
-
-pub copy-requires : goal.copy-requires
-copy-requires c =
-    let s = c.requires.standing in
-    (s.within, omega (arith, rw (other_modern s (omega arith)) at c.requires.book_in_bounds, standing_length s))
-
-pub returns : goal.returns
-returns c =
-    let s = c.requires.standing in
-    rw (other_modern s (omega arith)) (sym (standing_length s), c.copy.ensures ∙ other_copied s c.args.out.now c.args.to)

@@ -1,11 +1,7 @@
 -- `lex_tokens`: by the book, or by its rules.
 use Rattle.std.proofs.lemmas.Result.{err_from_is_err_and}
-use Rattle.reader.proofs.Loaded.{loaded_held}
 use Rattle.lexer.proofs.Outcomes.{answered_book, answered_refused}
 use Rattle.slices.proofs.lex_tokens.Goals as goal
-
-pub lex_rules-requires : goal.lex_rules-requires
-lex_rules-requires c = loaded_held c.load.ensures c.in_ok-load.was
 
 pub returns-in_err-load : goal.returns-in_err-load
 returns-in_err-load c =

@@ -3,5 +3,5 @@ use Rattle.std.proofs.Common.{rules}
 use Rattle.turns.proofs.Outcomes.{answered_too_long}
 use Rattle.book_turns.proofs.sizes.turn_sized.Goals as goal
 
-pub returns-then-book-gt-BYTES : goal.returns-then-BYTES-len
+pub returns-then-book-gt-BYTES : goal.returns-then-book-gt-BYTES
 returns-then-book-gt-BYTES c = rw c.at.ensures (answered_too_long _ _ _ _ _ _ (search rules))

@@ -1,5 +1,5 @@
 -- `scan`: the invariant is `Walking`.
-use Rattle.std.proofs.Common.{◌+◌, ◌<◌, get_or, arith}
+use Rattle.std.proofs.Common.{◌<◌, get_or, arith}
 use Rattle.builtin.proofs.Scanned.{walked_start, reaches, walked_accept, walked_run, walked_pass, scanned_end, scanned_dead}
 use Rattle.builtin.proofs.scanner.scan.Goals as goal
 

@@ -1,9 +1,6 @@
 -- `lex_rules`: each return is one case of `lex_rules`.
-use Rattle.std.proofs.Common.{List, ℕ, ◌≤◌, length, arith, subst}
-use Rattle.automaton.specs.Rule.{Rule}
-use Rattle.automaton.specs.Layers.{Holds}
-use Rattle.longest_match.specs.Lexer.{lex}
-use Rattle.lexer.proofs.ByRules.{room_in, answered_long, answered_few, answered_lexed, enough, room_of}
+use Rattle.std.proofs.Common.{arith}
+use Rattle.lexer.proofs.ByRules.{answered_long, answered_few, answered_lexed, enough, room_of}
 use Rattle.lexer.proofs.by_rules.lex_rules.Goals as goal
 use Rattle.lexer.proofs.by_rules.lex_rules.Goals.{then-room-text+else-room-needed, else-room-text}
 
@@ -18,7 +15,7 @@ returns-then-room-needed c = λ rs h.
 
 -- there is room enough, counted or not
 pub fill-requires : goal.fill-requires
-fill-requires c = room_of c.requires (λ rs h. 
+fill-requires c = room_of c.requires (λ rs h.
     elim c.if-room-text.branch [
       | then-room-text+else-room-needed w ↦
           omega (arith, (w.count-needed.ensures rs h).tokens_are, w.if-room-needed.false, c.room-room.ensures)

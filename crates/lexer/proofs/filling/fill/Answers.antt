@@ -1,7 +1,5 @@
 -- `fill`: the invariant is `Filling`, for any rules that the table holds.
-use Rattle.std.proofs.Common.{List, ◌+◌, ◌*◌, ◌≤◌, length, drop, refl, arith}
-use Rattle.automaton.specs.Rule.{Rule}
-use Rattle.automaton.specs.Layers.{Holds}
+use Rattle.std.proofs.Common.{refl, arith}
 use Rattle.longest_match.proofs.Cutting.{cutting_within, cutting_stop, lex_stop, lex-end}
 use Rattle.longest_match.proofs.Parts.{part_end}
 use Rattle.lexer.proofs.Filled.{filling_start, filling_room, filling_mask_room, filling_next, filling_stop}
@@ -33,9 +31,12 @@ put_mask-requires c =
 pub overflow_add-place : goal.overflow_add-place
 overflow_add-place c =
     let held = c.requires.held in
-    omega (arith, cutting_within (c.loop-place.invariant held.rules held.holds).cut
-    (c.in-Some.ensures.chooses held.rules _ held.holds (part_end _ _))
-    c.in-Some.ensures.some_byte)
+    omega (
+      arith,
+      cutting_within (c.loop-place.invariant held.rules held.holds).cut
+          (c.in-Some.ensures.chooses held.rules _ held.holds (part_end _ _))
+          c.in-Some.ensures.some_byte,
+    )
 
 pub loop-place-preserved : goal.loop-place-preserved
 loop-place-preserved c = λ rs h.

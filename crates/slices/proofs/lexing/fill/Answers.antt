@@ -1,7 +1,5 @@
 -- `fill`: a turn stores one token and its mask.
-use Rattle.std.proofs.Common.{◌∙◌, ◌<◌, length, length-drop, ap, refl, arith}
-use Rattle.automaton.specs.Rule.{Rule}
-use Rattle.automaton.specs.Layers.{Holds}
+use Rattle.std.proofs.Common.{length-drop, refl, arith}
 use Rattle.longest_match.proofs.Cutting.{cutting_within, cutting_stop, lex_stop, lex-end}
 use Rattle.longest_match.proofs.Parts.{part_end}
 use Rattle.lexer.proofs.Filled.{filling_start, filling_stop}
@@ -38,9 +36,12 @@ bounds-masks-count c =
 pub overflow_add-place : goal.overflow_add-place
 overflow_add-place c =
     let held = c.requires.room.held in
-    omega (arith, cutting_within (c.loop-place.invariant held.rules held.holds).cut
-    (c.in-Some.ensures.chooses held.rules _ held.holds (part_end _ _))
-    c.in-Some.ensures.some_byte)
+    omega (
+      arith,
+      cutting_within (c.loop-place.invariant held.rules held.holds).cut
+          (c.in-Some.ensures.chooses held.rules _ held.holds (part_end _ _))
+          c.in-Some.ensures.some_byte,
+    )
 
 pub loop-place-preserved : goal.loop-place-preserved
 loop-place-preserved c = λ rs h.

@@ -1,7 +1,5 @@
 -- `lex_rules`: each return is one case of the outcome by rules.
-use Rattle.std.proofs.Common.{List, ℕ, ◌≤◌, length, arith}
-use Rattle.automaton.specs.Rule.{Rule}
-use Rattle.automaton.specs.Layers.{Holds}
+use Rattle.std.proofs.Common.{◌≤◌, length, arith}
 use Rattle.record.specs.Encoding.{encoded}
 use Rattle.record.specs.Masks.{mask_bytes}
 use Rattle.record.proofs.Encoding.{count_encoded}

@@ -1,7 +1,9 @@
 -- `measure`: a turn checks one token, and adds its bytes.
-use Rattle.std.proofs.Common.{arith, below_none, below_more}
+use Rattle.std.proofs.Common.{refl, arith, below_more}
+use Rattle.record.proofs.Encoding.{count_encoded}
+use Rattle.printer.proofs.ByRules.{answered_long, answered_fault, answered_checked}
 use Rattle.token_list.proofs.Passes.{faultless_pool}
-use Rattle.slices.proofs.Passes.{more, here, no_more, troubled_fault, troubled_long}
+use Rattle.slices.proofs.Passes.{more, here, no_more}
 use Rattle.slices.proofs.Passes.{measuring_start, measuring_refused, measuring_next, measuring_end}
 use Rattle.slices.proofs.printing.measure.Goals as goal
 
@@ -12,7 +14,7 @@ pub returns-in-Err-clause-counts : goal.returns-in-Err-clause-counts
 returns-in-Err-clause-counts c = λ rs h.
     let l = c.loop-k-test.true in
     rw c.at.ensures
-    (troubled_fault rs _ _
+    (λ out. answered_fault rs _ _ out (omega (arith, count_encoded c.args.tokens.now, c.requires.few))
     (measuring_refused (c.loop-k.invariant.measuring rs h) (more _ l) (here c.args.tokens.now l c.token_len.ensures.fits)
     (c.in-Err.ensures.counts rs h)))
 
@@ -30,7 +32,9 @@ loop-k-preserved c =
 pub returns-then-total-gt-TEXT-clause-counts : goal.returns-then-total-gt-TEXT-clause-counts
 returns-then-total-gt-TEXT-clause-counts c = λ rs h.
     let m = measuring_end (c.loop-k.invariant.measuring rs h) (no_more c.args.tokens.now (omega arith)) in
-    rw c.at-then-total-gt-TEXT.ensures (troubled_long rs _ _ m.0 (omega (arith, m.1)))
+    rw c.at-then-total-gt-TEXT.ensures
+    (λ out. answered_checked rs _ _ out (omega (arith, count_encoded c.args.tokens.now, c.requires.few)) m.0
+    (answered_long rs _ out m.1 (omega arith) refl))
 
 pub returns-clause-counts : goal.returns-clause-counts
 returns-clause-counts c = λ rs h.

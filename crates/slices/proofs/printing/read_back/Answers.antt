@@ -1,5 +1,5 @@
 -- `read_back`: a turn asks what is chosen at one token's place.
-use Rattle.std.proofs.Common.{arith, refl}
+use Rattle.std.proofs.Common.{arith}
 use Rattle.std.proofs.Math.ListN.{length-drop}
 use Rattle.std.proofs.Math.Seq.{length-take-le}
 use Rattle.longest_match.proofs.Parts.{part-front}
@@ -22,8 +22,11 @@ returns-in_default c = λ rs pool h f e.
 pub returns-then-chosen-len : goal.returns-then-chosen-len
 returns-then-chosen-len c = λ rs pool h f e.
     let l = c.loop-k-test.true in
-    rw (c.at-then-chosen-len.ensures, extending_found (c.loop-k.invariant.extending rs pool h f e) (held_empty h) (more _ l)
-    (here c.args.tokens.now l (c.requires.fits.each _ l)) (c.in-Some.ensures.chooses rs _ h (part-front _ _ _)) c.if-chosen-len.true)
+    rw (
+      c.at-then-chosen-len.ensures,
+      extending_found (c.loop-k.invariant.extending rs pool h f e) (held_empty h) (more _ l)
+          (here c.args.tokens.now l (c.requires.fits.each _ l)) (c.in-Some.ensures.chooses rs _ h (part-front _ _ _)) c.if-chosen-len.true,
+    )
 
 pub loop-k-preserved : goal.loop-k-preserved
 loop-k-preserved c =

@@ -1,8 +1,7 @@
 -- `read_back`: a turn reads one token back. Assumes nothing.
 use mathlib.Core.Path.{◌≡◌, sym, ◌∙◌, subst}
 use native.Mathlib.Omega.{arith}
-use lib.Seq.{length-take-le}
-use Rattle.longest_match.proofs.Parts.{part-front}
+use Rattle.longest_match.proofs.Parts.{part_end}
 use Rattle.longest_match.proofs.Held.{held_empty}
 use Rattle.record.specs.Records.{record_count}
 use Rattle.token_list.specs.Layers.{ReadsBack}
@@ -18,18 +17,17 @@ pub choose_with-requires-clause-from_le_to : goal.choose_with-requires-clause-fr
 choose_with-requires-clause-from_le_to c =
     let held = c.requires.held in
     let w = (c.loop-k.invariant held.rules c.requires.spreads.pool held.holds c.requires.spreads.spread).within in
-    let l = length-take-le c.args.total c.args.text.now c.requires.total_in_bounds in
-    (omega (arith, l, w), omega arith)
+    (omega (arith, w), omega arith)
 
 pub returns-in_default : goal.returns-in_default
 returns-in_default c = λ rs pool h s.
     retracing_none (c.loop-k.invariant rs pool h s) (held_empty h) (omega arith) c.read_record-token.ensures
-    (c.in_default.ensures.chooses rs _ h (part-front _ _ _)) (omega arith)
+    (c.in_default.ensures.chooses rs _ h (part_end _ _)) (omega arith)
 
 pub returns-then-chosen-len : goal.returns-then-chosen-len
 returns-then-chosen-len c = λ rs pool h s.
     let w = c.loop-k.invariant rs pool h s in
-    let chosen = c.in-Some.ensures.chooses rs _ h (part-front _ _ _) in
+    let chosen = c.in-Some.ensures.chooses rs _ h (part_end _ _) in
     elim c.then-chosen-len.branch [
       | then-chosen-len-via-then-chosen-len b ↦
           retracing_longer w (held_empty h) (omega arith) c.read_record-token.ensures chosen (λ e. omega arith)
@@ -42,13 +40,12 @@ pub overflow_add-at : goal.overflow_add-at
 overflow_add-at c =
     let held = c.requires.held in
     let w = c.loop-k.invariant held.rules c.requires.spreads.pool held.holds c.requires.spreads.spread in
-    let l = length-take-le c.args.total c.args.text.now c.requires.total_in_bounds in
-    omega (arith, l, retracing_within w (held_empty held.holds) (omega arith) c.read_record-token.ensures)
+    omega (arith, retracing_within w (held_empty held.holds) (omega arith) c.read_record-token.ensures)
 
 pub loop-k-preserved : goal.loop-k-preserved
 loop-k-preserved c = λ rs pool h s.
     retracing_next (c.loop-k.invariant rs pool h s) (held_empty h) (omega arith) c.read_record-token.ensures
-    (c.in-Some.ensures.chooses rs _ h (part-front _ _ _)) c.in-Some.ensures.some_byte (omega arith)
+    (c.in-Some.ensures.chooses rs _ h (part_end _ _)) c.in-Some.ensures.some_byte (omega arith)
     (found _ (c.find_tag-rule.ensures rs h) (sym c.ne.ensures ∙ c.if-ne.false))
 
 pub returns : goal.returns

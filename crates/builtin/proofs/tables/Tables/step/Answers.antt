@@ -1,5 +1,5 @@
 -- `step`: a class is below the length of a row, so the entry is that of the state and the class.
-use Rattle.std.proofs.Common.{◌+◌, ◌<◌, get_or, length, arith}
+use Rattle.std.proofs.Common.{◌<◌, get_or, length, arith}
 use Rattle.builtin.proofs.Alike.{class_bytes, class_below}
 use Rattle.builtin.proofs.tables.Tables.step.Goals as goal
 
