@@ -71,9 +71,9 @@ reach_is_fewest rules text =
 -- ---- a call, refused or not
 
 -- equal answers have equal parts
-same_turn : {n next examined m place bytes : ℕ} {finished done : Bool} → turned n next examined finished ≡ turned m place bytes done
+equal_parts : {n next examined m place bytes : ℕ} {finished done : Bool} → turned n next examined finished ≡ turned m place bytes done
     → (n ≡ m) × (next ≡ place) × (examined ≡ bytes) × (finished ≡ done)
-same_turn {n} {next} {examined} {m} {place} {bytes} {finished} {done} e =
+equal_parts {n} {next} {examined} {m} {place} {bytes} {finished} {done} e =
     let q : ◌≡◌ {A = Said} (record { tokens = n; next = next; examined = examined; finished = finished })
     (record { tokens = m; next = place; examined = bytes; finished = done }) = cc in (
       ap (λ (t : Said). t.tokens) q,
@@ -173,10 +173,10 @@ module _ (book text : List ℕ) (place budget : ℕ) (entry masks : List ℕ) wh
             reads = r;
             short = l;
             inside = i;
-            count = (same_turn a).0;
-            next_is = (same_turn a).1;
-            examined_is = (same_turn a).2;
-            finished_is = (same_turn a).3;
+            count = (equal_parts a).0;
+            next_is = (equal_parts a).1;
+            examined_is = (equal_parts a).2;
+            finished_is = (equal_parts a).3;
             leaves_records = ap (λ (x : TurnOutcome). x.records) o;
             leaves_masks = ap (λ (x : TurnOutcome). x.masks) o;
             enough = m;

@@ -3,8 +3,7 @@ use Rattle.answer.specs.declared.Cut.{Cut as Counts}
 use Rattle.answer.specs.declared.Refusal.{Refusal}
 use Rattle.answer.specs.declared.RuleName.{RuleName}
 use Rattle.answer.specs.declared.Turn.{Turn}
-use Rattle.std.specs.Prelude.{Result}
-use Rattle.std.specs.Prelude.{◌≡◌, Bool, List, ℕ, ◌*◌, length, get_or, take, drop}
+use Rattle.std.specs.Prelude.{◌≡◌, Bool, List, ℕ, ◌*◌, length, get_or, take, drop, Result}
 use Rattle.automaton.specs.Choice.{All}
 use Rattle.reader.specs.Reading.{read_by, answer}
 use Rattle.book_reader.specs.Rules.{rule_outcome}

@@ -2,9 +2,8 @@
 -- operations ensure, and of a list in every form in which it can be lent.
 use Rattle.answer.specs.Refusals.{number_of}
 use Rattle.answer.specs.declared.Cut.{Cut as Counts}
-use Rattle.std.specs.Prelude.{Result, Ok, Err}
 use Rattle.answer.specs.Answers.{lexed}
-use Rattle.std.specs.Prelude.{◌≡◌, ◌↔◌, true, false, List, [], ◌++◌, ℕ, ◌-◌, ◌≤◌, length, take, drop}
+use Rattle.std.specs.Prelude.{◌≡◌, ◌↔◌, true, false, List, [], ◌++◌, ℕ, ◌-◌, ◌≤◌, length, take, drop, Result, Ok, Err}
 use Rattle.answer.specs.declared.Refusal.{Refusal}
 use Rattle.automaton.specs.Choice.{All, among}
 use Rattle.automaton.specs.Rule.{Rule, matches}

@@ -2,9 +2,8 @@
 -- makes of the rule.
 use Rattle.answer.specs.declared.Reason.{Reason}
 use Rattle.answer.specs.Refusals.{number_of}
-use Rattle.std.specs.Prelude.{Result, Ok, Err}
 use Rattle.answer.specs.declared.Reason.TheVariants.{BookTooLong, LargeExpression, NoExpression, OutOfRange, OutputTooShort, StartFinal, TooMany, TooManySets}
-use Rattle.std.specs.Prelude.{◌≡◌, ◌⊎◌, ◌↔◌, Bool, true, false, List, [], ◌∷◌, ◌++◌, ℕ, ◌+◌, ◌*◌, ◌<◌, ◌≤◌, length, take, drop}
+use Rattle.std.specs.Prelude.{◌≡◌, ◌⊎◌, ◌↔◌, Bool, true, false, List, [], ◌∷◌, ◌++◌, ℕ, ◌+◌, ◌*◌, ◌<◌, ◌≤◌, length, take, drop, Result, Ok, Err}
 use Rattle.answer.specs.declared.Refusal.{Refusal}
 use Rattle.automaton.specs.Choice.{All, among}
 use Rattle.automaton.specs.Rule.{Transition, Rule, Ranged, matches}

@@ -2,10 +2,9 @@
 -- the demands speak.
 use Rattle.answer.specs.Refusals.{number_of}
 use Rattle.answer.specs.declared.Cut.{Cut as Counts}
-use Rattle.std.specs.Prelude.{Result, Err}
 use Rattle.answer.specs.declared.Reason.TheVariants.{TooFewRecords}
 use Rattle.answer.specs.Answers.{lexed}
-use Rattle.std.specs.Prelude.{◌≡◌, ◌⊎◌, true, List, ◌∷◌, ◌++◌, ℕ, ◌<◌, ◌≤◌, length}
+use Rattle.std.specs.Prelude.{◌≡◌, ◌⊎◌, true, List, ◌∷◌, ◌++◌, ℕ, ◌<◌, ◌≤◌, length, Result, Err}
 use Rattle.answer.specs.declared.Refusal.{Refusal}
 use Rattle.automaton.specs.Choice.{among}
 use Rattle.automaton.specs.Rule.{Rule, matches}

@@ -1,8 +1,7 @@
 -- The table of examples: a book's bytes, what is asked, and what document 01 says it gives.
 use Rattle.answer.specs.declared.Refusal.{Refusal}
-use Rattle.std.specs.Prelude.{Result as Answer, Ok, Err}
 use Rattle.answer.specs.Refusals.{number_of}
-use Rattle.std.specs.Prelude.{◌≡◌, List, [], ◌∷◌, ◌++◌, ℕ, ◌-◌, length, take, replicate}
+use Rattle.std.specs.Prelude.{◌≡◌, List, [], ◌∷◌, ◌++◌, ℕ, ◌-◌, length, take, replicate, Result as Answer, Ok, Err}
 use Rattle.automaton.specs.Choice.{All}
 use Rattle.reader.specs.Reading.{Reading, accepted, refused, read_book}
 use Rattle.longest_match.specs.Lexer.{Token, Lexed, lex, join}
