@@ -1,7 +1,8 @@
 -- What a call answers, case by case in the order of its refusals, and what an accepted call has written. Assumes nothing.
 use Rattle.answer.specs.declared.Reason.{Reason}
-use Rattle.std.specs.Prelude.{Ok, Err}
+use Rattle.std.specs.Prelude.{Result, Ok, Err}
 use Rattle.answer.specs.declared.Reason.TheVariants.{LargeExpression, NoExpression, OutOfRange, OutputTooShort, TooManySets}
+use Rattle.answer.specs.declared.Refusal.{Refusal}
 use mathlib.Core.Path.{◌≡◌, refl, sym, ap, ◌∙◌}
 use mathlib.Core.Bool.{Bool, true, false, ◌||◌}
 use mathlib.Core.List.{List}
@@ -101,7 +102,7 @@ makes tag kind text out n e = by_reading (read_expression text) refl
 
     by_reading : (r : Reading) → read_expression text ≡ r → Makes tag kind text out n
     by_reading (wrong place) h =
-        let q : Err (record { reason = NoExpression; place = place }) ≡ Ok n =
+        let q : ◌≡◌ {A = Result ℕ Refusal} (Err (record { reason = NoExpression; place = place })) (Ok n) =
         sym (ap (λ (o : PrintOutcome). o.answer) (whole ∙ ap (λ (x : Reading). compile_reading tag kind x out) h)) ∙ e in
         let y : ◌≡◌ {A = ℕ} 0 1 = cc in absurd (omega arith)
     by_reading (right x) h =

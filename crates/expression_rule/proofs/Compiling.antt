@@ -1,7 +1,7 @@
 -- What the layers below have read, noted and found is what the outcome says. Assumes nothing.
 use Rattle.answer.specs.declared.Reason.{Reason}
 use Rattle.answer.specs.declared.Refusal.{Refusal}
-use Rattle.std.specs.Prelude.{Result, Err}
+use Rattle.std.specs.Prelude.{Result, Ok, Err}
 use Rattle.answer.specs.declared.Reason.TheVariants.{LargeExpression, TooManySets}
 use mathlib.Core.Path.{◌≡◌, refl, sym, ap, subst, ◌∙◌}
 use mathlib.Core.Bool.{Bool, true, false, ◌||◌}
@@ -24,8 +24,6 @@ use Rattle.positions.specs.Numbers.{set_of}
 use Rattle.positions.proofs.Numbers.{set_same, set_none}
 use Rattle.positions.proofs.Bounds.{follows_below}
 use Rattle.position_reader.specs.declared.Part.{Part}
-use Rattle.position_reader.specs.declared.Read.{Read}
-use Rattle.position_reader.specs.declared.Read.TheVariants as read
 use Rattle.position_reader.specs.Layers.{from, within, part_of, Noted}
 use Rattle.expression_reader.specs.Layers.{whole_read}
 use Rattle.subsets.specs.States.{are_too_many, rows_of, finals_of}
@@ -114,16 +112,16 @@ pub record Understood (text : List ℕ) (part : Part) : Type 0 where
   pub reads : read_expression text ≡ right expression
   pub is : part ≡ part_of text 0 expression []
 
-right-one : {p q : Part} → ◌≡◌ {A = Read} (read.Right p) (read.Right q) → p ≡ q
+right-one : {p q : Part} → ◌≡◌ {A = Result Part ℕ} (Ok p) (Ok q) → p ≡ q
 right-one e = cc
 
-wrong_one : {p q : ℕ} → ◌≡◌ {A = Read} (read.Wrong p) (read.Wrong q) → p ≡ q
+wrong_one : {p q : ℕ} → ◌≡◌ {A = Result Part ℕ} (Err p) (Err q) → p ≡ q
 wrong_one e = cc
 
-clash : {A : Type 0} {p : Part} {q : ℕ} → ◌≡◌ {A = Read} (read.Right p) (read.Wrong q) → A
+clash : {A : Type 0} {p : Part} {q : ℕ} → ◌≡◌ {A = Result Part ℕ} (Ok p) (Err q) → A
 clash e = let z : ◌≡◌ {A = ℕ} 0 1 = cc in absurd (omega arith)
 
-pub understood : (text : List ℕ) {part : Part} → read.Right part ≡ whole_read text (read_expression text) → Understood text part
+pub understood : (text : List ℕ) {part : Part} → Ok part ≡ whole_read text (read_expression text) → Understood text part
 unfolding whole_read
 understood text {part} d = go (read_expression text) refl
   where
@@ -131,7 +129,7 @@ understood text {part} d = go (read_expression text) refl
     go (right e) c = record { expression = e; reads = c; is = right-one (d ∙ ap (whole_read text) c) }
     go (wrong p) c = clash (d ∙ ap (whole_read text) c)
 
-pub mistaken : (text : List ℕ) {place : ℕ} → read.Wrong place ≡ whole_read text (read_expression text) → read_expression text ≡ wrong place
+pub mistaken : (text : List ℕ) {place : ℕ} → Err place ≡ whole_read text (read_expression text) → read_expression text ≡ wrong place
 unfolding whole_read
 mistaken text {place} d = go (read_expression text) refl
   where

@@ -1,7 +1,7 @@
 // An expression as a rule of a book (document 02, wish 9).
 #![tactic(auto)]
 
-ghost use Rattle.std.specs.Prelude.{◌≡◌, List, ℕ, ◌≤◌, length, take};
+ghost use Rattle.std.specs.Prelude.{List, ℕ, ◌≤◌, length};
 ghost use Rattle.expression.specs.Expression.{Expression};
 ghost use Rattle.subsets.specs.States.{finals_of};
 ghost use Rattle.rule_commands.specs.Bytes.{table_bytes};
@@ -65,22 +65,21 @@ fn compile_part(
     if Limits::DEPTH < part.depth {
         return Err(Reason::LargeExpression.at(0));
     }
-    tell_sizes(takers, follow);
     let mut sets = [0u64; 256];
     let mut targets = [0u8; 65536];
     match subsets::explore(part.first, follow, takers, &mut sets, &mut targets) {
         Some(count) => write_states(
-            tag, kind, part.last, part.empty, &sets, count, &targets, out,
+            tag,
+            kind,
+            part.last,
+            part.empty,
+            &sets[..count],
+            &targets,
+            out,
         ),
         None => Err(Reason::TooManySets.at(0)),
     }
 }
-
-// Does nothing: how long an array is, a proof learns where the array is lent as a slice.
-fn tell_sizes(takers: &[u64], follow: &[u64])
-    requires { (length takers.now ≡ 256) × (length follow.now ≡ 64) }
-    ensures { (length takers.now ≡ 256) × (length follow.now ≡ 64) }
-{}
 
 // The commands of the rule that has these sets as its states.
 fn write_states(
@@ -88,17 +87,16 @@ fn write_states(
     kind: u8,
     last: u64,
     empty: bool,
-    sets: &[u64; 256],
-    count: usize,
+    sets: &[u64],
     targets: &[u8; 65536],
     out: &mut [u8],
 ) -> Result<usize, Refusal>
-    requires { count ≤ 254 }
-    ensures { (rows : List (List ℕ)) → Stood rows targets.now count
-        → PrintAnswered (written (table_bytes tag kind (finals_of last empty (take count sets.now)) rows) out.old)
+    requires { length sets.now ≤ 254 }
+    ensures { (rows : List (List ℕ)) → Stood rows targets.now (length sets.now)
+        → PrintAnswered (written (table_bytes tag kind (finals_of last empty sets.now) rows) out.old)
         result out.new }
 {
     let mut finals = [0u8; 256];
-    let found = subsets::list_finals(last, empty, sets, count, &mut finals);
-    rule_commands::write_rule(tag, kind, &finals, found, targets, count + 1, out)
+    let found = subsets::list_finals(last, empty, sets, &mut finals);
+    rule_commands::write_rule(tag, kind, &finals[..found], targets, sets.len() + 1, out)
 }

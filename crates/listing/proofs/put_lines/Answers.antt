@@ -7,31 +7,31 @@ use Rattle.listing.proofs.put_lines.Goals as goal
 
 pub put_records-at-requires : goal.put_records-at-requires
 put_records-at-requires c =
-    let f = fit_lexed c.in-Lexed.is _ _ c.requires in
+    let f = fit_lexed c.in-Ok.is _ _ c.requires in
     record { n_in_bounds = f.0; room = room-first _ f.2 }
 
 pub overflow_sub-len : goal.overflow_sub-len
 overflow_sub-len c =
-    (fit_lexed c.in-Lexed.is _ _ c.requires).1
+    (fit_lexed c.in-Ok.is _ _ c.requires).1
 
 pub put_line-requires : goal.put_line-requires
 unfolding rest_line
 put_line-requires c =
-    let f = fit_lexed c.in-Lexed.is _ _ c.requires in
+    let f = fit_lexed c.in-Ok.is _ _ c.requires in
     room_second c.put_records-at.ensures c.put_records-at.auto.out f.2
 
-pub put_line-requires-in-Refused : goal.put_line-requires-in-Refused
+pub put_line-requires-in-Err : goal.put_line-requires-in-Err
 unfolding refused_line
-put_line-requires-in-Refused c =
-    room_refused c.in-Refused.is _ _ c.requires (omega arith) (omega arith)
+put_line-requires-in-Err c =
+    rw c.number.ensures (room_refused c.in-Err.is _ _ c.requires (omega (arith, c.number.type_inv, c.number.ensures)) (omega arith))
 
-pub returns-in-Lexed : goal.returns-in-Lexed
+pub returns-in-Ok : goal.returns-in-Ok
 unfolding rest_line
-returns-in-Lexed c =
-    let f = fit_lexed c.in-Lexed.is _ _ c.requires in
-    puts_lexed c.in-Lexed.is _ _ (puts_then c.put_records-at.ensures c.put_line.ensures (room-first _ f.2))
+returns-in-Ok c =
+    let f = fit_lexed c.in-Ok.is _ _ c.requires in
+    puts_lexed c.in-Ok.is _ _ (puts_then c.put_records-at.ensures c.put_line.ensures (room-first _ f.2))
 
-pub returns-in-Refused : goal.returns-in-Refused
+pub returns-in-Err : goal.returns-in-Err
 unfolding refused_line
-returns-in-Refused c =
-    puts_refused c.in-Refused.is _ _ c.put_line-in-Refused.ensures
+returns-in-Err c =
+    puts_refused c.in-Err.is _ _ (rw c.number.ensures at c.put_line-in-Err.ensures)
