@@ -39,14 +39,16 @@ use Rattle.rule_commands.specs.Spans.{spans_of}
 use Rattle.rule_commands.specs.Fit.{rule_by}
 use Rattle.rule_commands.specs.Table.{SpanOf}
 use Rattle.rule_commands.proofs.Runs.{spans_longest}
-use Rattle.expression_rule.specs.Outcome.{max_expression, max_positions, max_depth, is_too_large, many_sets, compiled, compile_outcome, compile_reading}
+use Rattle.expression_rule.specs.Outcome.{max_expression, max_positions, max_depth, is_too_large, many_sets, compiled}
+use Rattle.expression_rule.specs.Outcome.{compile_outcome, compile_reading}
 use Rattle.expression_rule.specs.Outcome.{firsts_of, follow_of, takers_of, finals_for, rows_for}
 use Rattle.expression_rule.specs.Layers.{Sets}
 use Rattle.expression_rule.proofs.Fitting.{Between, finals_between}
 use Rattle.expression_rule.proofs.Rules.{rule-matches, fit, read_too_long, read_too_many, read_nullable, read_accepted}
 use Rattle.expression_rule.proofs.Compiled.{compiled_sets}
 use Rattle.expression_rule.proofs.Reached.{states_of_lem, many_reached}
-use Rattle.expression_rule.proofs.Answers.{wrong_rule_lem, text_long, text_read, text_wrong, expression_large, sets_many, sets_few, Makes, makes}
+use Rattle.expression_rule.proofs.Answers.{wrong_rule_lem, text_long, text_read, text_wrong, expression_large, sets_many}
+use Rattle.expression_rule.proofs.Answers.{sets_few, Makes, makes}
 use Rattle.zagvulem.specs.Numbers.{compile_numbers}
 use Rattle.demands.specs.Expressions.{refused_by, RefusedCompile, PastTheRule, Asked, Large, Small, TurnedAway}
 use Rattle.demands.specs.Expressions.{CompileRefusals, Ends, CallEnds, ManyAreReached, SpelledOrFaulty}
@@ -104,7 +106,8 @@ compile_refusals tag kind text entry exit r k = record {
       (few a e s l m ∙ room (compiled tag kind e) (le-ltb (length entry) (length (compiled tag kind e)) n));
 }
   where
-    answered : {reason : Reason} {place : ℕ} → compile_outcome tag kind text entry ≡ print_refused reason place entry → r ≡ refused_by reason place
+    answered : {reason : Reason} {place : ℕ} → compile_outcome tag kind text entry ≡ print_refused reason place entry
+        → r ≡ refused_by reason place
     answered e = k.answers ∙ ap (λ (o : PrintOutcome). o.answer) e
 
     rule : Asked tag kind text → eqb tag 0 || ltb 1 kind ≡ false
@@ -117,7 +120,8 @@ compile_refusals tag kind text entry exit r k = record {
         → compile_outcome tag kind text entry ≡ written (compiled tag kind e) entry
     few a e s l m = sets_few tag kind text entry (rule a) (fits a) (spells-right text s) (small e l) m
 
-    full : (bytes : List ℕ) → ltb (length entry) (length bytes) ≡ true → written bytes entry ≡ print_refused OutputTooShort (length bytes) entry
+    full : (bytes : List ℕ) → ltb (length entry) (length bytes) ≡ true
+        → written bytes entry ≡ print_refused OutputTooShort (length bytes) entry
     full bytes h = rw h
 
     room : (bytes : List ℕ) → ltb (length entry) (length bytes) ≡ false → written bytes entry ≡ print_accepted bytes entry
@@ -199,8 +203,8 @@ abbrev Numbered : List ℕ → Result ℕ Refusal → Type 0
 Numbered numbers (Ok n) = Unit {0}
 Numbered numbers (Err f) = among (number_of f.reason) numbers ≡ true
 
-numbered-if : (numbers : List ℕ) (t : Bool) (reason : Reason) (place : ℕ) (out : List ℕ) (next : PrintOutcome) → among (number_of reason) numbers ≡ true
-    → Numbered numbers next.answer → Numbered numbers (refused_if t reason place out next).answer
+numbered-if : (numbers : List ℕ) (t : Bool) (reason : Reason) (place : ℕ) (out : List ℕ) (next : PrintOutcome)
+    → among (number_of reason) numbers ≡ true → Numbered numbers next.answer → Numbered numbers (refused_if t reason place out next).answer
 unfolding refused_if
 numbered-if numbers true reason place out next e n = e
 numbered-if numbers false reason place out next e n = n
@@ -215,7 +219,8 @@ spelled-numbered numbers a b c tag kind e out =
 compile_numbered : (tag kind : ℕ) (text out : List ℕ) → Numbered compile_numbers (compile_outcome tag kind text out).answer
 unfolding compile_outcome
 compile_numbered tag kind text out =
-    numbered-if compile_numbers _ OutOfRange 0 out _ refl (numbered-if compile_numbers _ LargeExpression 0 out _ refl (go (read_expression text)))
+    numbered-if compile_numbers _ OutOfRange 0 out _ refl
+    (numbered-if compile_numbers _ LargeExpression 0 out _ refl (go (read_expression text)))
   where
     go : (r : reading.Reading) → Numbered compile_numbers (compile_reading tag kind r out).answer
     go (wrong place) = refl
@@ -238,9 +243,11 @@ pub first_fault_refused : FirstFaultRefused
 first_fault_refused tag kind text entry exit r k a place =
     (λ e. go e (spelled-or_faulty text), λ f. (compile_refusals tag kind text entry exit r k).faulty a place f)
   where
-    go : r ≡ refused_by NoExpression place → ((e : Expression) × Spells alternatives e text) ⊎ ((p : ℕ) × FirstFault text p) → FirstFault text place
+    go : r ≡ refused_by NoExpression place
+        → ((e : Expression) × Spells alternatives e text) ⊎ ((p : ℕ) × FirstFault text p) → FirstFault text place
     go e (inr (p, f)) =
-        let q : refused_by NoExpression place ≡ refused_by NoExpression p = sym e ∙ (compile_refusals tag kind text entry exit r k).faulty a p f in
+        let q : refused_by NoExpression place ≡ refused_by NoExpression p =
+        sym e ∙ (compile_refusals tag kind text entry exit r k).faulty a p f in
         let y : ◌≡◌ {A = Refusal} (record { reason = NoExpression; place = place }) (record { reason = NoExpression; place = p }) = cc in
         subst (FirstFault text) (sym (ap (λ (x : Refusal). x.place) y)) f
     go e (inl (x, s)) =

@@ -132,7 +132,8 @@ module _ (old new : List ℕ) (e : read_book old ≡ read_book new) where
   unfolding rule_outcome
   ask_over index r k = record { answers = k.answers ∙ ap (λ (o : Reading). rule_reading o index) e }
 
-  cut_over : (f : Form) (text : List ℕ) (entry exit : Lent f) (r : Result Counts Refusal) → Cut f old text entry exit r → Cut f new text entry exit r
+  cut_over : (f : Form) (text : List ℕ) (entry exit : Lent f) (r : Result Counts Refusal) → Cut f old text entry exit r
+      → Cut f new text entry exit r
   unfolding lex_outcome
   cut_over f text entry exit r k =
       record {

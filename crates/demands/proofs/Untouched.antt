@@ -69,7 +69,8 @@ abbrev pub Keeps : List ℕ → PrintOutcome → Type 0
 Keeps out o = (r : Refusal) → o.answer ≡ Err r → o.out ≡ out
 
 module _ (out : List ℕ) where
-  pub keeps_if : (t : Bool) (reason : Reason) (place : ℕ) (next : PrintOutcome) → Keeps out next → Keeps out (refused_if t reason place out next)
+  pub keeps_if : (t : Bool) (reason : Reason) (place : ℕ) (next : PrintOutcome) → Keeps out next
+      → Keeps out (refused_if t reason place out next)
   unfolding refused_if
   keeps_if true reason place next h r e = refl
   keeps_if false reason place next h r e = h r e

@@ -2,8 +2,10 @@
 -- makes of the rule.
 use Rattle.answer.specs.declared.Reason.{Reason}
 use Rattle.answer.specs.Refusals.{number_of}
-use Rattle.answer.specs.declared.Reason.TheVariants.{BookTooLong, LargeExpression, NoExpression, OutOfRange, OutputTooShort, StartFinal, TooMany, TooManySets}
-use Rattle.std.specs.Prelude.{◌≡◌, ◌⊎◌, ◌↔◌, Bool, true, false, List, [], ◌∷◌, ◌++◌, ℕ, ◌+◌, ◌*◌, ◌<◌, ◌≤◌, length, take, drop, Result, Ok, Err}
+use Rattle.answer.specs.declared.Reason.TheVariants.{BookTooLong, LargeExpression, NoExpression, OutOfRange, OutputTooShort}
+use Rattle.answer.specs.declared.Reason.TheVariants.{StartFinal, TooMany, TooManySets}
+use Rattle.std.specs.Prelude.{◌≡◌, ◌⊎◌, ◌↔◌, Bool, true, false, List, [], ◌∷◌, ◌++◌, ℕ, ◌+◌, ◌*◌, ◌<◌, ◌≤◌, length, take}
+use Rattle.std.specs.Prelude.{drop, Result, Ok, Err}
 use Rattle.answer.specs.declared.Refusal.{Refusal}
 use Rattle.automaton.specs.Choice.{All, among}
 use Rattle.automaton.specs.Rule.{Transition, Rule, Ranged, matches}
@@ -57,7 +59,8 @@ pub record TurnedAway (tag kind : ℕ) (text entry : List ℕ) (r : Result ℕ R
   pub too_long : 0 < tag → kind ≤ 1 → max_expression < length text → r ≡ refused_by LargeExpression 0
   pub faulty : Asked tag kind text → (place : ℕ) → FirstFault text place → r ≡ refused_by NoExpression place
   pub too_large : Asked tag kind text → (e : Expression) → Spells alternatives e text → Large e → r ≡ refused_by LargeExpression 0
-  pub too_many : Asked tag kind text → (e : Expression) → Spells alternatives e text → Small e → many_sets e ≡ true → r ≡ refused_by TooManySets 0
+  pub too_many : Asked tag kind text → (e : Expression) → Spells alternatives e text → Small e → many_sets e ≡ true
+      → r ≡ refused_by TooManySets 0
   pub no_room : Asked tag kind text → (e : Expression) → Spells alternatives e text → Small e → many_sets e ≡ false
       → length entry < length (compiled tag kind e) → r ≡ refused_by OutputTooShort (length (compiled tag kind e))
   pub accepts : Asked tag kind text → (e : Expression) → Spells alternatives e text → Small e → many_sets e ≡ false
@@ -72,11 +75,13 @@ pub data Ends (tag kind : ℕ) (text entry : List ℕ) (r : Result ℕ Refusal) 
   six : (tag ≡ 0) ⊎ (1 < kind) → r ≡ refused_by OutOfRange 0 → Ends tag kind text entry r
   long : 0 < tag → kind ≤ 1 → max_expression < length text → r ≡ refused_by LargeExpression 0 → Ends tag kind text entry r
   fault : Asked tag kind text → (place : ℕ) → FirstFault text place → r ≡ refused_by NoExpression place → Ends tag kind text entry r
-  large : Asked tag kind text → (e : Expression) → Spells alternatives e text → Large e → r ≡ refused_by LargeExpression 0 → Ends tag kind text entry r
+  large : Asked tag kind text → (e : Expression) → Spells alternatives e text → Large e → r ≡ refused_by LargeExpression 0
+      → Ends tag kind text entry r
   many : Asked tag kind text → (e : Expression) → Spells alternatives e text → Small e → many_sets e ≡ true → r ≡ refused_by TooManySets 0
       → Ends tag kind text entry r
   full : Asked tag kind text → (e : Expression) → Spells alternatives e text → Small e → many_sets e ≡ false
-      → length entry < length (compiled tag kind e) → r ≡ refused_by OutputTooShort (length (compiled tag kind e)) → Ends tag kind text entry r
+      → length entry < length (compiled tag kind e) → r ≡ refused_by OutputTooShort (length (compiled tag kind e))
+      → Ends tag kind text entry r
   made : Asked tag kind text → (e : Expression) → Spells alternatives e text → Small e → many_sets e ≡ false
       → length (compiled tag kind e) ≤ length entry → r ≡ Ok (length (compiled tag kind e)) → Ends tag kind text entry r
 

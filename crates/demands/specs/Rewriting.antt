@@ -41,7 +41,8 @@ StrictRefusesStep = (book : List ℕ) (place : ℕ) → read_strict book ≡ ref
 
 abbrev pub StrictRefusesAlike : Type 0
 StrictRefusesAlike =
-    (book : List ℕ) (reason : Reason) (place : ℕ) → read_strict book ≡ refused reason place → (reason ≡ Retired → ⊥) → read_book book ≡ refused reason place
+    (book : List ℕ) (reason : Reason) (place : ℕ) → read_strict book ≡ refused reason place → (reason ≡ Retired → ⊥)
+    → read_book book ≡ refused reason place
 
 -- A call of it is refused by one of its numbers.
 abbrev pub RefusedStrictly : Type 0
@@ -103,7 +104,8 @@ RewritesTheRules = (old new : List ℕ) → Rewrites old new → (rules : List R
 pub record Alike (old new : List ℕ) : Type 0 where
   pub reads : (r : Result ℕ Refusal) → Read false old r ↔ Read false new r
   pub asks : (index : ℕ) (r : Result RuleName Refusal) → Ask old index r ↔ Ask new index r
-  pub cuts : (f : Form) (text : List ℕ) (entry exit : Lent f) (r : Result Counts Refusal) → Cut f old text entry exit r ↔ Cut f new text entry exit r
+  pub cuts : (f : Form) (text : List ℕ) (entry exit : Lent f) (r : Result Counts Refusal)
+      → Cut f old text entry exit r ↔ Cut f new text entry exit r
   pub cuts_masked : (f : Form) (text : List ℕ) (entry exit : Lent f) (masks after : List ℕ) (r : Result Counts Refusal)
       → MaskedCut f old text entry exit masks after r ↔ MaskedCut f new text entry exit masks after r
   pub rests : (text : List ℕ) → rest_of old text ≡ rest_of new text

@@ -3,17 +3,12 @@ use Rattle.answer.specs.declared.Cut.{Cut}
 use Rattle.answer.specs.declared.RuleName.{RuleName}
 use Rattle.answer.specs.declared.Turn.{Turn}
 use Rattle.std.specs.Prelude.{Result, Ok, Err}
-use Rattle.answer.specs.Answers.{lexed, named, turned}
-use mathlib.Core.Path.{◌≡◌, refl}
 use mathlib.Core.Bool.{true, false}
 use mathlib.Core.List.{List}
 use Prim.Native.Nat.{ℕ, ◌≤◌}
 use native.Mathlib.Nat.{max-le}
 use native.Mathlib.Omega.{arith}
-use borrow.Author.Tests.{ne_eqb}
 use Rattle.answer.specs.declared.Refusal.{Refusal}
-use Rattle.automaton.specs.Choice.{among}
-use Rattle.automaton.proofs.Tests.{clash}
 use Rattle.book.specs.Limits.{max_bytes, max_text}
 use Rattle.reader.specs.Reading.{read_book, read_strict, answer}
 use Rattle.book_reader.specs.Rules.{rule_outcome}

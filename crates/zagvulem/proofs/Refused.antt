@@ -1,12 +1,17 @@
 -- A call refuses by the numbers of its operation alone, and what it answers is held down by the limits. Assumes nothing.
-use Rattle.answer.specs.declared.Reason.TheVariants.{BookTooLong, BytesAfterEnd, CutOff, ErrorFinal, LargeExpression, LeavesError, Misplaced, NoExpression, NoRule, NoSeparator, NotAlone, OutOfRange, OutputTooLong, OutputTooShort, Overlap, PastThePool, PastTheText, ReadOn, Retired, SeparatorInList, SharedByte, StartFinal, TagTaken, TextTooLong, TooFewRecords, TooMany, TooManySets, TooManyTokens, TwiceOrMissing, UnknownMode, UnknownTag}
+use Rattle.answer.specs.declared.Reason.TheVariants.{BookTooLong, BytesAfterEnd, CutOff, ErrorFinal, LargeExpression}
+use Rattle.answer.specs.declared.Reason.TheVariants.{LeavesError, Misplaced, NoExpression, NoRule, NoSeparator, NotAlone}
+use Rattle.answer.specs.declared.Reason.TheVariants.{OutOfRange, OutputTooLong, OutputTooShort, Overlap, PastThePool}
+use Rattle.answer.specs.declared.Reason.TheVariants.{PastTheText, ReadOn, Retired, SeparatorInList, SharedByte, StartFinal}
+use Rattle.answer.specs.declared.Reason.TheVariants.{TagTaken, TextTooLong, TooFewRecords, TooMany, TooManySets}
+use Rattle.answer.specs.declared.Reason.TheVariants.{TooManyTokens, TwiceOrMissing, UnknownMode, UnknownTag}
 use Rattle.answer.specs.Refusals.{number_of}
 use Rattle.answer.specs.declared.Cut.{Cut}
 use Rattle.answer.specs.declared.Reason.{Reason}
 use Rattle.answer.specs.declared.RuleName.{RuleName}
 use Rattle.answer.specs.declared.Turn.{Turn}
 use Rattle.std.specs.Prelude.{Result, Ok, Err}
-use Rattle.answer.specs.Answers.{lexed, named, turned}
+use Rattle.answer.specs.Answers.{lexed, named}
 use mathlib.Core.Path.{◌≡◌, refl, ap, subst}
 use mathlib.Core.Logic.{inl, inr}
 use mathlib.Core.Bool.{Bool, true, false, not, ◌&&◌, ◌||◌}
@@ -140,19 +145,24 @@ module _ (d : Draft) (at len : ℕ) (room : Room d) (before : at < len) where
   apply_fair (RULE tag kind) i =
       check_fair (leb max_rules (length d.rules)) TooMany _ refl here (λ few. check_fair (eqb tag 0 || ltb 1 kind) OutOfRange _ refl here (λ e.
       check_fair (tagged tag d.rules) TagTaken _ refl here (λ e. omega (arith, leb-false max_rules (length d.rules) few))))
-  apply_fair (Start s) i = check_fair (no_state s) OutOfRange _ refl here (λ e. check_fair (is_set d.start) TwiceOrMissing _ refl here (λ e. room))
-  apply_fair (Error s) i = check_fair (no_state s) OutOfRange _ refl here (λ e. check_fair (is_set d.error) TwiceOrMissing _ refl here (λ e. room))
+  apply_fair (Start s) i =
+      check_fair (no_state s) OutOfRange _ refl here (λ e. check_fair (is_set d.start) TwiceOrMissing _ refl here (λ e. room))
+  apply_fair (Error s) i =
+      check_fair (no_state s) OutOfRange _ refl here (λ e. check_fair (is_set d.error) TwiceOrMissing _ refl here (λ e. room))
   apply_fair (Final s) i = check_fair (no_state s) OutOfRange _ refl here (λ e. room)
   apply_fair (Step from byte to) i = move_fair from byte byte to
   apply_fair (Span from low high to) i = move_fair from low high to
   apply_fair Close i =
-      check_fair (is_unset d.start || is_unset d.error) TwiceOrMissing _ refl here (λ e. check_fair (overlaps d.transitions) Overlap _ refl here (λ e.
+      check_fair (is_unset d.start || is_unset d.error) TwiceOrMissing _ refl here (λ e.
+      check_fair (overlaps d.transitions) Overlap _ refl here (λ e.
       check_fair (any (λ (t : Transition). eqb t.from (state_of d.error)) d.transitions) LeavesError _ refl here (λ e.
-      check_fair (among (state_of d.error) d.finals) ErrorFinal _ refl here (λ e. check_fair (among (state_of d.start) d.finals) StartFinal _ refl here (λ e.
+      check_fair (among (state_of d.error) d.finals) ErrorFinal _ refl here (λ e.
+      check_fair (among (state_of d.start) d.finals) StartFinal _ refl here (λ e.
       let r : length d.rules + 1 ≤ max_rules = rw (i refl) at room in
       omega (arith, length-append d.rules (rule_of d ∷ [])))))))
   apply_fair End i =
-      check_fair (is_empty d.rules) NoRule _ refl here (λ e. check_fair (ltb (at + 1) len) BytesAfterEnd _ refl (omega arith) (λ e. omega arith))
+      check_fair (is_empty d.rules) NoRule _ refl here (λ e.
+      check_fair (ltb (at + 1) len) BytesAfterEnd _ refl (omega arith) (λ e. omega arith))
 
 -- CLOSE is found only inside a rule, and where nothing is found the ordinary reading refuses it by a number of its own
 abbrev Closing : Bool → Result Decoded Reason → Type 0
@@ -178,7 +188,8 @@ module _ (bytes : List ℕ) (at : ℕ) where
       go (byte_at bytes at) (placed (byte_at bytes at) inside) refl (leb (at + 1 + operands_of (byte_at bytes at)) (length bytes))
     where
       go : (code : ℕ) (p : Bool) → placed code inside ≡ p → (l : Bool) → Closing inside
-          (if p (if l (Ok (record { command = decode bytes at code; next = record { at = at + 1 + operands_of code } })) (Err CutOff)) (Err Misplaced))
+          (if p
+          (if l (Ok (record { command = decode bytes at code; next = record { at = at + 1 + operands_of code } })) (Err CutOff)) (Err Misplaced))
       go code true e true = close_inside code inside e
       go code true e false = refl
       go code false e l = refl
@@ -343,7 +354,8 @@ module _ (book text : List ℕ) (place budget : ℕ) (records masks : List ℕ) 
       by_rules rules true e past few = by TextTooLong 0 refl (omega arith)
       by_rules rules false e true few = by PastTheText 0 refl (omega arith)
       by_rules rules false e false true =
-          by TooFewRecords _ refl (omega (arith, simp length-drop at (turn_short rules (drop place text) budget), ltb-false max_text (length text) e))
+          by TooFewRecords _ refl
+          (omega (arith, simp length-drop at (turn_short rules (drop place text) budget), ltb-false max_text (length text) e))
       by_rules rules false e false false =
           let l : length text ≤ max_text = ltb-false max_text (length text) e in
           (omega (arith, simp length-drop at (turn_short rules (drop place text) budget)), omega arith)
@@ -409,7 +421,8 @@ module _ (numbers : List ℕ) (most : ℕ) where
   extended_within e rules (t ∷ ts) k l =
       refuse-within (extends rules t.bytes (join ts)) ReadOn _ e (omega arith) (λ z. extended_within e rules ts (suc k) (omega arith))
 
-  refused_if-within : (t : Bool) (reason : Reason) {place : ℕ} (out : List ℕ) (next : PrintOutcome) → among (number_of reason) numbers ≡ true → place ≤ most
+  refused_if-within : (t : Bool) (reason : Reason) {place : ℕ} (out : List ℕ) (next : PrintOutcome)
+      → among (number_of reason) numbers ≡ true → place ≤ most
       → (t ≡ false → PrintWithin numbers most next.answer) → PrintWithin numbers most (refused_if t reason place out next).answer
   unfolding refused_if
   refused_if-within true reason out next e l h = by reason _ e l
@@ -425,8 +438,8 @@ module _ (numbers : List ℕ) (most : ℕ) where
       → PrintWithin numbers most (written bytes out).answer
   written-within e bytes out l m = refused_if-within (ltb (length out) (length bytes)) OutputTooShort out _ e l (λ z. m)
 
-  up_to_within : (limit : ℕ) (reason : Reason) → among (number_of reason) numbers ≡ true → among 22 numbers ≡ true → limit ≤ most → limit ≤ max_text
-      → (bytes out : List ℕ) → PrintWithin numbers most (written_up_to limit reason bytes out).answer
+  up_to_within : (limit : ℕ) (reason : Reason) → among (number_of reason) numbers ≡ true → among 22 numbers ≡ true
+      → limit ≤ most → limit ≤ max_text → (bytes out : List ℕ) → PrintWithin numbers most (written_up_to limit reason bytes out).answer
   unfolding written_up_to
   up_to_within limit reason e f l m bytes out =
       refused_if-within (ltb limit (length bytes)) reason out _ e (omega arith) (λ z.
@@ -452,7 +465,8 @@ unfolding rewrite_outcome
 rewrite_within book out = go (read_book book) (book_read book)
   where
     go : (r : Reading) → ReadWithin max_bytes r → PrintWithin rewrite_numbers max_bytes (rewrite_reading r book out).answer
-    go (accepted rules) w = up_to_within rewrite_numbers max_bytes max_bytes BookTooLong refl refl (omega arith) (omega arith) (rewritten book) out
+    go (accepted rules) w =
+        up_to_within rewrite_numbers max_bytes max_bytes BookTooLong refl refl (omega arith) (omega arith) (rewritten book) out
     go (refused reason place) w = of_book (22 ∷ []) (omega arith) w
 
 -- ---- making a rule of an expression
@@ -466,7 +480,8 @@ abbrev pub RuleMade : Result ℕ Refusal → Type 0
 RuleMade (Ok bytes) = bytes ≤ most_rule
 RuleMade (Err f) = Refused compile_numbers most_rule f
 
-made_if : (t : Bool) (reason : Reason) {place : ℕ} (out : List ℕ) (next : PrintOutcome) → among (number_of reason) compile_numbers ≡ true → place ≤ most_rule
+made_if : (t : Bool) (reason : Reason) {place : ℕ} (out : List ℕ) (next : PrintOutcome)
+    → among (number_of reason) compile_numbers ≡ true → place ≤ most_rule
     → (t ≡ false → RuleMade next.answer) → RuleMade (refused_if t reason place out next).answer
 unfolding refused_if
 made_if true reason out next e l h = by reason _ e l
@@ -526,8 +541,8 @@ print_accepted_lem book records pool out bytes e = subst (PrintWithin print_numb
 
 -- ---- printing with separators
 
-or_else_number : (numbers : List ℕ) (fault : Option Reason) (test : Bool) (reason : Reason) → Numbered numbers fault → among (number_of reason) numbers ≡ true
-    → Numbered numbers (or_else fault test reason)
+or_else_number : (numbers : List ℕ) (fault : Option Reason) (test : Bool) (reason : Reason) → Numbered numbers fault
+    → among (number_of reason) numbers ≡ true → Numbered numbers (or_else fault test reason)
 unfolding or_else
 or_else_number numbers (some n) test reason f e = f
 or_else_number numbers none true reason f e = e
