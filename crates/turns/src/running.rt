@@ -9,7 +9,8 @@ ghost use Rattle.turns.specs.Layers.{Stirs, Next, Keeps, KeepRoom, RunRoom, Turn
 use answer::Turn;
 use longest_match::Choice;
 
-// Takes a turn from `place` on. A record and a mask of each token are stored where it is `writing`; else it is only told what it comes to.
+// Takes a turn from `place` on. A record and a mask of each token are stored where it is `writing`; else it is only told what it comes to:
+// `Stores` says both of one loop, and a closure that stores would hold two lent slices.
 pub fn run(
     writing: bool,
     table: &[u64],
