@@ -115,7 +115,8 @@ fn next_token(
     })
 }
 
-// Stores record and mask number `k`, where it is `writing`.
+// Stores record and mask number `k`, where it is `writing`. A flag, as a turn is counted by the loop that writes it: an option of both
+// buffers asks the same at each token, and is no plainer.
 fn keep(
     writing: bool,
     records: &mut [u8],
