@@ -114,7 +114,7 @@ impl fmt::Display for Refusal {
     }
 }
 
-// A rule of a book, as a caller may ask for it.
+// A rule of a book, as a caller may ask for it; its kind is a number in a book, for C and in the definition of a rule.
 #[derive(Clone, Copy, Debug, PartialEq, Eq)]
 pub struct RuleName {
     pub tag: usize,

@@ -40,7 +40,7 @@ pub fn kind_of(table: &[u64], rule: usize) -> u64
     table[rule + 1] / 65536 % 256
 }
 
-// The number of the error state.
+// The number of the error state. Which part of the name is which is known by these functions alone, so each has its own.
 pub fn error_of(table: &[u64], rule: usize) -> u64
     requires { Tabled table.now rule }
     ensures { (m : Rule) → Table table.now rule m → result ≡ m.error }

@@ -25,6 +25,7 @@ pub struct Book {
     pub error: Option<u16>,
     pub tag: u16,
     pub kind: u8,
+    // tag and kind are 0 where it is not so, as in `Draft`; start, error and overlap are the open rule's too, so no Option of the two
     pub inside: bool,
     // whether two of its transitions leave one state at one byte
     pub overlap: bool,
@@ -90,7 +91,7 @@ impl Book {
         Ok(Progress::On(self))
     }
 
-    // ERROR.
+    // ERROR, which sets another field by `set_once`: what is left of START and ERROR is no plainer as one.
     pub fn set_error(mut self, s: u16, at: usize) -> Result<Progress, Refusal>
         ensures { (tb rows : List ℕ) (len : ℕ) → Takes self (Command.Error s) at len result tb rows tb rows }
     {

@@ -40,12 +40,10 @@ fn read_full(rt: &HostRuntime, room: &mut [u8]) -> usize {
 fn cases(rt: &HostRuntime, room: &mut [u8], text: usize) -> io::Result<()> {
     let mut start = 0;
     let mut book = text;
-    let mut i = 0;
-    while i < text {
-        i += 1;
-        if get(room, i - 1) == b'\n' {
-            book = line(rt, room, start, i - 1, text, book)?;
-            start = i;
+    for i in 0..text {
+        if get(room, i) == b'\n' {
+            book = line(rt, room, start, i, text, book)?;
+            start = i + 1;
         }
     }
     Ok(())
@@ -101,10 +99,8 @@ fn make(room: &mut [u8], mark: usize, end: usize, text: usize, book: usize) -> u
 fn decode(room: &mut [u8], mark: usize, end: usize, book: usize) -> usize {
     let mut to = book;
     let mut digits = MARK;
-    let mut i = mark;
-    while i < end {
+    for i in mark..end {
         digits = next_digits(digits, get(room, i));
-        i += 1;
         if digits >= BYTE {
             to = put(room, to, (digits % 256) as u8);
             digits = 0;

@@ -32,7 +32,8 @@ pub enum Command {
 }
 
 impl Command {
-    // The codes of the two moves: what a STEP says, a SPAN says too.
+    // The codes of the two moves: what a STEP says, a SPAN says too. A code is a byte of a book, any number: `placed`, `operands_of` and
+    // `decode` say what becomes of each, so no enum stands between.
     pub const STEP: u8 = 5;
 
     pub const SPAN: u8 = 6;

@@ -1,5 +1,5 @@
 // Bytes and numbers in decimal, written into a lent buffer. Each `put` writes from `at` on and answers the place behind what it
-// wrote.
+// wrote. By hand, since `list` promises each byte, by `decimal`, of which the lines' definitions are made.
 ghost use Rattle.std.specs.Prelude.{◌∷◌, []};
 ghost use Rattle.listing.specs.Decimal.{decimal, field, last_two};
 ghost use Rattle.listing.specs.Layers.{Room, Puts};

@@ -58,7 +58,7 @@ pub fn choose_with(
 
 // The walks of all rules over the bytes of `text` from `from` to `to`, for a caller that asks how far they go before it chooses: after how
 // many bytes, one at least, all rules stand in their error states; one more than there are where that is never so. The lengths of their
-// longest prefixes stand at the front of `lengths`.
+// longest prefixes stand at the front of `lengths`. As `choose_with` it only picks the part and the room for `steps`.
 #[tactic(auto, unfolding(crate::specs::Layers::part))]
 pub fn walk_with(
     table: &[u64],

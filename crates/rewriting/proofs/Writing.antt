@@ -1,49 +1,44 @@
 -- What the loops and stores of rewriting leave. Assumes nothing.
-use mathlib.Core.Path.{◌≡◌, ap, sym, ◌∙◌}
-use mathlib.Core.List.{List, [], ◌∷◌, ◌++◌, map, flatten}
-use Prim.Native.Nat.{ℕ, zero, suc, ◌+◌, ◌≤◌, ◌<◌}
+use mathlib.Core.Path.{◌≡◌, ap, ◌∙◌}
+use mathlib.Core.List.{List, [], ◌∷◌, ◌++◌, append-nil, append_assoc, map, flatten}
+use Prim.Native.Nat.{ℕ, zero, suc, ◌+◌, ◌-◌, ◌≤◌, ◌<◌}
+use native.Mathlib.Nat.{zero-add}
 use native.Mathlib.Omega.{arith}
 use lib.Dec.{eqb}
 use lib.ListN.{length, take, drop, length-take, length-drop, length-append, drop_of_length-le}
-use lib.Seq.{paste, get_or-take, take-length}
+use lib.Seq.{paste, take-length, take_all, drop-drop}
 use Rattle.command.specs.Commands.{byte_at, operands_of}
 use Rattle.command.proofs.Commands.{if-le}
 use Rattle.automaton.specs.Choice.{if, All}
 use Rattle.output.proofs.Filling.{Filling, filling_start, filling_room, filling_next, filling_end}
-use Rattle.rewriting.specs.Rewritten.{commands_in, span_of, modern, rewritten}
-use Rattle.rewriting.specs.Layers.{Whole, Readable, Fitting, Standing}
-use Rattle.rewriting.proofs.Pieces.{commands_none, width, commands_next, piece_first, piece_code, step-length, modern-length}
+use Rattle.rewriting.specs.Rewritten.{commands_in, modern, rewritten}
+use Rattle.rewriting.specs.Layers.{Whole, Readable, Fitting}
+use Rattle.rewriting.proofs.Pieces.{commands_none, width, commands_next, piece_first, piece_code, modern-length}
 
 -- ---- a command
+
+-- what is laid at the start of the part from `to` on is laid there in the whole
+pub paste_part : (out : List ℕ) (to : ℕ) (bytes : List ℕ) (n : ℕ) → to ≤ length out
+    → take to out ++ (paste (take (length out - to) (drop to out)) 0 bytes n ++ drop (length out - to) (drop to out)) ≡ paste out to bytes n
+paste_part out to bytes n l =
+    let a : take (length out - to) (drop to out) ≡ drop to out = take_all _ (drop to out) (simp length-drop (omega arith)) in
+    let b : drop (length out - to) (drop to out) ≡ [] = drop_of_length-le (drop to out) (simp length-drop (omega arith)) in
+    rw (a, b) (simp (append-nil, append_assoc, drop-drop, zero-add))
+
+-- a whole command of `width` bytes stands at `at`
+pub record Standing (book : List ℕ) (at width : ℕ) : Type 0 where
+  pub within : at + width ≤ length book
+  pub whole : Whole (take width (drop at book))
 
 module _ {book : List ℕ} {at width : ℕ} (s : Standing book at width) where
   abbrev piece : List ℕ
   piece = take width (drop at book)
 
-  pub standing_length : length piece ≡ width
+  standing_length : length piece ≡ width
   standing_length = omega (arith, length-take width (drop at book), length-drop at book, s.within)
 
-  pub standing_some : 0 < width
-  standing_some = omega (arith, standing_length, s.whole.operands)
-
   standing_code : byte_at piece 0 ≡ byte_at book at
-  standing_code = piece_first book at width standing_some
-
-  -- a STEP
-  module _ (e : byte_at book at ≡ 5) where
-    pub step-width : width ≡ 4
-    step-width = sym standing_length ∙ step-length piece s.whole (standing_code ∙ e)
-
-    pub step-modern : modern piece ≡ span_of (drop at book)
-    step-modern =
-        let w = step-width in
-        rw (
-          standing_code,
-          e,
-          get_or-take width (drop at book) 1 0 (omega arith),
-          get_or-take width (drop at book) 2 0 (omega arith),
-          get_or-take width (drop at book) 3 0 (omega arith),
-        )
+  standing_code = piece_first book at width (omega (arith, standing_length, s.whole.operands))
 
 -- ---- from command to command
 

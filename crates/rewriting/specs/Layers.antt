@@ -1,5 +1,5 @@
 -- What the layers of the code ask and answer between themselves. Nobody needs to believe it: the operations' contracts do not rest on it.
-use Rattle.std.specs.Prelude.{◌≡◌, List, ℕ, ◌+◌, ◌≤◌, length, take, drop}
+use Rattle.std.specs.Prelude.{◌≡◌, List, ℕ, ◌+◌, ◌≤◌, length}
 use Rattle.automaton.specs.Choice.{All}
 use Rattle.command.specs.Commands.{byte_at, operands_of}
 use Rattle.book.specs.Limits.{max_bytes}
@@ -18,8 +18,3 @@ pub record Readable (book : List ℕ) : Type 0 where
 pub record Fitting (book out : List ℕ) : Type 0 where
   pub readable : Readable book
   pub room : length (rewritten book) ≤ length out
-
--- a whole command of `width` bytes stands at `at`
-pub record Standing (book : List ℕ) (at width : ℕ) : Type 0 where
-  pub within : at + width ≤ length book
-  pub whole : Whole (take width (drop at book))

@@ -1,15 +1,15 @@
 // Rewriting an old book: a SPAN in each STEP's place, and every other command byte for byte. The rules stay the very same.
 #![tactic(auto)]
 
-ghost use Rattle.std.specs.Prelude.{◌≡◌, ◌++◌, ◌+◌, ◌≤◌, eqb, length, take, drop};
+ghost use Rattle.std.specs.Prelude.{◌≡◌, ◌++◌, ◌≤◌, eqb, length, drop};
 ghost use Rattle.std.proofs.Math.Seq.{paste};
 ghost use Rattle.automaton.specs.Choice.{if};
 ghost use Rattle.book.specs.Limits.{max_bytes};
 ghost use Rattle.output.specs.Outcome.{written_up_to};
 ghost use Rattle.output.specs.Layers.{PrintAnswered};
-ghost use Rattle.rewriting.specs.Rewritten.{span_of, modern, rewritten};
+ghost use Rattle.rewriting.specs.Rewritten.{modern, rewritten};
 ghost use Rattle.rewriting.specs.Outcome.{rewrite_outcome};
-ghost use Rattle.rewriting.specs.Layers.{Readable, Fitting, Standing};
+ghost use Rattle.rewriting.specs.Layers.{Whole, Readable, Fitting};
 
 use answer::{Reason, Refusal};
 use book::Book;
@@ -73,33 +73,24 @@ fn write_commands(book: &[u8], out: &mut [u8])
     let mut to = 0;
     while at < len {
         let width = 1 + command::operands(book[at]);
-        to += write_command(book, at, width, out, to);
+        to += write_command(&book[at..at + width], &mut out[to..]);
         at += width;
     }
 }
 
-// Writes the command of `width` bytes that stands at `at`, a STEP as its SPAN, to `out` from `to` on; the number of bytes written.
-fn write_command(book: &[u8], at: usize, width: usize, out: &mut [u8], to: usize) -> usize
-    requires standing { Standing book.now at width }
-    requires book_in_bounds { to + length (modern (take width (drop at book.now))) ≤ length out.old }
-    ensures { (result ≡ length (modern (take width (drop at book.now))))
-        × (out.new ≡ paste out.old to (modern (take width (drop at book.now))) result) }
+// Writes a whole command, a STEP as the SPAN that it means, to the start of `out`: the number of bytes written.
+fn write_command(command: &[u8], out: &mut [u8]) -> usize
+    requires whole { Whole command.now }
+    requires room { length (modern command.now) ≤ length out.old }
+    ensures { (result ≡ length (modern command.now)) × (out.new ≡ paste out.old 0 (modern command.now) result) }
 {
-    if book[at] == Command::STEP {
-        write_span(book, at, out, to);
+    if command[0] == Command::STEP {
+        let from = command[1];
+        let byte = command[2];
+        let target = command[3];
+        out[..5].copy_from_slice(&[Command::SPAN, from, byte, byte, target]);
         return 5;
     }
-    output::copy(book, at, width, out, to);
-    width
-}
-
-// Writes the SPAN that the STEP at `at` means to `out` from `to` on.
-fn write_span(book: &[u8], at: usize, out: &mut [u8], to: usize)
-    requires { (at + 4 ≤ length book.now) × (to + 5 ≤ length out.old) }
-    ensures { out.new ≡ paste out.old to (span_of (drop at book.now)) 5 }
-{
-    let from = book[at + 1];
-    let byte = book[at + 2];
-    let target = book[at + 3];
-    out[to..to + 5].copy_from_slice(&[Command::SPAN, from, byte, byte, target]);
+    out[..command.len()].copy_from_slice(command);
+    command.len()
 }

@@ -12,7 +12,7 @@ ghost use Rattle.rule_commands.specs.Layers.{rows_of, apart_at, closes_at, bytes
 use answer::{Reason, Refusal};
 use command::Command;
 
-// The codes of the commands; that of SPAN is `Command::SPAN`.
+// The codes of the commands, as `head_bytes` and its kin have them in numbers; that of SPAN is `Command::SPAN`.
 const RULE: u8 = 1;
 
 const START: u8 = 2;

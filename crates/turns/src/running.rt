@@ -9,7 +9,8 @@ ghost use Rattle.turns.specs.Layers.{Stirs, Next, Keeps, KeepRoom, RunRoom, Turn
 use answer::Turn;
 use longest_match::Choice;
 
-// Takes a turn from `place` on. A record and a mask of each token are stored where it is `writing`; else it is only told what it comes to.
+// Takes a turn from `place` on. A record and a mask of each token are stored where it is `writing`; else it is only told what it comes to:
+// `Stores` says both of one loop, and a closure that stores would hold two lent slices.
 pub fn run(
     writing: bool,
     table: &[u64],
@@ -114,7 +115,8 @@ fn next_token(
     })
 }
 
-// Stores record and mask number `k`, where it is `writing`.
+// Stores record and mask number `k`, where it is `writing`. A flag, as a turn is counted by the loop that writes it: an option of both
+// buffers asks the same at each token, and is no plainer.
 fn keep(
     writing: bool,
     records: &mut [u8],

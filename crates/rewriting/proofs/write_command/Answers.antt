@@ -1,14 +1,13 @@
--- `write_command`: by whether it is a STEP.
-use Rattle.std.proofs.Common.{◌≡◌, refl, arith}
-use Rattle.command.specs.Commands.{byte_at}
-use Rattle.rewriting.proofs.Writing.{step-width, step-modern}
+-- `write_command`: a STEP has four bytes.
+use Rattle.std.proofs.Common.{arith}
+use Rattle.rewriting.proofs.Pieces.{step-length}
 use Rattle.rewriting.proofs.write_command.Goals as goal
 
-pub write_span-requires : goal.write_span-requires
-write_span-requires c =
-    let s = c.requires.standing in
-    let e : byte_at c.args.book.now c.args.at ≡ 5 = omega arith in
-    (omega (arith, step-width s e, s.within), omega (arith, rw (step-modern s e) at c.requires.book_in_bounds))
+pub bounds-command-1 : goal.bounds-command-1
+bounds-command-1 c = omega (arith, step-length c.args.command.now c.requires.whole (omega arith))
 
-pub returns-then-book-at-eq-STEP : goal.returns-then-book-at-eq-STEP
-returns-then-book-at-eq-STEP c = rw (step-modern c.requires.standing (omega arith)) (refl, c.write_span.ensures)
+pub bounds-command-2 : goal.bounds-command-2
+bounds-command-2 c = omega (arith, step-length c.args.command.now c.requires.whole (omega arith))
+
+pub bounds-command-3 : goal.bounds-command-3
+bounds-command-3 c = omega (arith, step-length c.args.command.now c.requires.whole (omega arith))

@@ -1,8 +1,7 @@
 -- `is_idle`: the rules so far start in their error states.
-use Rattle.std.proofs.Common.{◌≡◌, [], ◌<◌, length, sym, ◌∙◌, arith, below_more}
-use borrow.Author.Tests.{eqb-true, eqb-false}
+use Rattle.std.proofs.Common.{[], ◌<◌, length, sym, ◌∙◌, arith}
+use borrow.Author.Tests.{eqb-false}
 use Rattle.automaton.specs.Rule.{walk}
-use Rattle.automaton.specs.Layers.{rule_at}
 use Rattle.turns.proofs.Reaching.{all_fail_lem, one_goes}
 use Rattle.turns.proofs.running.is_idle.Goals as goal
 
@@ -17,12 +16,6 @@ returns-then-not-starts_in_error c = λ rs h.
     let known : c.loop-k.k < length rs = omega (arith, c.count_of-k-end.ensures rs h) in
     let e = sym (c.starts_in_error.ensures _ (h.each c.loop-k.k known)) ∙ c.if-not-starts_in_error.true in
     sym (one_goes rs [] _ known (eqb-false _ _ e))
-
-pub loop-k-preserved : goal.loop-k-preserved
-loop-k-preserved c = λ rs h.
-    let known : c.loop-k.k < length rs = omega (arith, c.count_of-k-end.ensures rs h) in
-    below_more (λ j. (rule_at rs j).start ≡ (rule_at rs j).error) _ (c.loop-k.invariant rs h)
-    (eqb-true _ _ (sym (c.starts_in_error.ensures _ (h.each c.loop-k.k known)) ∙ c.if-not-starts_in_error.false))
 
 pub returns : goal.returns
 unfolding walk
