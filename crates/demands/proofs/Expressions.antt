@@ -206,8 +206,8 @@ Numbered numbers (Err f) = among (number_of f.reason) numbers ≡ true
 numbered-if : (numbers : List ℕ) (t : Bool) (reason : Reason) (place : ℕ) (out : List ℕ) (next : PrintOutcome)
     → among (number_of reason) numbers ≡ true → Numbered numbers next.answer → Numbered numbers (refused_if t reason place out next).answer
 unfolding refused_if
-numbered-if numbers true reason place out next e n = e
-numbered-if numbers false reason place out next e n = n
+numbered-if numbers true _ place out next e n = e
+numbered-if numbers false _ place out next e n = n
 
 -- of a text that spells an expression
 spelled-numbered : (numbers : List ℕ) → among 31 numbers ≡ true → among 32 numbers ≡ true → among 22 numbers ≡ true

@@ -109,7 +109,7 @@ module _ (book text : List ℕ) (place budget : ℕ) (entry masks : List ℕ) wh
       go : (o : Reading) → (turn_reading o text place budget entry masks).answer ≡ Err r
           → ((turn_reading o text place budget entry masks).records ≡ entry)
           × ((turn_reading o text place budget entry masks).masks ≡ masks)
-      go (refused reason at) q = (refl, refl)
+      go (refused _ at) q = (refl, refl)
       go (accepted rules) q = by_rules rules (ltb max_text (length text)) (ltb (length text) place)
           (ltb (room_in entry masks) (length (turn rules (drop place text) budget).tokens)) q
 
@@ -157,7 +157,7 @@ module _ (book text : List ℕ) (place budget : ℕ) (entry masks : List ℕ) wh
       go : (o : Reading) → read_book book ≡ o
           → (turn_reading o text place budget entry masks).answer ≡ turned n next examined finished
           → Accepted n next examined finished
-      go (refused reason at) r q = let y : ◌≡◌ {A = ℕ} 0 1 = cc in absurd (omega arith)
+      go (refused _ at) r q = let y : ◌≡◌ {A = ℕ} 0 1 = cc in absurd (omega arith)
       go (accepted rules) r q =
           let p = passed rules (ltb max_text (length text)) refl (ltb (length text) place) refl
           (ltb (room_in entry masks) (length (turn rules (drop place text) budget).tokens)) refl q in

@@ -39,7 +39,7 @@ module _ (text records : List ℕ) where
 
   leaves_reading : (o : Reading) → Leaves (lex_reading o text records)
   unfolding lex_rules
-  leaves_reading (refused reason place) r e = refl
+  leaves_reading (refused _ place) r e = refl
   leaves_reading (accepted rules) r e = go (ltb max_text (length text)) (ltb (record_count records) count) r e
     where
       count : ℕ
@@ -72,8 +72,8 @@ module _ (out : List ℕ) where
   pub keeps_if : (t : Bool) (reason : Reason) (place : ℕ) (next : PrintOutcome) → Keeps out next
       → Keeps out (refused_if t reason place out next)
   unfolding refused_if
-  keeps_if true reason place next h r e = refl
-  keeps_if false reason place next h r e = h r e
+  keeps_if true _ place next h r e = refl
+  keeps_if false _ place next h r e = h r e
 
   keeps_unless : (o : Option Refusal) (next : PrintOutcome) → Keeps out next → Keeps out (unless o out next)
   unfolding unless
@@ -88,14 +88,14 @@ module _ (out : List ℕ) where
 
   keeps_up_to : (most : ℕ) (reason : Reason) (w : List ℕ) → Keeps out (written_up_to most reason w out)
   unfolding written_up_to
-  keeps_up_to most reason w = keeps_if _ _ _ _ (keeps_written w)
+  keeps_up_to most _ w = keeps_if _ _ _ _ (keeps_written w)
 
   pub past_accepted : (o : PrintOutcome) (w : List ℕ) (n : ℕ) → n ≡ length w → o ≡ print_accepted w out → drop n o.out ≡ drop n out
   past_accepted o w n l e = rw (e, l) (drop_at w (drop (length w) out) (length w) refl)
 
   module _ (book : List ℕ) where
     keeps_rewrite : (o : Reading) → Keeps out (rewrite_reading o book out)
-    keeps_rewrite (refused reason place) = λ r e. refl
+    keeps_rewrite (refused _ place) = λ r e. refl
     keeps_rewrite (accepted rules) = keeps_up_to max_bytes BookTooLong (rewritten book)
 
     pub rewrite_leaves : Keeps out (rewrite_outcome book out)
@@ -108,7 +108,7 @@ module _ (out : List ℕ) where
   module _ (records pool : List ℕ) where
     keeps_print : (o : Reading) → Keeps out (print_reading o records pool out)
     unfolding print_rules print_checked
-    keeps_print (refused reason place) = λ r e. refl
+    keeps_print (refused _ place) = λ r e. refl
     keeps_print (accepted rules) =
         keeps_if _ _ _ _ (keeps_unless _ _ (keeps_if _ _ _ _ (keeps_unless _ _ (keeps_written (join (tokens_of records pool))))))
 
@@ -125,7 +125,7 @@ module _ (out : List ℕ) where
     module _ (sep : TokenRecord) (mode : ℕ) where
       keeps_space : (o : Reading) → Keeps out (separated_reading o sep mode records pool out)
       unfolding separated_rules
-      keeps_space (refused reason place) = λ r e. refl
+      keeps_space (refused _ place) = λ r e. refl
       keeps_space (accepted rules) =
           keeps_unless _ _ (keeps_up_to max_text OutputTooLong (spelled rules sep mode records pool))
 

@@ -98,7 +98,7 @@ PrintWithin numbers most (Err f) = Refused numbers most f
 
 by : {numbers : List ℕ} {most : ℕ} (reason : Reason) (place : ℕ) → among (number_of reason) numbers ≡ true → place ≤ most
     → Refused numbers most (record { reason = reason; place = place })
-by reason place e l = record { number_among = e; place-within = l }
+by _ place e l = record { number_among = e; place-within = l }
 
 among_more : (n : ℕ) (xs ys : List ℕ) → among n xs ≡ true → among n (xs ++ ys) ≡ true
 among_more n [] ys e = clash e refl
@@ -128,7 +128,7 @@ check_fair : {len : ℕ} (t : Bool) (reason : Reason) {place : ℕ} (v : Verdict
     → (t ≡ false → Fair len v) → Fair len (check t reason place v)
 unfolding check
 check_fair true reason v e l h = by reason _ e l
-check_fair false reason v e l h = h refl
+check_fair false _ v e l h = h refl
 
 module _ (d : Draft) (at len : ℕ) (room : Room d) (before : at < len) where
   here : at ≤ len
@@ -211,7 +211,7 @@ read_within (suc n) bytes at d r =
     decided : (v : Verdict) (m : ℕ) → Rest → Fair (length bytes) v → ReadWithin (length bytes) (go_on v (read_from false n bytes m))
     decided (goes e) m ih f = ih m e f
     decided (accepts rules) m ih f = f
-    decided (refuses reason place) m ih f = f
+    decided (refuses _ place) m ih f = f
 
     taken : (c : Result Decoded Reason) → Closing d.inside c → Rest → at < length bytes
         → ReadWithin (length bytes) (take_in c d at (length bytes) (read_from false n bytes))
@@ -226,7 +226,7 @@ read_within (suc n) bytes at d r =
 
 answer-within : (r : Reading) → ReadWithin max_bytes r → BookWithin book_numbers (answer r)
 answer-within (accepted rules) w = w
-answer-within (refused reason place) w = w
+answer-within (refused _ place) w = w
 
 book_read : (book : List ℕ) → ReadWithin max_bytes (read_book book)
 unfolding read_by
@@ -281,7 +281,7 @@ numbered_within P book h index = go (read_book book) refl (book_read book)
 
     go : (o : Reading) → read_book book ≡ o → ReadWithin max_bytes o → RuleWithin P (rule_reading o index)
     go (accepted rules) e w = told (length rules) w rules index (h rules e)
-    go (refused reason place) e w = of_book (18 ∷ []) (omega arith) w
+    go (refused _ place) e w = of_book (18 ∷ []) (omega arith) w
 
 pub rule_refused : (book : List ℕ) (index : ℕ) (f : Refusal) → rule_outcome book index ≡ Err f → Refused rule_numbers max_bytes f
 rule_refused book index f e = subst (RuleWithin _) e (numbered_within (λ tag kind. Unit {0}) book (λ rules z. each rules) index)
@@ -318,7 +318,7 @@ lex-within book text records = go (read_book book) (book_read book)
 
     go : (r : Reading) → ReadWithin max_bytes r → LexWithin (lex_reading r text records).answer
     go (accepted rules) w = by_rules rules (ltb max_text (length text)) refl (ltb (record_count records) (length (lex rules text).tokens))
-    go (refused reason place) w = of_book (14 ∷ 15 ∷ []) (omega arith) w
+    go (refused _ place) w = of_book (14 ∷ 15 ∷ []) (omega arith) w
 
 pub lex_refused_lem : (book text records : List ℕ) (f : Refusal) → (lex_outcome book text records).answer ≡ Err f
     → Refused lex_numbers max_text f
@@ -363,7 +363,7 @@ module _ (book text : List ℕ) (place budget : ℕ) (records masks : List ℕ) 
       go : (r : Reading) → ReadWithin max_bytes r → TurnWithin (turn_reading r text place budget records masks).answer
       go (accepted rules) w = by_rules rules (ltb max_text (length text)) refl (ltb (length text) place)
           (ltb (room_in records masks) (length (turn rules (drop place text) budget).tokens))
-      go (refused reason at) w = of_book (14 ∷ 27 ∷ 15 ∷ []) (omega arith) w
+      go (refused _ at) w = of_book (14 ∷ 27 ∷ 15 ∷ []) (omega arith) w
 
   pub turn_refused_lem : (f : Refusal) → (turn_outcome book text place budget records masks).answer ≡ Err f
       → Refused turn_numbers max_text f
@@ -399,7 +399,7 @@ module _ (numbers : List ℕ) (most : ℕ) where
       → (t ≡ false → Refusing numbers most next) → Refusing numbers most (refuse t reason place next)
   unfolding refuse
   refuse-within true reason next e l h = by reason _ e l
-  refuse-within false reason next e l h = h refl
+  refuse-within false _ next e l h = h refl
 
   refuse_by_within : (o : Option Reason) {place : ℕ} (next : Option Refusal) → Numbered numbers o → place ≤ most
       → Refusing numbers most next → Refusing numbers most (refuse_by o place next)
@@ -426,7 +426,7 @@ module _ (numbers : List ℕ) (most : ℕ) where
       → (t ≡ false → PrintWithin numbers most next.answer) → PrintWithin numbers most (refused_if t reason place out next).answer
   unfolding refused_if
   refused_if-within true reason out next e l h = by reason _ e l
-  refused_if-within false reason out next e l h = h refl
+  refused_if-within false _ out next e l h = h refl
 
   unless-within : (o : Option Refusal) (out : List ℕ) (next : PrintOutcome) → Refusing numbers most o
       → PrintWithin numbers most next.answer → PrintWithin numbers most (unless o out next).answer
@@ -467,7 +467,7 @@ rewrite_within book out = go (read_book book) (book_read book)
     go : (r : Reading) → ReadWithin max_bytes r → PrintWithin rewrite_numbers max_bytes (rewrite_reading r book out).answer
     go (accepted rules) w =
         up_to_within rewrite_numbers max_bytes max_bytes BookTooLong refl refl (omega arith) (omega arith) (rewritten book) out
-    go (refused reason place) w = of_book (22 ∷ []) (omega arith) w
+    go (refused _ place) w = of_book (22 ∷ []) (omega arith) w
 
 -- ---- making a rule of an expression
 
@@ -485,7 +485,7 @@ made_if : (t : Bool) (reason : Reason) {place : ℕ} (out : List ℕ) (next : Pr
     → (t ≡ false → RuleMade next.answer) → RuleMade (refused_if t reason place out next).answer
 unfolding refused_if
 made_if true reason out next e l h = by reason _ e l
-made_if false reason out next e l h = h refl
+made_if false _ out next e l h = h refl
 
 pub compile_within : (tag kind : ℕ) (text out : List ℕ) → RuleMade (compile_outcome tag kind text out).answer
 unfolding compile_outcome
@@ -529,7 +529,7 @@ print_within book records pool out = go (read_book book) (book_read book)
 
     go : (r : Reading) → ReadWithin max_bytes r → PrintWithin print_numbers max_text (print_reading r records pool out).answer
     go (accepted rules) w = by_rules rules
-    go (refused reason place) w = of_book (16 ∷ 17 ∷ 18 ∷ 19 ∷ 20 ∷ 21 ∷ 22 ∷ []) (omega arith) w
+    go (refused _ place) w = of_book (16 ∷ 17 ∷ 18 ∷ 19 ∷ 20 ∷ 21 ∷ 22 ∷ []) (omega arith) w
 
 pub print_refused_lem : (book records pool out : List ℕ) (f : Refusal) → (print_outcome book records pool out).answer ≡ Err f
     → Refused print_numbers max_text f
@@ -544,9 +544,9 @@ print_accepted_lem book records pool out bytes e = subst (PrintWithin print_numb
 or_else_number : (numbers : List ℕ) (fault : Option Reason) (test : Bool) (reason : Reason) → Numbered numbers fault
     → among (number_of reason) numbers ≡ true → Numbered numbers (or_else fault test reason)
 unfolding or_else
-or_else_number numbers (some n) test reason f e = f
-or_else_number numbers none true reason f e = e
-or_else_number numbers none false reason f e = tt
+or_else_number numbers (some n) test _ f e = f
+or_else_number numbers none true _ f e = e
+or_else_number numbers none false _ f e = tt
 
 shared-within : (most : ℕ) → 256 ≤ most → (rules : List Rule) → Refusing separated_numbers most (sharing (shared_byte rules))
 unfolding shared_byte lowest_from sharing
@@ -609,7 +609,7 @@ separated-within book sep mode records pool out = go (read_book book) (book_read
         (before (sharing (shared_byte rules)) _ (shared-within most (omega (arith, limit)) rules) (list rules))
         (up_to_within separated_numbers most max_text OutputTooLong refl refl (omega (arith, limit)) (omega arith)
         (spelled rules sep mode records pool) out)
-    go (refused reason place) w = of_book (23 ∷ 24 ∷ 17 ∷ 18 ∷ 19 ∷ 25 ∷ 16 ∷ 26 ∷ 20 ∷ 22 ∷ []) (omega (arith, limit)) w
+    go (refused _ place) w = of_book (23 ∷ 24 ∷ 17 ∷ 18 ∷ 19 ∷ 25 ∷ 16 ∷ 26 ∷ 20 ∷ 22 ∷ []) (omega (arith, limit)) w
 
 pub separated_refused : (book : List ℕ) (sep : TokenRecord) (mode : ℕ) (records pool out : List ℕ) (f : Refusal)
     → (separated_outcome book sep mode records pool out).answer ≡ Err f → Refused separated_numbers (farthest records) f
