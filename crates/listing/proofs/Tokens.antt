@@ -1,5 +1,4 @@
 -- What is printed of an accepted cut is a line for each of its tokens, and the rest. Assumes nothing.
-use Rattle.answer.specs.declared.Reason.{Reason}
 use mathlib.Core.Path.{◌≡◌, refl, sym, ◌∙◌, ap}
 use mathlib.Core.List.{List, [], ◌∷◌, ◌++◌, append_assoc, append-nil}
 use Prim.Native.Nat.{ℕ, zero, suc, ◌+◌, ◌-◌, ◌*◌, ◌<◌, ◌≤◌}
@@ -28,7 +27,7 @@ use Rattle.listing.proofs.Bounds.{byte_at_lem, place_is, length_is}
 
 -- ---- a token more
 
-lines_snoc : (reason : Reason) (place : ℕ) (ts : List Token) (t : Token)
+lines_snoc : (number place : ℕ) (ts : List Token) (t : Token)
     → token_lines number place (ts ++ (t ∷ []))
     ≡ token_lines number place ts ++ token_line (number + length ts) t.tag (place + length (join ts)) (length t.bytes)
 unfolding token_lines

@@ -1,6 +1,6 @@
 -- The checks of the code: the search for a separator rule, the faults of tokens, the passes over a list. Assumes nothing.
 use Rattle.answer.specs.declared.Reason.TheVariants.{NoSeparator, SeparatorInList, SharedByte, TooManyTokens, UnknownMode}
-use Rattle.std.specs.Prelude.{Result, Ok, Err, Option as Maybe, Some, None}
+use Rattle.std.specs.Prelude.{Result, Err, Option as Maybe, Some, None}
 use Rattle.answer.specs.declared.Reason.{Reason}
 use Rattle.answer.specs.declared.Refusal.{Refusal}
 use mathlib.Core.Path.{◌≡◌, refl, sym, ◌∙◌}

@@ -1,5 +1,4 @@
 -- The table holds the rules of an accepted book.
-use Rattle.std.proofs.Common.{rules}
 use Rattle.reader.proofs.Loaded.{loaded_held}
 use Rattle.book_reader.proofs.Rules.{inspects_accepted, inspects_refused}
 use Rattle.book_reader.proofs.inspect_with.Goals as goal

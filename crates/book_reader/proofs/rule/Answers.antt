@@ -1,4 +1,3 @@
-use Rattle.std.proofs.Common.{rules}
 use Rattle.book_reader.specs.Rules.{rule_outcome}
 use Rattle.book_reader.proofs.rule.Goals as goal
 

@@ -1,7 +1,6 @@
 -- By the rule of that number in the table.
-use Rattle.std.proofs.Common.{rules, arith, List, ◌≤◌, ◌<◌}
-use Rattle.automaton.specs.Rule.{Rule}
-use Rattle.automaton.specs.Layers.{rule_at, Holds, Tabled}
+use Rattle.std.proofs.Common.{arith}
+use Rattle.automaton.specs.Layers.{rule_at}
 use Rattle.book_reader.proofs.Rules.{rule-past, rule_told}
 use Rattle.book_reader.proofs.rule_in.Goals as goal
 

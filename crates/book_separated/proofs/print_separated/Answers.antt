@@ -1,5 +1,5 @@
 -- A list that is short has room in a small scratch.
-use Rattle.std.proofs.Common.{rules, arith, ℕ, ◌≤◌, ◌≡◌, length, replicate}
+use Rattle.std.proofs.Common.{arith, ℕ, ◌≡◌, length, replicate}
 use Rattle.std.proofs.lemmas.List.{length-replicate}
 use Rattle.separated.proofs.Rooms.{roomy_small}
 use Rattle.book_separated.proofs.print_separated.Goals as goal

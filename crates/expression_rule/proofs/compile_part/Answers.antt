@@ -20,7 +20,7 @@ pub returns-in-Some : goal.returns-in-Some
 returns-in-Some c = λ e h.
     let f = c.explore.ensures.found _ c.in-Some.is in
     let n : length (take c.in-Some.count c.explore.new.sets) ≡ c.in-Some.count =
-        simp length-take (omega (arith, found_few f, c.explore.array_long)) in
+    simp length-take (omega (arith, found_few f, c.explore.array_long)) in
     rw (found_all _ _ h _ (omega arith) (omega arith) c.told-takers c.told-follow f)
     (c.write_states.ensures _ (rw n (found_stood c.told-takers f)))
 

@@ -1,5 +1,4 @@
 -- `write_states`: the rows and final states are what `write_rule` is given.
-use Rattle.std.proofs.Common.{rules}
 use Rattle.expression_rule.proofs.Compiling.{stood_rows}
 use Rattle.expression_rule.proofs.write_states.Goals as goal
 

@@ -1,5 +1,5 @@
 -- `list`: there are as many masks as records, and the lines of every outcome fit.
-use Rattle.std.proofs.Common.{rules, arith, ◌∙◌, ◌≤◌}
+use Rattle.std.proofs.Common.{arith, ◌∙◌, ◌≤◌}
 use Rattle.record.specs.Records.{record_count}
 use Rattle.record.specs.Masks.{mask_count}
 use Rattle.lexer.proofs.Masking.{masked_room}

@@ -1,5 +1,5 @@
 -- `put_line`: a word, then two numbers.
-use Rattle.std.proofs.Common.{rules, arith}
+use Rattle.std.proofs.Common.{arith}
 use Rattle.listing.proofs.Putting.{puts_copied, puts_then, room-first, room_second}
 use Rattle.listing.proofs.put_line.Goals as goal
 

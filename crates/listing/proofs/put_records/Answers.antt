@@ -1,5 +1,5 @@
 -- `put_records`: a line more.
-use Rattle.std.proofs.Common.{rules, arith}
+use Rattle.std.proofs.Common.{arith}
 use Rattle.listing.proofs.Listing.{going_start, going-room, going_next, going_end}
 use Rattle.listing.proofs.put_records.Goals as goal
 

@@ -1,5 +1,5 @@
 -- `print_rules` answers `separated_rules`.
-use Rattle.std.proofs.Common.{rules, sym, ◌∙◌}
+use Rattle.std.proofs.Common.{sym, ◌∙◌}
 use Rattle.std.proofs.lemmas.Result.{err_from_is_err_and}
 use Rattle.separated.proofs.Answering.{unrefused, answered_fault, answered_passed}
 use Rattle.separated.proofs.print_rules.Goals as goal

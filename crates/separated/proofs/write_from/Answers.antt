@@ -1,5 +1,5 @@
 -- `write_from` answers `writing`.
-use Rattle.std.proofs.Common.{rules, arith, sym, length-drop}
+use Rattle.std.proofs.Common.{arith, sym, length-drop}
 use Rattle.separated.proofs.Answering.{answered_written}
 use Rattle.separated.proofs.write_from.Goals as goal
 

@@ -1,8 +1,8 @@
 -- `is_due` answers `follows`, by what is chosen at the token.
-use Rattle.std.proofs.Common.{rules, arith, sym, ◌∙◌}
+use Rattle.std.proofs.Common.{sym, ◌∙◌}
 use Rattle.longest_match.proofs.Parts.{part_end}
 use Rattle.longest_match.proofs.Held.{held_empty}
-use Rattle.spacing.proofs.Due.{due_last, due_always, due_more, due_no, due_by, due_none}
+use Rattle.spacing.proofs.Due.{due_last, due_always, due_more, due_by, due_none}
 use Rattle.spacing.proofs.is_due.Goals as goal
 
 pub returns-then-last : goal.returns-then-last

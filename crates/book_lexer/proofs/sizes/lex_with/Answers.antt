@@ -1,5 +1,4 @@
 -- The table holds the rules of an accepted book.
-use Rattle.std.proofs.Common.{rules}
 use Rattle.std.proofs.lemmas.Result.{err_from_is_err_and}
 use Rattle.reader.proofs.Loaded.{loaded_held}
 use Rattle.lexer.proofs.Outcomes.{answered_book, answered_refused}

@@ -1,5 +1,5 @@
 -- A table of zeros of a size that suits the book.
-use Rattle.std.proofs.Common.{rules, arith}
+use Rattle.std.proofs.Common.{arith}
 use Rattle.reader.proofs.Sizes.{suits_lent}
 use Rattle.book_lexer.proofs.sizes.rest_in.Goals as goal
 

@@ -1,5 +1,4 @@
 -- The table holds the rules of an accepted book.
-use Rattle.std.proofs.Common.{rules}
 use Rattle.reader.proofs.Loaded.{loaded_held}
 use Rattle.lexer.proofs.Outcomes.{rest_book, rest_refused}
 use Rattle.book_lexer.proofs.sizes.rest_with.Goals as goal

@@ -1,5 +1,5 @@
 -- `put_byte`: one store.
-use Rattle.std.proofs.Common.{rules, arith}
+use Rattle.std.proofs.Common.{arith}
 use Rattle.listing.proofs.Putting.{puts-byte}
 use Rattle.listing.proofs.digits.put_byte.Goals as goal
 

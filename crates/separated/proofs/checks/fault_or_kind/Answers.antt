@@ -1,5 +1,5 @@
 -- `fault_or_kind`: the fault, or what the kind comes to.
-use Rattle.std.proofs.Common.{rules, sym, ◌∙◌}
+use Rattle.std.proofs.Common.{sym, ◌∙◌}
 use Rattle.separated.proofs.Checking.{or_fault, or_kind}
 use Rattle.separated.proofs.checks.fault_or_kind.Goals as goal
 

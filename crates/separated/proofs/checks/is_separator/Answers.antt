@@ -1,5 +1,5 @@
 -- `is_separator`: a rule of the tag is a separator or not.
-use Rattle.std.proofs.Common.{rules, arith, sym, ◌∙◌}
+use Rattle.std.proofs.Common.{arith, sym, ◌∙◌}
 use Rattle.automaton.specs.Layers.{rule_at}
 use Rattle.separated.proofs.Checking.{plainly_start, plainly_other, plainly_plain, plainly_end, separator-found}
 use Rattle.separated.proofs.checks.is_separator.Goals.{else-tag_of-tag-via-then-tag_of-tag+else-kind_of-eq1, else-tag_of-tag-via-else-tag_of-tag}

@@ -1,5 +1,5 @@
 -- `put_list`: a turn puts one token.
-use Rattle.std.proofs.Common.{rules, arith, refl, ◌≡◌, ◌+◌, ◌-◌}
+use Rattle.std.proofs.Common.{arith, refl, ◌≡◌, ◌+◌, ◌-◌}
 use Rattle.spacing.proofs.Separated.{from, from_last}
 use Rattle.spacing.proofs.Putting.{spaced_inside, spaced_alone, putting_start, putting_next, putting_full, putting_end}
 use Rattle.spacing.proofs.spelling.put_list.Goals as goal

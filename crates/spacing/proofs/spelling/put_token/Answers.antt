@@ -1,5 +1,5 @@
 -- `put_token`: a separator goes in where `follows` says so.
-use Rattle.std.proofs.Common.{rules, arith, sym, ◌∙◌, drop}
+use Rattle.std.proofs.Common.{sym, ◌∙◌, drop}
 use Rattle.record.specs.Tokens.{bytes_in}
 use Rattle.output.proofs.Placing.{behind}
 use Rattle.spacing.proofs.Putting.{token_alone, token_both, token_full, token-ahead}
