@@ -1,6 +1,6 @@
 // Lexing, and the place of the rest, with a table of the size that the book needs: a word for four of its bytes, and 66 beside them. The
 // sizes double, and each table is a local of a call of its own: a call clears, and takes of the stack, what its book needs
-// (docs/DECISIONS.md, "Sizes by need").
+// (docs/DECISIONS.md, "Sizes by need"). The seven arms stand in five crates: a closure that is lent the table would hold the caller's lent buffers, and is no plainer.
 ghost use Rattle.std.specs.Prelude.{length};
 ghost use Rattle.reader.specs.Layers.{Lent, Suits};
 ghost use Rattle.lexer.specs.Outcome.{rest_of};
