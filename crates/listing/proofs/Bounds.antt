@@ -155,7 +155,7 @@ module _ (text records out : List ℕ) (size : length records ≡ record_bytes) 
 
   fit_reading : (o : Reading) → OutcomeFits (lex_reading o text records) text out
   fit_reading (accepted rules) = fit_rules rules
-  fit_reading (refused reason place) = omega arith
+  fit_reading (refused _ _) = omega arith
 
   -- the lines of every outcome fit
   fit_outcome : (book : List ℕ) → OutcomeFits (lex_outcome book text records) text out

@@ -15,5 +15,5 @@ unfolding separated_outcome separated_rules separated_refusal list_refusal
 zero_outcome book sep records pool out = go (read_book book)
   where
     go : (o : Reading) → separated_reading o sep 0 records pool out ≡ separated_reading o sep 2 records pool out
-    go (refused reason place) = refl
+    go (refused _ _) = refl
     go (accepted rules) = rw (zero_spares rules (token_in pool sep) (tokens_of records pool))

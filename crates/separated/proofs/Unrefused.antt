@@ -132,8 +132,8 @@ none_faults fault (r ∷ rs) k (e, h) = rw (e, none_faults fault rs (suc k) h)
 
 refuse_none : (t : Bool) (reason : Reason) (place : ℕ) (next : Option Refusal) → refuse t reason place next ≡ none → (t ≡ false) × (next ≡ none)
 unfolding refuse
-refuse_none true reason place next e = nothing e refl
-refuse_none false reason place next e = (refl, e)
+refuse_none true why place next e = nothing e refl
+refuse_none false why place next e = (refl, e)
 
 refuse_by_none : (o : Option Reason) (place : ℕ) (next : Option Refusal) → refuse_by o place next ≡ none → (o ≡ none) × (next ≡ none)
 unfolding refuse_by

@@ -20,8 +20,8 @@ use Rattle.shared_bytes.specs.Kinds.{separates}
 
 -- the fault, or else this reason where the test holds
 unfoldable pub or_else : Option Reason → Bool → Reason → Option Reason
-or_else (some fault) test reason = some fault
-or_else none test reason = if test (some reason) none
+or_else (some fault) test why = some fault
+or_else none test why = if test (some why) none
 
 -- the separator token: the fault of any token, else 25 where no separator rule has its tag
 unfoldable pub separator_fault : List Rule → List ℕ → TokenRecord → Option Reason
