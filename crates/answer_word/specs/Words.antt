@@ -74,6 +74,7 @@ first_in w = w / 268435456 % 268435456
 abbrev pub second_in : ℕ → ℕ
 second_in w = w % 268435456
 
+-- of a word that a call answers, whose number is one of the table
 abbrev pub refusal_in : ℕ → Refusal
 refusal_in w = record { reason = reason_of (number_in w); place = place_in w }
 

@@ -20,7 +20,7 @@ pub record LexOutcome : Type 0 where
   pub answer : Result Cut Refusal
   pub records : List ℕ
 
--- refused by this number at this place, with the records as they were
+-- refused for this reason at this place, with the records as they were
 abbrev pub lex_refused : Reason → ℕ → List ℕ → LexOutcome
 lex_refused reason place records =
     record { answer = Err (record { reason = reason; place = place }); records = records }

@@ -20,7 +20,7 @@ pub record TurnOutcome : Type 0 where
   pub records : List ℕ
   pub masks : List ℕ
 
--- refused by this number at this place, with the records and the masks as they were
+-- refused for this reason at this place, with the records and the masks as they were
 abbrev pub turn_refused : Reason → ℕ → List ℕ → List ℕ → TurnOutcome
 turn_refused reason place records masks =
     record { answer = Err (record { reason = reason; place = place }); records = records; masks = masks }
