@@ -68,7 +68,7 @@ impl ByteSet {
 
 // Marks the bytes from `low` to `high`, both included.
 pub fn mark_range(marks: &mut [bool; 256], low: usize, high: usize)
-    requires { (high < 256) × (length marks.old ≡ 256) }
+    requires { high < 256 }
     ensures { Ranged low high marks.old marks.new }
 {
     // One byte, without a loop.

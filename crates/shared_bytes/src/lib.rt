@@ -15,7 +15,7 @@ use used_bytes::Workspace;
 
 // Marks the bytes that the transitions of rule number `rule` cover.
 fn cover(table: &[u64], rule: usize, set: &mut [bool; 256])
-    requires { Tabled table.now rule × (length set.old ≡ 256) }
+    requires { Tabled table.now rule }
     ensures { (m : Rule) → Table table.now rule m → MarksAll m.transitions set.old set.new }
 {
     let first = automaton::first_of(table, rule);

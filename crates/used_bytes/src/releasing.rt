@@ -11,7 +11,7 @@ use automaton::words;
 
 // Marks the bytes of the transitions of the chain from `head`.
 pub fn mark_chain(words: &[u64], head: usize, set: &mut [bool; 256])
-    requires { Chained words.now head × (length set.old ≡ 256) }
+    requires { Chained words.now head }
     ensures { (first : ℕ) (ts : List Transition) → Chain words.now first head ts
         → MarksAll ts set.old set.new }
 {
@@ -35,8 +35,7 @@ pub fn let_go(
     count: usize,
     set: &mut [bool; 256],
 ) -> usize
-    requires { (bound : ℕ) × Leading bound waiting.now head × Working bound good.old stamp queue.old count
-        × (length set.old ≡ 256) }
+    requires { (bound : ℕ) × Leading bound waiting.now head × Working bound good.old stamp queue.old count }
     ensures { (bound : ℕ) (base : List ℕ) → Worklist bound good.old stamp queue.old count base
         → (first : ℕ) (ts : List Transition) → Chain waiting.now first head ts
         → Lets bound waiting.now first head ts stamp base queue.old count set.old
@@ -56,8 +55,7 @@ pub fn release(
     queue: &mut [u64],
     set: &mut [bool; 256],
 )
-    requires { (bound : ℕ) × Waits bound waiting.now rows.now stamp × (s < bound) × Working bound good.old stamp queue.old 0
-        × (length set.old ≡ 256) }
+    requires { (bound : ℕ) × Waits bound waiting.now rows.now stamp × (s < bound) × Working bound good.old stamp queue.old 0 }
     ensures { (bound : ℕ) (base : List ℕ) → Worklist bound good.old stamp queue.old 0 base
         → among s base ≡ true
         → (end : ℕ) (us : List Transition) → Built waiting.now rows.now stamp edge_start end [] us

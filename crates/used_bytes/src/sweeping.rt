@@ -46,7 +46,7 @@ pub fn sweep_chain(
     end: usize,
     set: &mut [bool; 256],
 ) -> Swept
-    requires { Passing table.now head from good.now stamp waiting.old rows.old end × (length set.old ≡ 256) }
+    requires { Passing table.now head from good.now stamp waiting.old rows.old end }
     ensures { (bound first : ℕ) (ts us : List Transition) (gs : List ℕ) → Chain table.now first head ts
         → All (λ (t : Transition). t.from ≡ from) ts → Waiting bound waiting.old rows.old stamp end us
         → ((x : ℕ) → eqb (get_or good.now x 0) stamp ≡ among x gs)

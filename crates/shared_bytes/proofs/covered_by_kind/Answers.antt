@@ -10,10 +10,7 @@ pub kind_of-requires : goal.kind_of-requires
 kind_of-requires c = tabled_at c.requires (omega (arith, c.count_of-count.ensures c.requires.rules c.requires.holds))
 
 pub cover-requires : goal.cover-requires
-cover-requires c = (
-  tabled_at c.requires (omega (arith, c.count_of-count.ensures c.requires.rules c.requires.holds)),
-  (c.loop-k.invariant c.requires.rules c.requires.holds).size,
-)
+cover-requires c = tabled_at c.requires (omega (arith, c.count_of-count.ensures c.requires.rules c.requires.holds))
 
 pub loop-k-preserved : goal.loop-k-preserved
 loop-k-preserved c = λ rs h.

@@ -5,15 +5,15 @@ use Rattle.used_bytes.proofs.releasing.mark_chain.Goals as goal
 
 pub offset_bounds-words-h : goal.offset_bounds-words-h
 offset_bounds-words-h c =
-    let a = c.requires.0 in
+    let a = c.requires in
     omega (arith, (bytes_at (c.loop-h.invariant a.first a.transitions a.chain) (omega arith)).link.edge.room, c.well_formed.0.1)
 
 pub bounds-words-h : goal.bounds-words-h
-bounds-words-h c = let a = c.requires.0 in (bytes_at (c.loop-h.invariant a.first a.transitions a.chain) (omega arith)).link.edge.room
+bounds-words-h c = let a = c.requires in (bytes_at (c.loop-h.invariant a.first a.transitions a.chain) (omega arith)).link.edge.room
 
 pub loop-h-smaller : goal.loop-h-smaller
 loop-h-smaller c =
-    let a = c.requires.0 in
+    let a = c.requires in
     rw c.next-h.ensures (bytes_at (c.loop-h.invariant a.first a.transitions a.chain) (omega arith)).link.back
 
 pub loop-h-preserved : goal.loop-h-preserved

@@ -9,7 +9,7 @@ use Rattle.used_bytes.proofs.releasing.release.Goals as goal
 pub let_go-n-requires : goal.let_go-n-requires
 let_go-n-requires c =
     let a = c.requires in
-    (a.0, waits_leading a.1 a.2 c.head-head.ensures, a.3, a.4)
+    (a.0, waits_leading a.1 a.2 c.head-head.ensures, a.3)
 
 pub offset_bounds-queue-next : goal.offset_bounds-queue-next
 offset_bounds-queue-next c =
@@ -50,7 +50,7 @@ let_go-n-requires-in-loop-next c =
     (waits_chain a.1.built (omega (arith, a.2, a.1.within)) c.head-head.ensures) in
     let v = c.loop-next.invariant a.0 a.3.base o.follows.worklist a.1.end a.1.transitions a.1.built in
     let l : c.state-x.result < a.0 = omega (arith, c.state-x.ensures, releasing_below v (omega arith)) in
-    (a.0, waits_leading a.1 l c.head-first.ensures, record { base = a.3.base; worklist = v.worklist }, v.size)
+    (a.0, waits_leading a.1 l c.head-first.ensures, record { base = a.3.base; worklist = v.worklist })
 
 pub loop-next-preserved : goal.loop-next-preserved
 loop-next-preserved c = λ bound base w end us k.

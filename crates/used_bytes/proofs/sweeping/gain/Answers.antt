@@ -9,7 +9,7 @@ use Rattle.used_bytes.proofs.sweeping.gain.Goals as goal
 pub release-requires : goal.release-requires
 release-requires c =
     let a = c.requires in
-    (a.bound, a.waits, a.below, record { base = _; worklist = worklist_gain a.working.worklist _ a.below }, a.size)
+    (a.bound, a.waits, a.below, record { base = _; worklist = worklist_gain a.working.worklist _ a.below })
 
 pub returns-then-head-ne0 : goal.returns-then-head-ne0
 returns-then-head-ne0 c = λ bound m end gs us w e.

@@ -7,30 +7,30 @@ use Rattle.used_bytes.proofs.Swept.{going_passing, waiting_waits}
 use Rattle.used_bytes.proofs.sweeping.sweep_chain.Goals as goal
 
 pub loop-h-init : goal.loop-h-init
-loop-h-init c = λ bound first ts us gs k f w e. going_start k f w c.requires.1 refl
+loop-h-init c = λ bound first ts us gs k f w e. going_start k f w (omega arith) refl
 
 pub offset_bounds-table-h : goal.offset_bounds-table-h
 offset_bounds-table-h c =
-    let a = c.requires.0 in
+    let a = c.requires in
     omega (arith, (going_here (going_passing a c.loop-h.invariant) (omega arith) a.leading.below).room, c.well_formed.0.1)
 
 pub bounds-table-h : goal.bounds-table-h
 bounds-table-h c =
-    let a = c.requires.0 in
+    let a = c.requires in
     (going_here (going_passing a c.loop-h.invariant) (omega arith) a.leading.below).room
 
 pub bounds-good-state : goal.bounds-good-state
 bounds-good-state c =
-    let a = c.requires.0 in
+    let a = c.requires in
     rw (c.state.ensures ∙ ap state_of c.spot.ensures)
     (omega (arith, (going_here (going_passing a c.loop-h.invariant) (omega arith) a.leading.below).to, a.cells))
 
 pub mark_range-requires : goal.mark_range-requires
-mark_range-requires c = (omega (arith, c.high.ensures), (going_passing c.requires.0 c.loop-h.invariant).size)
+mark_range-requires c = omega (arith, c.high.ensures)
 
 pub wait-requires : goal.wait-requires
 wait-requires c =
-    let a = c.requires.0 in
+    let a = c.requires in
     let w = going_passing a c.loop-h.invariant in
     let r = going-room w (omega arith) in (
       a.bound,
@@ -43,16 +43,16 @@ wait-requires c =
     )
 
 pub overflow_add-at : goal.overflow_add-at
-overflow_add-at c = let a = c.requires.0 in omega (arith, going-room (going_passing a c.loop-h.invariant) (omega arith), a.short)
+overflow_add-at c = let a = c.requires in omega (arith, going-room (going_passing a c.loop-h.invariant) (omega arith), a.short)
 
 pub loop-h-smaller : goal.loop-h-smaller
 loop-h-smaller c =
-    let a = c.requires.0 in
+    let a = c.requires in
     rw c.next-h.ensures (going_here (going_passing a c.loop-h.invariant) (omega arith) a.leading.below).back
 
 pub loop-h-smaller-then-good-state : goal.loop-h-smaller-then-good-state
 loop-h-smaller-then-good-state c =
-    let a = c.requires.0 in
+    let a = c.requires in
     rw c.next-h.ensures (going_here (going_passing a c.loop-h.invariant) (omega arith) a.leading.below).back
 
 pub loop-h-preserved-then-good-state : goal.loop-h-preserved-then-good-state

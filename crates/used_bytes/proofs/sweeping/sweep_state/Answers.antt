@@ -10,7 +10,7 @@ sweep_chain-swept-requires c =
     let a = c.requires in
     let g = c.gain.ensures a.bound a.rule c.args.end a.states a.transitions a.sweeping
     (final-ends c.args.spot a.sweeping a.led.led (c.is_final.ensures ∙ a.led.spot.final) c.state-s.ensures) in
-    (led_passing a.led c.head.ensures c.state-s.ensures a.tos g.sweeping a.room a.short a.stamp_below, g.sweeping.size)
+    led_passing a.led c.head.ensures c.state-s.ensures a.tos g.sweeping a.room a.short a.stamp_below
 
 pub gain-requires-2 : goal.gain-requires-2
 gain-requires-2 c =
