@@ -59,8 +59,8 @@ fn count_row(row: &[u8]) -> usize
 }
 
 // The number of SPANs of the first `rows` states.
-fn count_spans(targets: &[u8], rows: usize) -> usize
-    requires { (rows ≤ 256) × (256 * rows ≤ length targets.now) }
+fn count_spans(targets: &[u8; 65536], rows: usize) -> usize
+    requires { rows ≤ 256 }
     ensures { (result ≡ length (spans_of 0 (rows_of targets.now rows))) × (result ≤ 65536) }
 {
     let mut count = 0;
@@ -122,8 +122,8 @@ fn write_row(from: u8, row: &[u8], out: &mut [u8], to: usize) -> usize
 }
 
 // Those of the first `rows` states.
-fn write_spans(targets: &[u8], rows: usize, out: &mut [u8], to: usize) -> usize
-    requires rows_bound { (rows ≤ 256) × (256 * rows ≤ length targets.now) }
+fn write_spans(targets: &[u8; 65536], rows: usize, out: &mut [u8], to: usize) -> usize
+    requires rows_bound { rows ≤ 256 }
     requires rows_in_bounds { to + length (bytes_of (spans_of 0 (rows_of targets.now rows))) ≤ length out.old }
     ensures { Put (bytes_of (spans_of 0 (rows_of targets.now rows))) to out.old result out.new }
 {
@@ -139,11 +139,11 @@ fn write_commands(
     tag: u16,
     kind: u8,
     finals: &[u8],
-    targets: &[u8],
+    targets: &[u8; 65536],
     rows: usize,
     out: &mut [u8],
 ) -> usize
-    requires table { (rows ≤ 256) × (256 * rows ≤ length targets.now) }
+    requires table { rows ≤ 256 }
     requires rows_in_bounds { length (table_bytes tag kind finals.now (rows_of targets.now rows)) ≤ length out.old }
     ensures { Put (table_bytes tag kind finals.now (rows_of targets.now rows)) 0 out.old result out.new }
 {

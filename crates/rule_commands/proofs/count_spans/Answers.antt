@@ -12,4 +12,4 @@ loop-k-preserved c =
     (c.count_row-count.ensures.0 k ∙ ap (λ (r : List ℕ). length (row_spans k r)) row, c.count_row-count.ensures.1)
 
 pub returns : goal.returns
-returns c = counting_end c.loop-k.invariant c.loop-k-test.false c.requires.0
+returns c = counting_end c.loop-k.invariant c.loop-k-test.false c.requires
