@@ -38,8 +38,8 @@ if [ -z "${NO_RE2C:-}" ]; then
     set -- "$@" -DHAVE_RE2C
 fi
 if [ -n "${OLD:-}" ]; then
-    ar p "$OLD" zagvulem.o >"$dir/old.o"
-    for call in read_book read_book_strict rule rewrite_book lex lex_within lex_builtin print print_separated; do
+    ar p "$OLD" >"$dir/old.o"
+    for call in read_book read_book_strict rule rewrite_book compile lex lex_within lex_builtin print print_separated; do
         objcopy --redefine-sym "zgv_$call=old_zgv_$call" "$dir/old.o"
     done
     set -- "$@" -DHAVE_OLD ${OLD_MASKS:+-DOLD_MASKS} "$dir/old.o"
