@@ -15,8 +15,8 @@ flags="-std=c99 -O2 -Iinclude -Ibench"
 
 mkdir -p "$dir"
 rm -f "$dir"/layout-*
-ar p "$old" zagvulem.o >"$dir/old.o"
-for call in read_book read_book_strict rule rewrite_book lex lex_within lex_builtin print print_separated; do
+ar p "$old" >"$dir/old.o"
+for call in read_book read_book_strict rule rewrite_book compile lex lex_within lex_builtin print print_separated; do
     objcopy --redefine-sym "zgv_$call=old_zgv_$call" "$dir/old.o"
 done
 $cc $flags -DHAVE_OLD ${OLD_MASKS:+-DOLD_MASKS} -c bench/bench.c -o "$dir/earlier.o"

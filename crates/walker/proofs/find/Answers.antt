@@ -1,22 +1,27 @@
-use Rattle.std.proofs.Common.{sym, ◌∙◌, ◌≡◌}
-use Rattle.automaton.specs.Layers.{edge_at}
+use Rattle.std.proofs.Common.{sym, ◌∙◌, arith}
+use Rattle.automaton.proofs.Chains.{chained_step}
 use Rattle.walker.proofs.Finding.{finding_next, finding_hit, finding_end}
 use Rattle.walker.proofs.find.Goals as goal
 
-pub returns-then-covers : goal.returns-then-covers
-returns-then-covers c =
-    let s = c.in-Some.ensures.steps in
-    let e : c.in-Some.e ≡ edge_at c.args.table.now c.loop-e.e-iterator.link = rw (← c.loop-e.invariant.0) s.word in
-    finding_hit c.loop-e.invariant.1 s.some (rw (← e) (sym c.covers.ensures ∙ c.if-covers.true)) (rw (← e) c.spot.ensures)
+pub offset_bounds-table-h : goal.offset_bounds-table-h
+offset_bounds-table-h c = omega (arith, (chained_step c.loop-h.invariant.0 (omega arith)).room, c.well_formed.0.1)
 
-pub loop-e-preserved : goal.loop-e-preserved
-loop-e-preserved c =
-    let s = c.in-Some.ensures.steps in
-    let e : c.in-Some.e ≡ edge_at c.args.table.now c.loop-e.e-iterator.link = rw (← c.loop-e.invariant.0) s.word in (
-      s.same ∙ c.loop-e.invariant.0,
-      finding_next c.loop-e.invariant.1 s.some (rw (← e) (sym c.covers.ensures ∙ c.if-covers.false))
-          (rw (← c.loop-e.invariant.0) s.next) s.lower,
+pub bounds-table-h : goal.bounds-table-h
+bounds-table-h c = (chained_step c.loop-h.invariant.0 (omega arith)).room
+
+pub loop-h-smaller : goal.loop-h-smaller
+loop-h-smaller c = rw c.next-h.ensures (chained_step c.loop-h.invariant.0 (omega arith)).back
+
+pub returns-then-covers : goal.returns-then-covers
+returns-then-covers c = finding_hit c.loop-h.invariant.1 (omega arith) (sym c.covers.ensures ∙ c.if-covers.true) c.spot.ensures
+
+pub loop-h-preserved : goal.loop-h-preserved
+loop-h-preserved c =
+    let s = chained_step c.loop-h.invariant.0 (omega arith) in (
+      rw c.next-h.ensures s.rest,
+      finding_next c.loop-h.invariant.1 (omega arith) (sym c.covers.ensures ∙ c.if-covers.false) c.next-h.ensures
+          (rw c.next-h.ensures s.back),
     )
 
 pub returns : goal.returns
-returns c = finding_end c.loop-e.invariant.1 c.in-None.ensures.steps.0
+returns c = finding_end c.loop-h.invariant.1 (omega arith)

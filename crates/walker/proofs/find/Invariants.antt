@@ -1,6 +1,9 @@
-use Rattle.std.proofs.Common.{◌≡◌}
+use Rattle.automaton.specs.Layers.{Chained}
 use Rattle.walker.proofs.Finding.{Finding}
 use Rattle.walker.proofs.find.Given as goal
 
-abbrev pub invariant-loop-e : goal.invariant-loop-e
-invariant-loop-e l = (l.e-iterator.table.now ≡ l.table) × Finding l.table l.head l.byte l.e-iterator.link
+abbrev pub invariant-loop-h : goal.invariant-loop-h
+invariant-loop-h l = Chained l.table l.h × Finding l.table l.head l.byte l.h
+
+abbrev pub decreases-loop-h : goal.decreases-loop-h
+decreases-loop-h l = l.h
