@@ -72,6 +72,12 @@ mask_none n (m ∷ ms) l =
     let e : m ≡ n → ⊥ = λ z. omega arith in
     rw (ne_eqb m n e, mask_none n ms (omega arith))
 
+-- the greatest of the lengths from k on, and the mask of those that are as great, where any is more than 0
+pub record Passed (ns : List ℕ) (k len mask : ℕ) : Type 0 where
+  pub longest : len ≡ greatest (drop k ns)
+  pub some : 0 < len → mask ≡ mask_of len (drop k ns)
+  pub none : len ≡ 0 → mask ≡ 0
+
 -- A rule agrees on a stretch just where its longest prefix is as long, if it is not longer.
 agrees-longest : (r : Rule) (text : List ℕ) (len : ℕ) → 0 < len → len ≤ length text → longest r text ≤ len
     → eqb (longest r text) len ≡ matches r (take len text)

@@ -85,11 +85,14 @@ fn longest_of(lengths: &[usize]) -> Option<Longest>
     for k in (0..lengths.len()).rev() {
         mask *= 2;
         let n = lengths[k];
-        if len < n {
-            len = n;
-            mask = 1;
-        } else if len == n {
-            mask += 1;
+        // Most rules match nothing: a branch that is foretold, so that the next walk need not wait for the comparisons.
+        if n != 0 {
+            if len < n {
+                len = n;
+                mask = 1;
+            } else if len == n {
+                mask += 1;
+            }
         }
     }
     if len == 0 {
