@@ -11,6 +11,7 @@ use mathlib.Core.Bool.{Bool, true, false}
 use Prim.Native.Nat.{ℕ, ◌≤◌}
 use native.Mathlib.Omega.{arith}
 use lib.Dec.{eqb}
+use Rattle.std.proofs.Math.Option.{some}
 use Rattle.answer.specs.declared.Refusal.{Refusal}
 use Rattle.answer_word.specs.Words.{largest_place, largest_value, refusal_word, accepted_word, book_word, rule_word, lex_word, print_word}
 use Rattle.answer_word.specs.Words.{turn_word, next_after, examined_after, turn_answer_in}
@@ -56,7 +57,7 @@ module _ (first second : ℕ) (l : first ≤ largest_value) (m : second ≤ larg
   accepted_second = omega arith
 
 -- the reason is had back from its number, which is not 0
-reason_kept : (r : Reason) → reason_of (number_of r) ≡ r
+reason_kept : (r : Reason) → reason_of (number_of r) ≡ some r
 reason_kept reason.BookTooLong = refl
 reason_kept reason.CutOff = refl
 reason_kept reason.Misplaced = refl
@@ -130,7 +131,7 @@ module _ {f : Refusal} (r : RefusalFits f) where
   refused_place : place_in (refusal_word f) ≡ f.place
   refused_place = omega (arith, r.place-within)
 
-  refusal_kept : refusal_in (refusal_word f) ≡ f
+  refusal_kept : refusal_in (refusal_word f) ≡ some f
   refusal_kept = rw (refused_number, refused_place, reason_kept f.reason)
 
   refused_some : eqb (number_in (refusal_word f)) 0 ≡ false
@@ -138,31 +139,31 @@ module _ {f : Refusal} (r : RefusalFits f) where
 
 -- ---- answers
 
-pub book_kept : (a : Result ℕ Refusal) → BookFits a → book_answer_in (book_word a) ≡ a
+pub book_kept : (a : Result ℕ Refusal) → BookFits a → book_answer_in (book_word a) ≡ some a
 book_kept (Ok n) l = rw (accepted_number n 0 l (omega arith), accepted_first n 0 l (omega arith))
 book_kept (Err f) w = rw (refused_some w, refusal_kept w)
 
-pub rule_kept : (a : Result RuleName Refusal) → RuleFits a → rule_answer_in (rule_word a) ≡ a
+pub rule_kept : (a : Result RuleName Refusal) → RuleFits a → rule_answer_in (rule_word a) ≡ some a
 rule_kept (Ok r) (l, m) = rw (accepted_number r.tag r.kind l m, accepted_first r.tag r.kind l m, accepted_second r.tag r.kind l m)
 rule_kept (Err f) w = rw (refused_some w, refusal_kept w)
 
-pub lex_kept : (a : Result Cut Refusal) → LexFits a → lex_answer_in (lex_word a) ≡ a
+pub lex_kept : (a : Result Cut Refusal) → LexFits a → lex_answer_in (lex_word a) ≡ some a
 lex_kept (Ok cut) (l, m) =
     rw (accepted_number cut.tokens cut.rest l m, accepted_first cut.tokens cut.rest l m, accepted_second cut.tokens cut.rest l m)
 lex_kept (Err f) w = rw (refused_some w, refusal_kept w)
 
 -- with the two numbers that are left beside the word, whatever stood there before
 pub turn_kept : (a : Result Turn Refusal) (next examined : ℕ) → TurnFits a
-    → turn_answer_in (turn_word a) (next_after a next) (examined_after a examined) ≡ a
+    → turn_answer_in (turn_word a) (next_after a next) (examined_after a examined) ≡ some a
 turn_kept (Ok turn) next examined l = told turn.finished refl
   where
-    told : (b : Bool) → turn.finished ≡ b → turn_answer_in (turn_word (Ok turn)) turn.next turn.examined ≡ Ok turn
+    told : (b : Bool) → turn.finished ≡ b → turn_answer_in (turn_word (Ok turn)) turn.next turn.examined ≡ some (Ok turn)
     told true e =
         rw (e, accepted_number turn.tokens 1 l (omega arith), accepted_first turn.tokens 1 l (omega arith), accepted_second turn.tokens 1 l (omega arith))
     told false e =
         rw (e, accepted_number turn.tokens 0 l (omega arith), accepted_first turn.tokens 0 l (omega arith), accepted_second turn.tokens 0 l (omega arith))
 turn_kept (Err f) next examined w = rw (refused_some w, refusal_kept w)
 
-pub print_kept : (a : Result ℕ Refusal) → PrintFits a → print_answer_in (print_word a) ≡ a
+pub print_kept : (a : Result ℕ Refusal) → PrintFits a → print_answer_in (print_word a) ≡ some a
 print_kept (Ok n) l = rw (accepted_number n 0 l (omega arith), accepted_first n 0 l (omega arith))
 print_kept (Err f) w = rw (refused_some w, refusal_kept w)

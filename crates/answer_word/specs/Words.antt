@@ -4,12 +4,13 @@
 use Rattle.answer.specs.Refusals.{number_of, reason_of}
 use Rattle.answer.specs.declared.Cut.{Cut}
 use Rattle.answer.specs.declared.RuleName.{RuleName}
+use Rattle.answer.specs.declared.Reason.{Reason}
 use Rattle.answer.specs.declared.Turn.{Turn}
 use Rattle.std.specs.Prelude.{Result, Ok, Err}
 use Rattle.answer.specs.Answers.{lexed, named, turned}
-use Rattle.std.specs.Prelude.{ℕ, ◌+◌, ◌*◌, ◌/◌, ◌%◌, min, eqb}
+use Rattle.std.specs.Prelude.{Bool, true, false, ℕ, ◌+◌, ◌*◌, ◌/◌, ◌%◌, min, eqb}
+use Rattle.std.proofs.Math.Option.{Option, none, some}
 use Rattle.answer.specs.declared.Refusal.{Refusal}
-use Rattle.automaton.specs.Choice.{if}
 use Rattle.longest_match.specs.Masks.{bit}
 
 -- ---- An answer's word.
@@ -74,23 +75,33 @@ first_in w = w / 268435456 % 268435456
 abbrev pub second_in : ℕ → ℕ
 second_in w = w % 268435456
 
--- of a word that a call answers, whose number is one of the table
-abbrev pub refusal_in : ℕ → Refusal
-refusal_in w = record { reason = reason_of (number_in w); place = place_in w }
+abbrev pub refusal_for : Option Reason → ℕ → Option Refusal
+refusal_for (some why) place = some (record { reason = why; place = place })
+refusal_for none place = none
 
-abbrev pub book_answer_in : ℕ → Result ℕ Refusal
-book_answer_in w = if (eqb (number_in w) 0) (Ok (first_in w)) (Err (refusal_in w))
+-- none of a word whose number is no refusal's
+abbrev pub refusal_in : ℕ → Option Refusal
+refusal_in w = refusal_for (reason_of (number_in w)) (place_in w)
 
-abbrev pub rule_answer_in : ℕ → Result RuleName Refusal
-rule_answer_in w = if (eqb (number_in w) 0) (named (first_in w) (second_in w)) (Err (refusal_in w))
+-- what is accepted where the number is 0, else the refusal; nothing where there is none
+abbrev pub said : {A : Type 0} → Bool → Result A Refusal → Option Refusal → Option (Result A Refusal)
+said true accepted refusal = some accepted
+said false accepted (some f) = some (Err f)
+said false accepted none = none
 
-abbrev pub lex_answer_in : ℕ → Result Cut Refusal
-lex_answer_in w = if (eqb (number_in w) 0) (lexed (first_in w) (second_in w)) (Err (refusal_in w))
+abbrev pub book_answer_in : ℕ → Option (Result ℕ Refusal)
+book_answer_in w = said (eqb (number_in w) 0) (Ok (first_in w)) (refusal_in w)
+
+abbrev pub rule_answer_in : ℕ → Option (Result RuleName Refusal)
+rule_answer_in w = said (eqb (number_in w) 0) (named (first_in w) (second_in w)) (refusal_in w)
+
+abbrev pub lex_answer_in : ℕ → Option (Result Cut Refusal)
+lex_answer_in w = said (eqb (number_in w) 0) (lexed (first_in w) (second_in w)) (refusal_in w)
 
 -- with the two numbers beside it
-abbrev pub turn_answer_in : ℕ → ℕ → ℕ → Result Turn Refusal
+abbrev pub turn_answer_in : ℕ → ℕ → ℕ → Option (Result Turn Refusal)
 turn_answer_in w next examined =
-    if (eqb (number_in w) 0) (turned (first_in w) next examined (eqb (second_in w) 1)) (Err (refusal_in w))
+    said (eqb (number_in w) 0) (turned (first_in w) next examined (eqb (second_in w) 1)) (refusal_in w)
 
-abbrev pub print_answer_in : ℕ → Result ℕ Refusal
-print_answer_in w = if (eqb (number_in w) 0) (Ok (first_in w)) (Err (refusal_in w))
+abbrev pub print_answer_in : ℕ → Option (Result ℕ Refusal)
+print_answer_in w = said (eqb (number_in w) 0) (Ok (first_in w)) (refusal_in w)

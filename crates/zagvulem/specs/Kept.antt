@@ -1,5 +1,6 @@
--- An answer's word loses nothing: read as C reads it, it says the answer of the call, in every case.
+-- An answer's word loses nothing: read as C reads it, it says the answer of the call, in every case; and no word of another number says it.
 use Rattle.std.specs.Prelude.{◌≡◌, Bool, List, ℕ, ◌<◌, ◌≤◌}
+use Rattle.std.proofs.Math.Option.{some}
 use Rattle.automaton.specs.Choice.{All}
 use Rattle.reader.specs.Reading.{read_by, answer}
 use Rattle.book_reader.specs.Rules.{rule_outcome}
@@ -16,30 +17,30 @@ use Rattle.answer_word.specs.Words.{book_answer_in, rule_answer_in, lex_answer_i
 
 -- zgv_read_book, and zgv_read_book_strict, which is strict
 abbrev pub BookWordKept : Type 0
-BookWordKept = (strict : Bool) (book : List ℕ) → book_answer_in (book_word (answer (read_by strict book))) ≡ answer (read_by strict book)
+BookWordKept = (strict : Bool) (book : List ℕ) → book_answer_in (book_word (answer (read_by strict book))) ≡ some (answer (read_by strict book))
 
 -- zgv_rewrite_book
 abbrev pub RewriteWordKept : Type 0
 RewriteWordKept =
-    (book out : List ℕ) → print_answer_in (print_word (rewrite_outcome book out).answer) ≡ (rewrite_outcome book out).answer
+    (book out : List ℕ) → print_answer_in (print_word (rewrite_outcome book out).answer) ≡ some (rewrite_outcome book out).answer
 
 -- zgv_compile
 abbrev pub CompileWordKept : Type 0
 CompileWordKept =
     (tag kind : ℕ) (text out : List ℕ)
-    → print_answer_in (print_word (compile_outcome tag kind text out).answer) ≡ (compile_outcome tag kind text out).answer
+    → print_answer_in (print_word (compile_outcome tag kind text out).answer) ≡ some (compile_outcome tag kind text out).answer
 
 -- zgv_rule, of a book that is a run of bytes: two of them make a tag
 abbrev pub RuleWordKept : Type 0
 RuleWordKept =
     (book : List ℕ) → All (λ (b : ℕ). b < 256) book → (index : ℕ)
-    → rule_answer_in (rule_word (rule_outcome book index)) ≡ rule_outcome book index
+    → rule_answer_in (rule_word (rule_outcome book index)) ≡ some (rule_outcome book index)
 
 -- zgv_lex, and zgv_lex_builtin, whose book is `builtin_bytes`
 abbrev pub LexWordKept : Type 0
 LexWordKept =
     (book text records masks : List ℕ)
-    → lex_answer_in (lex_word (masked_outcome book text records masks).answer) ≡ (masked_outcome book text records masks).answer
+    → lex_answer_in (lex_word (masked_outcome book text records masks).answer) ≡ some (masked_outcome book text records masks).answer
 
 -- zgv_lex_within, with the numbers that it leaves beside the word, whatever stood there before
 abbrev pub TurnWordKept : Type 0
@@ -48,17 +49,17 @@ TurnWordKept =
     → turn_answer_in (turn_word (turn_outcome book text place budget records masks).answer)
     (next_after (turn_outcome book text place budget records masks).answer next)
     (examined_after (turn_outcome book text place budget records masks).answer examined)
-    ≡ (turn_outcome book text place budget records masks).answer
+    ≡ some (turn_outcome book text place budget records masks).answer
 
 -- zgv_print
 abbrev pub PrintWordKept : Type 0
 PrintWordKept =
     (book records pool out : List ℕ)
-    → print_answer_in (print_word (print_outcome book records pool out).answer) ≡ (print_outcome book records pool out).answer
+    → print_answer_in (print_word (print_outcome book records pool out).answer) ≡ some (print_outcome book records pool out).answer
 
 -- zgv_print_separated: the separator token is refused at the list's length, which no limit holds down
 abbrev pub SeparatedWordKept : Type 0
 SeparatedWordKept =
     (book : List ℕ) (sep : TokenRecord) (mode : ℕ) (records pool out : List ℕ) → record_count records ≤ largest_place
     → print_answer_in (print_word (separated_outcome book sep mode records pool out).answer)
-    ≡ (separated_outcome book sep mode records pool out).answer
+    ≡ some (separated_outcome book sep mode records pool out).answer
