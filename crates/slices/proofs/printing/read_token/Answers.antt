@@ -2,6 +2,7 @@
 use Rattle.std.proofs.Common.{◌≡◌, sym, ◌∙◌, ap, eq-eqb, ne_eqb}
 use Rattle.longest_match.specs.Layers.{chosen_len}
 use Rattle.longest_match.proofs.Parts.{part-front}
+use Rattle.slices.specs.Layers.{refused_stage}
 use Rattle.slices.proofs.printing.read_token.Goals as goal
 use Rattle.slices.proofs.printing.read_token.Goals.{in-Some, in-None}
 
@@ -30,5 +31,5 @@ returns-else-most-len c = λ rs h.
       rule = _;
       most = _;
       chooses = c.choose.ensures.chooses rs _ h (part-front _ _ _);
-      result = rw (e, ne_eqb _ _ c.if-most-len.false, ← c.at.ensures) c.refuse.ensures;
+      result = rw (e, ne_eqb _ _ c.if-most-len.false) (c.refuse.ensures ∙ ap refused_stage c.at.ensures);
     }
