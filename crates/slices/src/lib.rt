@@ -1,9 +1,9 @@
 // Lexing into and printing from a slice of token structs, for callers inside the server; lexing fills a slice of masks beside it.
-// `lexing` and `printing` go by the rules that a table holds.
+// `lexing` and `printing` go by the rules that a table holds, and offer the same token by token.
 #![tactic(auto)]
 
-mod lexing;
-mod printing;
+pub mod lexing;
+pub mod printing;
 
 ghost use Rattle.std.specs.Prelude.{◌≡◌};
 ghost use Rattle.record.specs.Encoding.{encoded};

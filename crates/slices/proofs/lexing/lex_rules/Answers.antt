@@ -1,40 +1,23 @@
--- `lex_rules`: each return is one case of the outcome by rules.
-use Rattle.std.proofs.Common.{◌≤◌, length, arith}
-use Rattle.record.specs.Encoding.{encoded}
-use Rattle.record.specs.Masks.{mask_bytes}
+-- `lex_rules`: what `check_room` refuses, or the tokens stored.
+use Rattle.std.proofs.Common.{arith}
+use Rattle.std.proofs.lemmas.Result.{err_from_is_err_and}
 use Rattle.record.proofs.Encoding.{count_encoded}
 use Rattle.record.proofs.Masks.{count_mask_bytes}
-use Rattle.longest_match.specs.Lexer.{lex}
-use Rattle.lexer.proofs.ByRules.{room_in, answered_long, answered_few, answered_lexed, enough, room_of}
+use Rattle.lexer.proofs.ByRules.{answered_lexed, room_of}
 use Rattle.slices.proofs.lexing.lex_rules.Goals as goal
-use Rattle.slices.proofs.lexing.lex_rules.Goals.{then-room-text+else-room-needed, else-room-text}
 
-pub returns-then-text-gt-TEXT : goal.returns-then-text-gt-TEXT
-returns-then-text-gt-TEXT c = λ rs h. rw c.at.ensures (answered_long rs _ _ _ (omega arith))
+pub returns-in_err-check_room : goal.returns-in_err-check_room
+returns-in_err-check_room c = λ rs h.
+    let p = err_from_is_err_and c.from_residual.result c.from_residual.ensures.1 in
+    rw (p.1, p.2)
+    (c.in_err-check_room.ensures rs h _ _ (omega (arith, count_encoded c.args.tokens.now, count_mask_bytes c.args.masks.now)))
 
-pub returns-then-room-needed : goal.returns-then-room-needed
-returns-then-room-needed c = λ rs h.
-    rw c.at-then-room-needed.ensures
-    (answered_few rs _ _ _ (omega arith) (c.count-needed.ensures rs h)
-    (omega (arith, c.if-room-needed.true, count_encoded c.args.tokens.now, count_mask_bytes c.args.masks.now)))
-
--- there is room enough, counted or not
 pub fill-requires-clause-room : goal.fill-requires-clause-room
 fill-requires-clause-room c = room_of c.requires (λ rs h.
-    let a = count_encoded c.args.tokens.now in
-    let b = count_mask_bytes c.args.masks.now in
-    elim c.if-room-text.branch [
-      | then-room-text+else-room-needed w ↦ omega (arith, (w.count-needed.ensures rs h).tokens_are, w.if-room-needed.false)
-      | else-room-text w ↦ omega (arith, enough rs _ _ w.if-room-text.false)
-    ])
+    omega (arith, (c.in_ok-check_room.ensures rs h).enough, count_encoded c.args.tokens.now, count_mask_bytes c.args.masks.now))
 
 pub returns : goal.returns
 returns c = λ rs h.
-    let a = count_encoded c.args.tokens.now in
-    let b = count_mask_bytes c.args.masks.now in
-    let l : length (lex rs c.args.text.now).tokens ≤ room_in (encoded c.args.tokens.now) (mask_bytes c.args.masks.now) =
-    elim c.if-room-text.branch [
-      | then-room-text+else-room-needed w ↦ omega (arith, (w.count-needed.ensures rs h).tokens_are, w.if-room-needed.false)
-      | else-room-text w ↦ omega (arith, enough rs _ _ w.if-room-text.false)
-    ] in
-    answered_lexed rs _ _ _ (omega arith) l (c.fill.ensures.cuts rs h) (c.fill.ensures.fills rs h)
+    let w = c.in_ok-check_room.ensures rs h in
+    answered_lexed rs _ _ _ w.short (omega (arith, w.enough, count_encoded c.args.tokens.now, count_mask_bytes c.args.masks.now))
+    (c.fill.ensures.cuts rs h) (c.fill.ensures.fills rs h)
