@@ -1,5 +1,5 @@
 // One automaton for all five rules of the built-in book of document 01, by byte classes: one table step a byte.
-ghost use Rattle.std.specs.Prelude.{◌≡◌, ◌≤◌, MatchOption, length, drop};
+ghost use Rattle.std.specs.Prelude.{◌≡◌, ◌/◌, ◌≤◌, MatchOption, length, get_or, drop};
 ghost use Rattle.std.proofs.Math.Option.{none};
 ghost use Rattle.longest_match.specs.Lexer.{choose};
 ghost use Rattle.builtin.specs.Book.{builtin_rules};
@@ -20,6 +20,22 @@ const ACCEPTING: usize = 160;
 pub struct Match {
     pub state: usize,
     pub len: usize,
+}
+
+// The tag of state `s`, from a table of them.
+pub fn tag_of(tags: &[u8; 16], s: usize) -> u8
+    requires { State s }
+    ensures { result ≡ get_or tags.now (s / 16) 0 }
+{
+    tags[s / 16]
+}
+
+// Its mask.
+pub fn mask_of(masks: &[u32; 16], s: usize) -> u32
+    requires { State s }
+    ensures { result ≡ get_or masks.now (s / 16) 0 }
+{
+    masks[s / 16]
 }
 
 // The first place from `from` on whose byte leads away from state `s`. No turn waits for the table step of the one before, which is

@@ -89,6 +89,30 @@ const TAGS: [u8; 16] = [0, 0, 0, 0, 0, 0, 0, 0, 0, 0, 5, 5, 2, 3, 4, 1];
 // The mask of the rules that match in each state, bit k for rule number k.
 const MASKS: [u32; 16] = [0, 0, 0, 0, 0, 0, 0, 0, 0, 0, 16, 16, 2, 4, 8, 1];
 
+pub fn classes() -> [u8; 256]
+    ensures { result ≡ class_table }
+{
+    CLASSES
+}
+
+pub fn next_states() -> [u8; 256]
+    ensures { result ≡ next_table }
+{
+    NEXT
+}
+
+pub fn tags() -> [u8; 16]
+    ensures { result ≡ tag_table }
+{
+    TAGS
+}
+
+pub fn masks() -> [u32; 16]
+    ensures { result ≡ mask_table }
+{
+    MASKS
+}
+
 // All four. They are made once for a text and lent to the loops: a constant that is indexed in a loop would be laid out anew at every turn.
 #[derive(Drop)]
 pub struct Tables {
@@ -105,10 +129,10 @@ pub struct Tables {
 impl Tables {
     pub fn new() -> Self {
         Tables {
-            classes: CLASSES,
-            next: NEXT,
-            tags: TAGS,
-            masks: MASKS,
+            classes: classes(),
+            next: next_states(),
+            tags: tags(),
+            masks: masks(),
         }
     }
 

@@ -108,7 +108,7 @@ fn shared_in<const STATES: usize, const WORDS: usize>(table: &[u64]) -> Option<u
     let mut plain = ByteSet::empty();
     let mut separators = ByteSet::empty();
     for k in 0..rules {
-        let set = used_bytes::used_by(table, k, &mut space);
+        let set = space.used_by(table, k);
         let kind = automaton::kind_of(table, k);
         plain = plain.joined_where(kind == 0, set);
         separators = separators.joined_where(kind == 1, set);

@@ -11,7 +11,7 @@ ghost use Rattle.std.specs.Prelude.{◌≡◌, ℕ, ◌+◌, ◌<◌};
 ghost use Rattle.automaton.specs.Rule.{Rule, used};
 ghost use Rattle.automaton.specs.Layers.{Table};
 ghost use Rattle.byte_set.specs.Layers.{mark};
-ghost use Rattle.used_bytes.specs.Layers.{RoomIn, Fitted};
+ghost use Rattle.used_bytes.specs.Layers.{Room, RoomIn, Fitted};
 
 use byte_set::ByteSet;
 
@@ -26,29 +26,59 @@ pub struct Workspace<const STATES: usize, const WORDS: usize> {
     pub rows: [u32; STATES],
 }
 
+impl<const STATES: usize, const WORDS: usize> Workspace<STATES, WORDS> {
+    // `used_by` in this workspace.
+    pub fn used_by(&mut self, table: &[u64], rule: usize) -> ByteSet
+        requires { (bound : ℕ) × (edges : ℕ) × Fitted bound edges table.now rule
+            × RoomIn bound edges (rule + 1) self.old }
+        ensures by_index { (bound edges : ℕ) → RoomIn bound edges (rule + 1) self.old → RoomIn bound edges (rule + 2) self.new }
+        ensures b_value { (m : Rule) → Table table.now rule m → (b : ℕ) → b < 256 → mark result b ≡ used m b }
+    {
+        used_by(
+            table,
+            rule,
+            &mut self.seen,
+            &mut self.spots,
+            &mut self.good,
+            &mut self.queue,
+            &mut self.waiting,
+            &mut self.rows,
+        )
+    }
+}
+
 // The used bytes of rule number `rule`. The working storage may hold what earlier rules have left there.
-pub fn used_by<const STATES: usize, const WORDS: usize>(
+pub fn used_by(
     table: &[u64],
     rule: usize,
-    space: &mut Workspace<STATES, WORDS>,
+    seen: &mut [u8],
+    spots: &mut [u64],
+    good: &mut [u8],
+    queue: &mut [u64],
+    waiting: &mut [u64],
+    rows: &mut [u32],
 ) -> ByteSet
     requires { (bound : ℕ) × (edges : ℕ) × Fitted bound edges table.now rule
-        × RoomIn bound edges (rule + 1) space.old }
-    ensures by_index { (bound edges : ℕ) → RoomIn bound edges (rule + 1) space.old → RoomIn bound edges (rule + 2) space.new }
+        × Room bound edges (rule + 1) seen.old spots.old good.old queue.old waiting.old rows.old }
+    ensures by_index { (bound edges : ℕ)
+        → Room bound edges (rule + 1) seen.old spots.old good.old queue.old
+        waiting.old rows.old
+        → Room bound edges (rule + 2) seen.new spots.new good.new queue.new
+        waiting.new rows.new }
     ensures b_value { (m : Rule) → Table table.now rule m → (b : ℕ) → b < 256 → mark result b ≡ used m b }
 {
     let stamp = (rule + 1) as u8;
-    let states = crate::reaching::reach(table, rule, &mut space.seen, stamp, &mut space.spots);
+    let states = crate::reaching::reach(table, rule, seen, stamp, spots);
     let mut set = ByteSet::empty();
     crate::sweeping::sweep(
         table,
-        &space.spots,
+        spots,
         states,
-        &mut space.good,
+        good,
         stamp,
-        &mut space.queue,
-        &mut space.waiting,
-        &mut space.rows,
+        queue,
+        waiting,
+        rows,
         &mut set.marks,
     );
     set

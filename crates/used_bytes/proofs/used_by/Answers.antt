@@ -5,7 +5,7 @@ use Rattle.used_bytes.proofs.Useful.{reaches-room}
 use Rattle.used_bytes.proofs.used_by.Goals as goal
 
 pub sweep-requires : goal.sweep-requires
-sweep-requires g c =
+sweep-requires c =
     let a = c.requires in
     record {
       bound = a.0;
@@ -21,11 +21,11 @@ sweep-requires g c =
     }
 
 pub returns-clause-by_index : goal.returns-clause-by_index
-returns-clause-by_index g c = λ bound edges o.
+returns-clause-by_index c = λ bound edges o.
     let a = c.requires in
     reaches-room _ (c.reach-states.ensures bound o.unseen a.2.rule a.2.table) (c.sweep.ensures.by_index bound edges o.storage)
 
 pub returns-clause-b_value : goal.returns-clause-b_value
-returns-clause-b_value g c = λ m t.
+returns-clause-b_value c = λ m t.
     let a = c.requires in
     c.sweep.ensures.by_index_2 a.0 _ m t _ (c.reach-states.ensures a.0 a.3.unseen m t)
