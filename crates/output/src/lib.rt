@@ -11,12 +11,15 @@ use answer::{Reason, Refusal};
 use record::TokenRecord;
 
 // Copies `len` bytes of `from`, from `place` on, to `to` from `at` on. Places, not two slices: what callers go on from is that the rest of
-// `to` stays, which `paste` of the whole says.
+// `to` stays, which `paste` of the whole says. A loop of its own: `copy_from_slice` calls memmove, which an archive for C would then want
+// from outside.
 pub fn copy(from: &[u8], place: usize, len: usize, to: &mut [u8], at: usize)
     requires { (place + len ≤ length from.now) × (at + len ≤ length to.old) }
     ensures { to.new ≡ paste to.old at (drop place from.now) len }
 {
-    to[at..at + len].copy_from_slice(&from[place..place + len]);
+    for i in 0..len {
+        to[at + i] = from[place + i];
+    }
 }
 
 // Stores `len` bytes of the pool, from `place` on, in front of what is written from `at` on: where what is written then begins, or that
