@@ -91,6 +91,6 @@ fn write_command(command: &[u8], out: &mut [u8]) -> usize
         out[..5].copy_from_slice(&[Command::SPAN, from, byte, byte, target]);
         return 5;
     }
-    out[..command.len()].copy_from_slice(command);
+    output::copy(command, 0, command.len(), out, 0);
     command.len()
 }
