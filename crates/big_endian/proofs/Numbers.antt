@@ -4,13 +4,14 @@ use mathlib.Core.List.{List}
 use Prim.Native.Nat.{ℕ, ◌+◌, ◌*◌, ◌/◌, ◌%◌, ◌<◌, ◌≤◌}
 use native.Mathlib.Omega.{arith}
 use native.Mathlib.Nat.{div-add-mod', div-div-eq-div-mul}
+use native.Mathlib.Numerals.{add-two}
 use lib.Seq.{sets}
 use lib.ListN.{length, take, drop}
 use borrow.Rule.Slice.PartMut.{put_mid}
 use Rattle.std.proofs.lemmas.List.Edits.{sets-eq}
 use Rattle.std.proofs.Common.{append_assoc}
 use Rattle.std.proofs.lemmas.List.{drop-drop}
-use Rattle.big_endian.specs.Numbers.{two, four}
+use Rattle.big_endian.specs.Numbers.{two_at, four_at, two, four}
 
 pub two_value : (n : ℕ) → n < 65536 → n / 256 % 256 * 256 + n % 256 ≡ n
 two_value n l = omega arith
@@ -25,6 +26,15 @@ four_value n l =
 
     middle : n / 65536 * 256 + n / 256 % 256 ≡ n / 256
     middle = rw (div-div-eq-div-mul n 256 256) at (div-add-mod' (n / 256) 256)
+
+-- four bytes are two and two, read and stored
+pub four_read : (l : List ℕ) (i : ℕ) → two_at l i * 65536 + two_at l (i + 2) ≡ four_at l i
+four_read l i =
+    let e : i + 2 + 1 ≡ i + 3 = omega arith in
+    rw e (omega arith)
+
+pub four-stored : (l : List ℕ) (i n : ℕ) → sets (sets l i (two (n / 65536))) (i + 2) (two n) ≡ sets l i (four n)
+four-stored l i n = rw (add-two, div-div-eq-div-mul n 65536 256)
 
 -- the lowest bytes are those of what is left over the rest
 pub two_low : (n : ℕ) → two (n % 65536) ≡ two n

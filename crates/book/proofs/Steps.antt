@@ -16,7 +16,7 @@ use borrow.Author.Tests.{eq-eqb, ne_eqb, leb-false, ltb-false, le-leb, lt-leb, l
 use Rattle.automaton.specs.Choice.{if, any, among}
 use Rattle.automaton.specs.Rule.{Transition, Rule, meets, overlaps, state_count}
 use Rattle.automaton.proofs.Listed.{listed_length, listed_below}
-use Rattle.automaton.specs.Layers.{edge_word, bare_spot, leaving, Chain}
+use Rattle.automaton.specs.Layers.{edge_word, bare_spot, leaving, Chain, Held}
 use Rattle.automaton.proofs.Tests.{or_true, or_false}
 use Rattle.table_builder.specs.Layers.{row_word, cell_at, head_in, final_in, shares, Built}
 use Rattle.table_builder.proofs.Built.{head_none, head_some, meets-shares, built_order}
@@ -183,7 +183,7 @@ module _ {b : Book} {tb rows : List ℕ} {d : Draft} (h : Represents b tb rows d
 -- ---- what the commands inside a rule ask
 
 -- the states of a move in range
-move_below : (from low high to : ℕ) {t : Bool} → t ≡ ltb high low || (no_state from || no_state to) → t ≡ false
+pub move_below : (from low high to : ℕ) {t : Bool} → t ≡ ltb high low || (no_state from || no_state to) → t ≡ false
     → (from < state_count) × (to < state_count)
 move_below from low high to seen inside-range =
     let states : no_state from || no_state to ≡ false = (or_false (ltb high low) (no_state from || no_state to) (sym seen ∙ inside-range)).1 in
@@ -357,6 +357,9 @@ module _ {b : Book} {tb rows : List ℕ} {d : Draft} (h : Represents b tb rows d
               (rw (rules_are h, length-append d.rules (rule_of d ∷ []))) m)
 
 -- ---- what the functions ask
+
+pub outside_held : {b : Book} {tb rows : List ℕ} → Represented b tb rows → Held tb
+outside_held k = record { rules = k.draft.rules; holds = k.holds.stored.holds }
 
 -- by a command that stands inside a rule
 pub inside_room : {b : Book} {tb rows : List ℕ} {c c₁ : Command} → Represented b tb rows → b.inside ≡ stands_inside c → c ≡ c₁

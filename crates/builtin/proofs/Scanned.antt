@@ -9,6 +9,7 @@ use native.Mathlib.Nat.{zero-add}
 use native.Mathlib.Omega.{arith}
 use lib.ListN.{length, get_or, take, drop, length-append, get_or-append}
 use lib.Seq.{get_or-append_seam}
+use borrow.Author.Count.{below_more}
 use Rattle.automaton.specs.Rule.{Rule, matches}
 use Rattle.automaton.specs.Layers.{blank, rule_at}
 use Rattle.automaton.proofs.Tests.{all_at}
@@ -58,6 +59,19 @@ walked_run {text} {s} {i} {j} w h byte r =
     let l = r.further in
     let q : j ≡ j - i + i = omega arith in
     rw q (run_on (j - i) w h byte (rw q at r))
+
+-- a run of bytes that lead back to it, from none on
+pub stays_none : {s : ℕ} {text : List ℕ} (from : ℕ) → from ≤ length text → Stays s text from from
+stays_none from l = record { further = omega arith; within = l; same = λ k a b. absurd (omega arith) }
+
+pub stays_more : {s from i : ℕ} {text : List ℕ} → Stays s text from i → i < length text → next_state s (get_or text i 0) ≡ s
+    → Stays s text from (i + 1)
+stays_more {s} {from} {i} {text} w l e =
+    record {
+      further = omega (arith, w.further);
+      within = omega arith;
+      same = λ k a b. below_more (λ (m : ℕ). from ≤ m → next_state s (get_or text m 0) ≡ s) i (λ m c d. w.same m d c) (λ d. e) k b a;
+    }
 
 -- the state behind a token and its length; those of none before the first
 abbrev pub state_in : Maybe Match → ℕ

@@ -1,7 +1,7 @@
 -- How many positions and how deep parentheses what was read has, and what it leaves of the text. Assumes nothing.
-use mathlib.Core.Path.{◌≡◌, sym, ap, ◌∙◌}
+use mathlib.Core.Path.{◌≡◌, refl, sym, ap, ◌∙◌}
 use mathlib.Core.Bool.{Bool, true, false}
-use mathlib.Core.List.{List, ◌∷◌, ◌++◌, append_assoc}
+use mathlib.Core.List.{List, [], ◌∷◌, ◌++◌, append_assoc}
 use Prim.Native.Nat.{ℕ, suc, ◌+◌, ◌≤◌, ◌<◌}
 use native.Mathlib.Omega.{arith}
 use lib.Dec.{ltb}
@@ -14,7 +14,7 @@ use Rattle.expression.specs.Spelling.{alone, followed, only, or}
 use Rattle.expression.specs.Reading.{parsed, read_as}
 use Rattle.expression.proofs.Sound.{sound, spells-byte}
 use Rattle.positions.specs.Positions.{size, depth, larger}
-use Rattle.position_reader.specs.Layers.{place_of}
+use Rattle.position_reader.specs.Layers.{place_of, Ready}
 use Rattle.expression_reader.specs.Layers.{Tail}
 
 -- ---- of what is spelled
@@ -96,12 +96,18 @@ tail_more text t front rest h e = tail_split text (take (place_of text t) text +
     (sym (take-append-drop (place_of text t) text) ∙ ap (λ (x : List ℕ). take (place_of text t) text ++ x) (h.same ∙ e)
     ∙ sym (append_assoc (take (place_of text t) text) front rest))
 
+pub tail_next : (text : List ℕ) (b : ℕ) (t : List ℕ) → Tail text (b ∷ t) → Tail text t
+tail_next text b t h = tail_more text (b ∷ t) (b ∷ []) t h refl
+
 module _ (text t : List ℕ) (tail : Tail text t) (level : Level) {e : Expression} {rest : List ℕ} (q : read_as level t ≡ parsed e rest) where
   pub read_tail : Tail text rest
   read_tail = tail_more text t (sound level t q).text rest tail (sound level t q).splits
 
   pub read_place : place_of text t < place_of text rest
   read_place = omega (arith, read_shorter level t q, tail.short)
+
+  pub read_deep : depth e ≤ place_of text rest
+  read_deep = omega (arith, read_depth level t q, tail.short)
 
   pub read_counted : place_of text t + size e ≤ place_of text rest
   read_counted = omega (arith, read_size level t q, tail.short)
@@ -117,3 +123,12 @@ module _ (text : List ℕ) (at : ℕ) (inside : at ≤ length text) (level : Lev
     drop-place =
         let l : place_of text (drop at text) < place_of text rest = read_place text (drop at text) (tail_drop text at) level q in
         (omega (arith, l, place-drop text at inside), omega arith)
+
+    pub drop_deep : depth e ≤ place_of text rest
+    drop_deep = read_deep text (drop at text) (tail_drop text at) level q
+
+    pub drop_ready : {base : ℕ} → Ready text at base → Ready text (place_of text rest) (base + size e)
+    drop_ready h = record {
+      inside = omega arith;
+      counted = omega (arith, read_counted text (drop at text) (tail_drop text at) level q, place-drop text at inside, h.counted);
+    }

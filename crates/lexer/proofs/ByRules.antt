@@ -73,6 +73,9 @@ room_of {tb} {text} {records} {masks} held f = record { held = held; room = λ r
 -- ---- the rest
 
 module _ (rules : List Rule) (text : List ℕ) where
+  pub rest_long : max_text < length text → RestAt text 0 (rest_rules rules text)
+  rest_long l = rw (lt-ltb _ _ l) (record { within = omega arith; tail = refl })
+
   pub rest_cut : {tokens rest : ℕ} → length text ≤ max_text → Cuts rules text tokens rest → RestAt text rest (rest_rules rules text)
   rest_cut l c =
       let e = c.rest_is in

@@ -4,9 +4,11 @@ use mathlib.Core.Bool.{Bool, true, false}
 use mathlib.Core.List.{List, [], ◌∷◌}
 use Prim.Native.Nat.{ℕ, zero, suc, ◌+◌, ◌*◌, ◌^◌, ◌/◌, ◌<◌, ◌≤◌}
 use native.Mathlib.Nat.{pow-succ', two-pow-succ, div-div-eq-div-mul, zero-mod, div-one, zero-div}
+use native.Mathlib.Numerals.{add-one}
 use native.Mathlib.Omega.{arith}
 use lib.Dec.{eqb}
-use lib.ListN.{length, take, drop, drop_of_length-le}
+use lib.ListN.{length, get_or, take, drop, drop_of_length-le}
+use lib.Seq.{drop-cons}
 use borrow.Author.Tests.{eqb-true, eqb-false, ne_eqb}
 use Rattle.automaton.specs.Rule.{Rule, matches, longest}
 use Rattle.automaton.specs.Layers.{rule_at}
@@ -59,6 +61,11 @@ pub mask_below : (n : ℕ) (ms : List ℕ) → mask_of n ms < 2 ^ length ms
 unfolding mask_of
 mask_below n [] = omega arith
 mask_below n (m ∷ ms) = rw two-pow-succ (omega (arith, bit_below (eqb m n), mask_below n ms))
+
+pub mask_next : (n : ℕ) (ms : List ℕ) (k : ℕ) → k < length ms
+    → mask_of n (drop k ms) ≡ bit (eqb (get_or ms k 0) n) + 2 * mask_of n (drop (k + 1) ms)
+unfolding mask_of
+mask_next n ms k l = rw (drop-cons ms k 0 l, add-one)
 
 pub mask_end : (n : ℕ) (ms : List ℕ) (k : ℕ) → length ms ≤ k → mask_of n (drop k ms) ≡ 0
 unfolding mask_of

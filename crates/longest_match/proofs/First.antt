@@ -65,6 +65,15 @@ earliest (r ∷ rs) w tag e = go (matches r w) refl (earliest rs w tag) e
               (m, f.earlier);
         }
 
+first_of : (before behind : List Rule) (r : Rule) (w : List ℕ) → matches r w ≡ true → All (λ (q : Rule). matches q w ≡ false) before
+    → first_match (before ++ r ∷ behind) w ≡ some r.tag
+unfolding first_match
+first_of [] behind r w m h = rw m
+first_of (q ∷ before) behind r w m (e, h) = rw (e, first_of before behind r w m h)
+
+pub earliest_found : (rules : List Rule) (w : List ℕ) (tag : ℕ) → Earliest rules w tag → first_match rules w ≡ some tag
+earliest_found rules w tag f = rw (f.splits, first_of f.before f.behind f.rule w f.matched f.earlier, f.tagged)
+
 -- none is found where no rule matches
 pub unmatched : (rules : List Rule) (w : List ℕ) → first_match rules w ≡ none → All (λ (q : Rule). matches q w ≡ false) rules
 unfolding first_match

@@ -2,10 +2,12 @@
 use mathlib.Core.Path.{◌≡◌, refl, sym, ◌∙◌}
 use mathlib.Core.Bool.{Bool, true, false, cond}
 use mathlib.Core.List.{List, [], ◌∷◌}
-use Prim.Native.Nat.{ℕ, zero, suc, ◌+◌, ◌<◌, ◌≤◌}
+use Prim.Native.Nat.{ℕ, zero, suc, ◌+◌, ◌<◌, ◌≤◌, max}
+use native.Mathlib.Numerals.{add-one}
 use native.Mathlib.Omega.{arith, max_cases}
 use lib.Dec.{eqb}
 use lib.ListN.{length, get_or, drop, drop_of_length-le}
+use lib.Seq.{drop-cons}
 use Rattle.std.specs.List.{position_or_len}
 use Rattle.std.proofs.lemmas.List.Recursion.{is_position_or_len}
 use borrow.Author.Tests.{eqb-true, eqb-false, eq-eqb}
@@ -13,6 +15,11 @@ use Rattle.automaton.specs.Choice.{if}
 use Rattle.longest_match.specs.Steps.{greatest, first_with}
 
 -- ---- the greatest
+
+-- of those from place i on: the one at i, or one behind it
+pub greatest_next : (ns : List ℕ) (i : ℕ) → i < length ns → greatest (drop i ns) ≡ max (get_or ns i 0) (greatest (drop (i + 1) ns))
+unfolding greatest
+greatest_next ns i l = rw (drop-cons ns i 0 l, add-one)
 
 pub greatest-end : (ns : List ℕ) (i : ℕ) → length ns ≤ i → greatest (drop i ns) ≡ 0
 unfolding greatest

@@ -7,8 +7,12 @@ use native.Mathlib.Nat.{mod-lt}
 use native.Mathlib.Omega.{arith}
 use lib.Arith.{bin_ind}
 use lib.Bits.{bit_or, or_step, or_self, or_shr, or_mod}
-use lib.ListN.{get_or}
+use lib.Dec.{eqb}
+use lib.ListN.{length, get_or, set}
+use lib.Seq.{get_or-set_same, get_or-set_other}
+use borrow.Author.Tests.{eqb-true, eq-eqb}
 use Rattle.automaton.specs.Choice.{if}
+use Rattle.automaton.proofs.Tests.{clash}
 use Rattle.position_reader.specs.Steps.{Marked}
 
 -- ---- the same set twice
@@ -32,6 +36,10 @@ or_again =
 
 -- ---- tests
 
+pub or_assoc : (x y z : Bool) → (x || y) || z ≡ x || (y || z)
+or_assoc true y z = refl
+or_assoc false y z = refl
+
 -- two tests that pass together are the same
 pub same_test : (x y : Bool) → (x ≡ true → y ≡ true) → (y ≡ true → x ≡ true) → x ≡ y
 same_test true y f g = sym (f refl)
@@ -39,6 +47,9 @@ same_test false true f g = g refl
 same_test false false f g = refl
 
 -- ---- marks
+
+pub marked_none : {s : ℕ} {t : List ℕ} (f : ℕ → Bool) → ((b : ℕ) → f b ≡ false) → Marked f s t t
+marked_none f h = record { marked = λ b l. rw (h b) }
 
 pub marked_same : {f g : ℕ → Bool} {s : ℕ} {t t' : List ℕ} → Marked f s t t' → ((b : ℕ) → b < 256 → f b ≡ g b) → Marked g s t t'
 marked_same m h = record { marked = λ b l. rw (← h b l) (m.marked b l) }
@@ -53,3 +64,12 @@ marked_or {f} {g} {s} {t} m k =
     go true false a = refl
     go false true a = refl
     go false false a = refl
+
+-- one byte
+pub marked_one : {s b : ℕ} (t t' : List ℕ) → length t ≡ 256 → b < 256 → t' ≡ set t b (bit_or (get_or t b 0) s) → Marked (eqb b) s t t'
+marked_one {s} {b} t t' full l e =
+    record { marked = λ x h. ap (λ (u : List ℕ). get_or u x 0) e ∙ go x (eqb b x) refl }
+  where
+    go : (x : ℕ) (c : Bool) → eqb b x ≡ c → get_or (set t b (bit_or (get_or t b 0) s)) x 0 ≡ if c (bit_or (get_or t x 0) s) (get_or t x 0)
+    go x true q = rw (sym (eqb-true b x q)) (get_or-set_same t b (bit_or (get_or t b 0) s) 0 (omega arith))
+    go x false q = get_or-set_other t b x _ 0 (λ z. clash (eq-eqb b x (sym z)) q)

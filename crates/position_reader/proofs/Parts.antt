@@ -50,7 +50,7 @@ followed_one base c f f' h =
           ∙ rw (within-one base p, set_none 64 (from base (follows (position c) (p - base))) (λ q k. and_false_right (leb base q)));
     }
 
-positioned : (at base : ℕ) (f f' : List ℕ) (s : ℕ) → s ≡ only base
+pub positioned : (at base : ℕ) (f f' : List ℕ) (s : ℕ) → s ≡ only base
     → ((p : ℕ) → p < 64 → get_or f' p 0 ≡ if (eqb p base) 0 (get_or f p 0))
     → Positioned at base (record { at = at; end = base + 1; depth = 0; empty = false; first = s; last = s }) f f'
 positioned at base f f' s e h =
@@ -59,7 +59,7 @@ positioned at base f f' s e h =
       followed = λ c. followed_one base c f f' h;
     }
 
-stored : (base : ℕ) (f : List ℕ) → length f ≡ 64 → base < 64 → (p : ℕ) → p < 64
+pub stored : (base : ℕ) (f : List ℕ) → length f ≡ 64 → base < 64 → (p : ℕ) → p < 64
     → get_or (set f base 0) p 0 ≡ if (eqb p base) 0 (get_or f p 0)
 stored base f full l p h = go (eqb p base) refl
   where
@@ -67,7 +67,7 @@ stored base f full l p h = go (eqb p base) refl
     go true e = rw (eqb-true p base e) (get_or-set_same f base 0 0 (omega arith))
     go false e = get_or-set_other f base p 0 0 (eqb-false p base e)
 
-not_stored : (base : ℕ) (f : List ℕ) → 64 ≤ base → (p : ℕ) → p < 64 → get_or f p 0 ≡ if (eqb p base) 0 (get_or f p 0)
+pub not_stored : (base : ℕ) (f : List ℕ) → 64 ≤ base → (p : ℕ) → p < 64 → get_or f p 0 ≡ if (eqb p base) 0 (get_or f p 0)
 not_stored base f l p h = rw (ne_eqb p base (omega arith))
 
 pub positioned_below : (at base : ℕ) (f f' : List ℕ) (s : ℕ) → s ≡ only base → base < 64 → length f ≡ 64 → f' ≡ set f base 0

@@ -22,7 +22,7 @@ pub at_byte : (text : List ℕ) (at : ℕ) → at < length text → drop at text
 at_byte text at l = rw add-one (drop-cons text at 0 l)
 
 -- what is read behind a place is read from there
-item_later : (out out' : Item) (text : List ℕ) (from from' : ℕ) (r : Result ReadItem ℕ) → out ≡ out' → from ≤ from'
+pub item_later : (out out' : Item) (text : List ℕ) (from from' : ℕ) (r : Result ReadItem ℕ) → out ≡ out' → from ≤ from'
     → ItemReads out' text from' r → ItemReads out text from r
 item_later out out' text from from' (Ok i) e l h = record { found = e ∙ h.found; behind = omega (arith, h.behind); inside = h.inside }
 item_later out out' text from from' (Err place) e l h = record { fault = e ∙ h.fault; inside = h.inside }

@@ -1,19 +1,21 @@
 -- What the loops and stores of rewriting leave. Assumes nothing.
-use mathlib.Core.Path.{◌≡◌, ap, ◌∙◌}
+use mathlib.Core.Path.{◌≡◌, ap, sym, ◌∙◌}
 use mathlib.Core.List.{List, [], ◌∷◌, ◌++◌, append-nil, append_assoc, map, flatten}
 use Prim.Native.Nat.{ℕ, zero, suc, ◌+◌, ◌-◌, ◌≤◌, ◌<◌}
 use native.Mathlib.Nat.{zero-add}
+use native.Mathlib.Numerals.{add-one, add-two, add-three, add-four}
 use native.Mathlib.Omega.{arith}
 use lib.Dec.{eqb}
-use lib.ListN.{length, take, drop, length-take, length-drop, length-append, drop_of_length-le}
-use lib.Seq.{paste, take-length, take_all, drop-drop}
+use lib.ListN.{length, get_or, take, drop, set, length-take, length-drop, length-append, drop_of_length-le}
+use lib.Seq.{paste, sets-eq, get_or-drop, get_or-take, take-take, take-length, take_all, drop-drop}
+use borrow.Author.Tests.{ne_eqb}
 use Rattle.command.specs.Commands.{byte_at, operands_of}
 use Rattle.command.proofs.Commands.{if-le}
 use Rattle.automaton.specs.Choice.{if, All}
 use Rattle.output.proofs.Filling.{Filling, filling_start, filling_room, filling_next, filling_end}
-use Rattle.rewriting.specs.Rewritten.{commands_in, modern, rewritten}
+use Rattle.rewriting.specs.Rewritten.{commands_in, span_of, modern, rewritten}
 use Rattle.rewriting.specs.Layers.{Whole, Readable, Fitting}
-use Rattle.rewriting.proofs.Pieces.{commands_none, width, commands_next, piece_first, piece_code, modern-length}
+use Rattle.rewriting.proofs.Pieces.{commands_none, width, commands_next, piece_first, piece_code, step-length, modern-length}
 
 -- ---- a command
 
@@ -25,6 +27,14 @@ paste_part out to bytes n l =
     let b : drop (length out - to) (drop to out) ≡ [] = drop_of_length-le (drop to out) (simp length-drop (omega arith)) in
     rw (a, b) (simp (append-nil, append_assoc, drop-drop, zero-add))
 
+pub span-stored : (book : List ℕ) (at : ℕ) (out : List ℕ) (to : ℕ) → to + 5 ≤ length out
+    → set (set (set (set (set out to 6) (to + 1) (get_or book (at + 1) 0)) (to + 2) (get_or book (at + 2) 0)) (to + 3) (get_or book (at + 2) 0))
+    (to + 4) (get_or book (at + 3) 0)
+    ≡ paste out to (span_of (drop at book)) 5
+span-stored book at out to l =
+    rw (← (get_or-drop at book 1 0), ← (get_or-drop at book 2 0), ← (get_or-drop at book 3 0), add-one, add-two, add-three, add-four)
+    (sets-eq (span_of (drop at book)) out to l)
+
 -- a whole command of `width` bytes stands at `at`
 pub record Standing (book : List ℕ) (at width : ℕ) : Type 0 where
   pub within : at + width ≤ length book
@@ -34,11 +44,37 @@ module _ {book : List ℕ} {at width : ℕ} (s : Standing book at width) where
   abbrev piece : List ℕ
   piece = take width (drop at book)
 
-  standing_length : length piece ≡ width
+  pub standing_length : length piece ≡ width
   standing_length = omega (arith, length-take width (drop at book), length-drop at book, s.within)
 
+  pub standing_some : 0 < width
+  standing_some = omega (arith, standing_length, s.whole.operands)
+
   standing_code : byte_at piece 0 ≡ byte_at book at
-  standing_code = piece_first book at width (omega (arith, standing_length, s.whole.operands))
+  standing_code = piece_first book at width standing_some
+
+  -- a STEP
+  module _ (e : byte_at book at ≡ 5) where
+    pub step-width : width ≡ 4
+    step-width = sym standing_length ∙ step-length piece s.whole (standing_code ∙ e)
+
+    pub step-modern : modern piece ≡ span_of (drop at book)
+    step-modern =
+        let w = step-width in
+        rw (
+          standing_code,
+          e,
+          get_or-take width (drop at book) 1 0 (omega arith),
+          get_or-take width (drop at book) 2 0 (omega arith),
+          get_or-take width (drop at book) 3 0 (omega arith),
+        )
+
+  -- another command
+  pub other_modern : (byte_at book at ≡ 5 → ⊥) → modern piece ≡ piece
+  other_modern n = rw (standing_code, ne_eqb (byte_at book at) 5 n)
+
+  pub other_copied : (out : List ℕ) (to : ℕ) → paste out to (drop at book) width ≡ paste out to piece width
+  other_copied out to = rw (take-take width width (drop at book) (omega arith))
 
 -- ---- from command to command
 

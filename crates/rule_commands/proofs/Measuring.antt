@@ -1,13 +1,14 @@
 -- A table's rows, where the SPANs of a row end, and the loops that count them. Assumes nothing.
 use mathlib.Core.Path.{◌≡◌, refl, sym, ap, ◌∙◌}
-use mathlib.Core.Bool.{Bool, true, false, not, ◌&&◌}
+use mathlib.Core.Bool.{Bool, true, false, not, ◌&&◌, and-false}
 use mathlib.Core.List.{List, [], ◌∷◌, ◌++◌, append-nil}
 use Prim.Native.Nat.{ℕ, suc, ◌+◌, ◌*◌, ◌-◌, ◌<◌, ◌≤◌}
 use native.Mathlib.Numerals.{add-one}
 use native.Mathlib.Omega.{arith}
 use lib.Dec.{eqb}
-use lib.ListN.{length, get_or, take, drop, length-append, drop_of_length-le}
-use lib.Seq.{drop-cons}
+use lib.ListN.{length, get_or, take, drop, length-append, length-drop, drop_of_length-le}
+use lib.Seq.{drop-cons, get_or-take, get_or-drop, length-take-le}
+use borrow.Author.Tests.{eq-eqb, ne_eqb}
 use Rattle.automaton.specs.Choice.{if}
 use Rattle.automaton.specs.Rule.{Transition}
 use Rattle.rule_commands.specs.Spans.{span, spans_from, row_spans, spans_of}
@@ -19,6 +20,15 @@ use Rattle.rule_commands.specs.Layers.{row_at, rows_from, rows_of, apart, apart_
 pub row_lent : (targets : List ℕ) (k : ℕ) → take (256 * k + 256 - 256 * k) (drop (256 * k) targets) ≡ row_at targets k
 unfolding row_at
 row_lent targets k = let e : 256 * k + 256 - 256 * k ≡ 256 = omega arith in ap (λ (n : ℕ). take n (drop (256 * k) targets)) e
+
+module _ (targets : List ℕ) (from : ℕ) where
+  pub row-length : 256 * from + 256 ≤ length targets → length (row_at targets from) ≡ 256
+  unfolding row_at
+  row-length l = length-take-le 256 (drop (256 * from) targets) (simp length-drop (omega arith))
+
+  pub row_at_lem : (b : ℕ) → b < 256 → get_or (row_at targets from) b 0 ≡ get_or targets (256 * from + b) 0
+  unfolding row_at
+  row_at_lem b l = rw (get_or-take 256 (drop (256 * from) targets) b 0 l, get_or-drop)
 
 module _ (row : List ℕ) (b : ℕ) where
   -- behind the last byte a run ends
@@ -98,6 +108,20 @@ ended_length from low b row = go (closes_at row b)
     go : (z : Bool) → length (if z (here from low b (get_or row b 0)) []) ≡ if z 1 0
     go true = refl
     go false = refl
+
+-- whether one ends
+module _ (row : List ℕ) (b : ℕ) where
+  pub closes_run : apart_at row b ≡ false → closes_at row b ≡ false
+  unfolding closes_at
+  closes_run e = rw e
+
+  pub closes_error : get_or row b 0 ≡ 0 → closes_at row b ≡ false
+  unfolding closes_at
+  closes_error e = rw (eq-eqb (get_or row b 0) 0 e) (and-false (apart_at row b))
+
+  pub closes_span : apart_at row b ≡ true → (get_or row b 0 ≡ 0 → ⊥) → closes_at row b ≡ true
+  unfolding closes_at
+  closes_span e n = rw (e, ne_eqb (get_or row b 0) 0 n)
 
 -- ---- the loop over a row
 

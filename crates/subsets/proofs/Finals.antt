@@ -8,11 +8,20 @@ use native.Mathlib.Numerals.{add-one}
 use native.Mathlib.Omega.{arith}
 use lib.Bits.{bit_and}
 use lib.Dec.{eqb}
-use lib.ListN.{length, get_or, take}
+use lib.ListN.{length, get_or, take, set, length-set}
+use lib.Seq.{take-suc-set}
 use Rattle.automaton.specs.Choice.{if, All}
 use Rattle.automaton.proofs.Tests.{all_append}
 use Rattle.subsets.specs.Layers.{Puts}
 use Rattle.subsets.specs.States.{finals_below, finals_of}
+
+pub puts_one : (test : Bool) (number n : ℕ) (entry : List ℕ) → n < length entry → test ≡ true
+    → Puts test number n entry (n + 1) (set entry n number)
+puts_one test number n entry l e =
+    record { same = length-set entry n number; few = omega arith; front = rw (e, add-one) (take-suc-set entry n number l) }
+
+pub puts_none : (test : Bool) (number n : ℕ) (entry : List ℕ) → test ≡ false → Puts test number n entry n entry
+puts_none test number n entry e = record { same = refl; few = omega arith; front = rw (e, append-nil (take n entry)) }
 
 -- the first k sets are gone through, and the finals of them stand at the front
 pub record Listing (last : ℕ) (empty : Bool) (sets finals : List ℕ) (n k : ℕ) : Type 0 where

@@ -46,7 +46,7 @@ found set known = rw (place_is set known) (go (ltb (place set known) (length kno
     go false e = omega (arith, place-within set known, ltb-false (place set known) (length known) e)
 
 module _ (set : ℕ) (known : List ℕ) (some : set ≡ 0 → ⊥) where
-  number_next : number_of known set ≡ place set known + 1
+  pub number_next : number_of known set ≡ place set known + 1
   number_next = number_some known set (ne_eqb set 0 some) ∙ sym (add-one (place set known))
 
   pub number_at : (k : ℕ) → position (λ x. eqb x set) known ≡ Some k → (k + 1 ≡ number_of known set) × (k + 1 ≤ length known)

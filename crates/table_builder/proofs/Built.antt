@@ -6,7 +6,7 @@ use mathlib.Core.Logic.{◌⊎◌, inl, inr}
 use mathlib.Core.List.{List, [], ◌∷◌}
 use Prim.Native.Nat.{ℕ, ◌+◌, ◌-◌, ◌*◌, ◌/◌, ◌%◌, ◌<◌, ◌≤◌}
 use native.Mathlib.Omega.{arith}
-use lib.ListN.{length, get_or, set, length-set}
+use lib.ListN.{length, get_or, set, length-set, get_or-eq_default}
 use lib.Seq.{get_or-set_same, get_or-set_other}
 use lib.Dec.{eqb, leb}
 use borrow.Author.Tests.{eq-eqb, ne_eqb, eqb-true, eqb-false}
@@ -33,6 +33,21 @@ spot_state : (h s m : ℕ) → s < 32768 → m < 2 → state_of (h * 65536 + s *
 spot_state h s m l b =
     let q : (h * 65536 + s * 2 + m) / 2 ≡ h * 32768 + s = omega arith in
     rw q (omega arith)
+
+pub cell_small : (rows : List ℕ) (stamp s : ℕ) → cell_at rows stamp s < 131072
+cell_small rows stamp s = go (eqb (stamp_at rows s) stamp)
+  where
+    go : (c : Bool) → if c (get_or rows s 0 % 131072) 0 < 131072
+    go true = omega arith
+    go false = omega arith
+
+-- a cell that is not there is empty
+pub cell_none : (rows : List ℕ) (stamp s : ℕ) → length rows ≤ s → cell_at rows stamp s ≡ 0
+cell_none rows stamp s l = rw (get_or-eq_default rows 0 l) (go (eqb (0 / 131072) stamp))
+  where
+    go : (c : Bool) → if c (0 % 131072) 0 ≡ 0
+    go true = refl
+    go false = refl
 
 -- one cell stored: the bound of the stamps
 pub stamp_set : (rows : List ℕ) (stamp j head mark : ℕ) → j < length rows → head * 2 + mark < 131072

@@ -63,6 +63,12 @@ pub room_for : (rules : List Rule) (text : List ℕ) (place budget : ℕ) (recor
     → Enough rules text place budget (room_in records masks) → Room rules text place budget records masks
 room_for rules text place budget records masks l = record { in_records = omega arith; in_masks = omega arith }
 
+-- ---- where nothing is written, what is lent stands as it did
+
+pub stores_nothing : {rules : List Rule} {text : List ℕ} {place budget : ℕ} {entry exit masks-entry masks-exit : List ℕ}
+    → Stores false rules text place budget entry exit masks-entry masks-exit → (exit ≡ entry) × (masks-exit ≡ masks-entry)
+stores_nothing s = (s.left refl, s.masks_left refl)
+
 -- ---- by the bytes of a book
 
 module _ {bytes tb : List ℕ} {b : Result ℕ Refusal} {n : ℕ} (l : Loaded bytes b tb) (a : b ≡ Ok n) where

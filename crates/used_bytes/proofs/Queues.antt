@@ -137,6 +137,17 @@ module _ {bound : ℕ} {marks : List ℕ} {stamp : ℕ} {queue : List ℕ} {n : 
   abbrev fs : List ℕ
   fs = queued queue n base
 
+  pub notes_old : get_or marks s 0 ≡ stamp → Notes bound stamp base spot marks queue n marks queue n
+  notes_old q =
+      let e : among s fs ≡ true = sym (w.same s) ∙ eq-eqb _ _ q in
+      record {
+        worklist = w;
+        states = rw (← state, e);
+        more = omega arith;
+        kept = λ k l. refl;
+        new = λ k l m. absurd (omega arith);
+      }
+
   module _ (below : state_of spot < bound) (ne : get_or marks s 0 ≡ stamp → ⊥) where
     inside : s < bound
     inside = omega arith

@@ -10,7 +10,7 @@ use lib.ListN.{length, get_or, set, length-set}
 use lib.Seq.{get_or-set_same, get_or-set_other}
 use borrow.Author.Tests.{eqb-true, eqb-false, eq-eqb, ne_eqb}
 use Rattle.automaton.specs.Choice.{if, All, any, among}
-use Rattle.automaton.specs.Rule.{Transition, covers}
+use Rattle.automaton.specs.Rule.{Transition, state_count, covers}
 use Rattle.automaton.specs.Layers.{edge_start, low_of, high_of, next_of, to_of, edge_at, edge_word, bare_spot}
 use Rattle.automaton.specs.Layers.{leaving, Edge, Chain}
 use Rattle.automaton.proofs.Tests.{or_true, or_none, all_map, all_among}
@@ -51,6 +51,10 @@ pub waiting_put : {bound : ℕ} {tb rows tb₁ rows₁ : List ℕ} {stamp end : 
 waiting_put w room short e x low high head from f g p q r s t u =
     rw (t, u, s, p, q, r) (waiting_more w (record { from = to_of e; low = low_of e; high = high_of e; to = from }) room short f (omega arith)
     (omega arith) g)
+
+pub waits_short : {bound : ℕ} {tb rows : List ℕ} {stamp : ℕ} → Waits bound tb rows stamp → (e x : ℕ) → to_of e < bound → x ≡ to_of e
+    → {head : ℕ} → head ≡ cell_at rows stamp x / 2 → head < 65536
+waits_short w e x l p q = let s : x < state_count = omega (arith, w.within) in omega (arith, w.built.tops x s, w.built.short)
 
 -- ---- a chain that is gone through
 

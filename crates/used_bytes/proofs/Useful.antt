@@ -289,6 +289,9 @@ module _ {r : Rule} {gs : List ℕ} {us : List Transition} {set : List Bool} (w 
 
 module _ {bound : ℕ} {r : Rule} {stamp : ℕ} {good queue words rows : List ℕ} {end : ℕ} {set : List Bool} {gs : List ℕ}
     {us : List Transition} (w : Sweeping bound r stamp good queue words rows end set gs us) (s : ℕ) where
+  pub gains_not : {said : Bool} → said ≡ false → Gains bound r s said stamp words rows end gs us set good queue set
+  gains_not q = record { states = gs; sweeping = w; later = later_none gs us set; here = λ z. clash z q }
+
   pub gains_said : {said : Bool} {good₁ queue₁ : List ℕ} {set₁ : List Bool} → ends r s ≡ true
       → Releases bound us s stamp (noted gs s) set good₁ queue₁ set₁ → Gains bound r s said stamp words rows end gs us set good₁ queue₁ set₁
   gains_said e k =

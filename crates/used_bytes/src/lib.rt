@@ -47,7 +47,7 @@ impl<const STATES: usize, const WORDS: usize> Workspace<STATES, WORDS> {
     }
 }
 
-// The used bytes of rule number `rule`. The working storage may hold what earlier rules have left there.
+// The used bytes of rule number `rule`, by working storage of any size that suffices. It may hold what earlier rules have left there.
 pub fn used_by(
     table: &[u64],
     rule: usize,
