@@ -45,6 +45,6 @@ returns c = λ rs h.
         tag = ap (λ (x : ℕ). x % 65536) (c.tag_of-tag.ensures _ (h.each _ (chooses.known some)));
         place = refl;
         agrees = c.in-Some.ensures.agrees rs _ h (part_end _ _);
-        next = refl;
+        next = omega arith;
       };
     }
