@@ -72,7 +72,7 @@ pub fn sweep_chain(
     Swept { leads, end: at }
 }
 
-// It becomes a part of its callers, and so does `sweep`: as calls they cost a sixth more.
+// It becomes a part of its callers, and so does `sweep`: there are several for each size of workspace, and as calls they cost a sixth more.
 // Where it is `said` that state `s` leads to a final state: marks it and lets go what waits at it.
 #[inline(always)]
 fn gain(
