@@ -8,9 +8,7 @@ use native.Mathlib.Omega.{arith}
 use lib.Dec.{eqb, ltb}
 use lib.ListN.{length, get_or}
 use borrow.Author.Tests.{eqb-true, eqb-false, eq-eqb, ne_eqb, ltb-true, ltb-false}
-use Rattle.std.proofs.lemmas.Bool.{lt-ltb}
-use Rattle.std.specs.Prelude.{Option, Some, None, MatchOption, position}
-use Rattle.std.proofs.lemmas.List.Quantifiers.{position-Some}
+use Rattle.std.specs.Prelude.{Some, None, MatchOption, position}
 use Rattle.std.specs.List.{position_or_len}
 use Rattle.automaton.specs.Choice.{if}
 use Rattle.subsets.specs.States.{place, number_of}
@@ -46,20 +44,6 @@ found set known = rw (place_is set known) (go (ltb (place set known) (length kno
         (λ i. (place set known ≡ i) × (i < length known))
     go true e = (refl, ltb-true (place set known) (length known) e)
     go false e = omega (arith, place-within set known, ltb-false (place set known) (length known) e)
-
--- the loop of `find`
-pub position_at : (set : ℕ) (known : List ℕ) (i : ℕ) → i < length known → get_or known i 0 ≡ set
-    → ((k : ℕ) → k < i → get_or known k 0 ≡ set → ⊥) → position (λ x. eqb x set) known ≡ Some i
-position_at set known i l here before =
-    rw (place_is set known, place_at set known i l here before, lt-ltb i (length known) l)
-
-pub position_none : (set : ℕ) (known : List ℕ) → ((k : ℕ) → k < length known → get_or known k 0 ≡ set → ⊥)
-    → position (λ x. eqb x set) known ≡ None
-position_none set known before = go (position (λ x. eqb x set) known) refl
-  where
-    go : (r : Option ℕ) → position (λ x. eqb x set) known ≡ r → position (λ x. eqb x set) known ≡ None
-    go None e = e
-    go (Some i) e = let h = position-Some (λ x. eqb x set) known i 0 e in absurd (before i h.0 (eqb-true _ _ h.1))
 
 module _ (set : ℕ) (known : List ℕ) (some : set ≡ 0 → ⊥) where
   pub number_next : number_of known set ≡ place set known + 1
