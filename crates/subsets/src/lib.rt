@@ -15,9 +15,8 @@ fn after(follow: &[u64; 64], set: u64) -> u64
 {
     let mut all = 0;
     for p in 0..64 {
-        if (set >> p) % 2 == 1 {
-            all |= follow[p];
-        }
+        // A value, not a branch: which positions a set has is not foretold.
+        all |= if (set >> p) % 2 == 1 { follow[p] } else { 0 };
     }
     all
 }
