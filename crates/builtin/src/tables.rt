@@ -127,7 +127,12 @@ pub struct Tables {
 }
 
 impl Tables {
-    pub fn new() -> Self {
+    pub fn new() -> Self
+        ensures classes { result.classes ≡ class_table }
+        ensures next { result.next ≡ next_table }
+        ensures tags { result.tags ≡ tag_table }
+        ensures masks { result.masks ≡ mask_table }
+    {
         Tables {
             classes: classes(),
             next: next_states(),

@@ -10,7 +10,7 @@ use lib.ListN.{length, get_or, drop, drop_of_length-le}
 use lib.Seq.{drop-cons}
 use Rattle.std.specs.List.{position_or_len}
 use Rattle.std.proofs.lemmas.List.Recursion.{is_position_or_len}
-use borrow.Author.Tests.{eqb-true, eqb-false, eq-eqb}
+use borrow.Author.Tests.{eqb-true, eqb-false, eq-eqb, ne_eqb}
 use Rattle.automaton.specs.Choice.{if}
 use Rattle.longest_match.specs.Steps.{greatest, first_with}
 
@@ -45,6 +45,20 @@ greatest_stands (n ∷ ns) p = max_cases n (greatest ns) _
     (λ l e. (0, omega arith, sym e))
 
 -- ---- the first place
+
+-- of those from place k on
+module _ (n : ℕ) (ns : List ℕ) (k : ℕ) where
+  pub first_here : k < length ns → get_or ns k 0 ≡ n → first_with n (drop k ns) ≡ 0
+  unfolding first_with
+  first_here l e = rw (drop-cons ns k 0 l, eq-eqb _ _ e)
+
+  pub first_next : k < length ns → (get_or ns k 0 ≡ n → ⊥) → first_with n (drop k ns) ≡ first_with n (drop (k + 1) ns) + 1
+  unfolding first_with
+  first_next l e = rw (drop-cons ns k 0 l, ne_eqb _ _ e, add-one k) (sym (add-one _))
+
+  pub first_end : length ns ≤ k → first_with n (drop k ns) ≡ 0
+  unfolding first_with
+  first_end l = rw (drop_of_length-le ns l)
 
 -- n stands at k, and nowhere before
 pub record First (n : ℕ) (ns : List ℕ) (k : ℕ) : Type 0 where

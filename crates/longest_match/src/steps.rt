@@ -106,5 +106,10 @@ fn longest_of(lengths: &[usize]) -> Option<Longest>
 fn earliest_with(lengths: &[usize], len: usize) -> Option<usize>
     ensures { MatchOption result (first_with len lengths.now ≡ length lengths.now) (λ k. k ≡ first_with len lengths.now) }
 {
-    lengths.iter().position(|n| *n == len)
+    for k in 0..lengths.len() {
+        if lengths[k] == len {
+            return Some(k);
+        }
+    }
+    None
 }

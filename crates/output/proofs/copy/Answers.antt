@@ -1,4 +1,3 @@
-use Rattle.std.proofs.Common.{arith}
 use Rattle.output.proofs.Copying.{copying_next}
 use Rattle.output.proofs.copy.Goals as goal
 

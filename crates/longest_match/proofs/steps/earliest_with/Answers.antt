@@ -1,23 +1,16 @@
-use Rattle.std.proofs.Common.{◌≡◌, ℕ, Bool, true, false, cond, Option, Some, None, List, MatchOption, arith, rules, refl, length, eqb, ltb}
-use borrow.Author.Tests.{ltb-false}
-use Rattle.std.proofs.lemmas.Iterator.{YieldsList-from_slice}
-use Rattle.std.proofs.lemmas.Iterator.Search.{position_from_yields_List}
-use Rattle.longest_match.specs.Steps.{first_with}
-use Rattle.longest_match.proofs.Lengths.{first_searched, first_within}
+use Rattle.std.proofs.Common.{arith}
+use Rattle.longest_match.proofs.Lengths.{first_here, first_next, first_end}
 use Rattle.longest_match.proofs.steps.earliest_with.Goals as goal
 
-settled : (n : ℕ) (ns : List ℕ) (r : Option ℕ) → r ≡ cond (ltb (first_with n ns) (length ns)) (Some (first_with n ns)) None
-    → MatchOption r (first_with n ns ≡ length ns) (λ k. k ≡ first_with n ns)
-settled n ns r e = go (ltb (first_with n ns) (length ns)) refl r e
-  where
-    go : (b : Bool) → ltb (first_with n ns) (length ns) ≡ b → (r : Option ℕ) → r ≡ cond b (Some (first_with n ns)) None
-        → MatchOption r (first_with n ns ≡ length ns) (λ k. k ≡ first_with n ns)
-    go true t r e = rw e refl
-    go false t r e = rw e (omega (arith, ltb-false, t, first_within n ns))
+pub returns-then-lengths-k : goal.returns-then-lengths-k
+returns-then-lengths-k c =
+    let k = c.loop-k.k in
+    omega (arith, c.loop-k.invariant, first_here c.args.len c.args.lengths.now k (omega arith) (grind (arith, c.if-lengths-k.true)))
+
+pub loop-k-preserved : goal.loop-k-preserved
+loop-k-preserved c =
+    let k = c.loop-k.k in
+    omega (arith, c.loop-k.invariant, first_next c.args.len c.args.lengths.now k (omega arith) (λ e. grind (arith, c.if-lengths-k.false)))
 
 pub returns : goal.returns
-returns c =
-    settled c.args.len c.args.lengths.now c.position.result
-    (rw (first_searched c.args.len c.args.lengths.now)
-    (position_from_yields_List (λ m. eqb m c.args.len) _ _ _ c.position.ensures.ran (YieldsList-from_slice c.args.lengths.now cc)
-    (λ x b q k. search rules)))
+returns c = omega (arith, c.loop-k.invariant, first_end c.args.len c.args.lengths.now c.loop-k.k (omega arith))

@@ -11,7 +11,7 @@ longest_prefix-requires c =
 pub loop-rule-preserved : goal.loop-rule-preserved
 loop-rule-preserved c = λ rs h.
     prefixed_next (c.loop-rule.invariant rs h) (omega arith)
-    (c.longest_prefix.ensures _ (h.each c.loop-rule.rule (omega (arith, h.count))))
+    (grind (arith, c.longest_prefix.ensures _ (h.each c.loop-rule.rule (omega (arith, h.count)))))
 
 pub returns : goal.returns
 returns c = λ rs h. prefixed_all (c.loop-rule.invariant rs h) (omega (arith, h.count)) (omega arith)
